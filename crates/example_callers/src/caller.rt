@@ -3,7 +3,8 @@ ghost use Rattle.std.specs.Prelude.{IfOk, chars};
 ghost use Rattle.regress_front.specs.SmallTable.{small_table};
 ghost use Rattle.regress_front.specs.Fault.{RejectedOnlyIf};
 ghost use Rattle.regress_front.specs.Syntax.{Pattern};
-ghost use Rattle.regress_front.specs.Accepted.{IsAccepted, NoneIsAccepted};
+ghost use Rattle.regress_front.specs.Accepted.{IsAccepted};
+ghost use Rattle.regress_front.specs.Rejected.{NoneIsAccepted};
 ghost use Rattle.regress_front.specs.Meaning.{setting_of};
 
 use regress_front::codepointset::{CodePointSet, Interval};

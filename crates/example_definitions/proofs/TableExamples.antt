@@ -1,7 +1,8 @@
 -- Examples: tables, and the case mappings and sets of the small table.
 use Rattle.std.proofs.Common.{◌≡◌, ℕ, true, false, List, [], ◌∷◌, Some, None, pos, negsuc, refl, codes}
 use Rattle.regress_base.specs.Intervals.{Bounds}
-use Rattle.regress_unicode.specs.FoldEntries.{FoldEntry, mapped, is_in_order, are_targets_in_range, stays_in_range}
+use Rattle.regress_unicode.specs.FoldEntries.{FoldEntry, mapped}
+use Rattle.regress_unicode.specs.ValidEntries.{is_in_order, are_targets_in_range, stays_in_range}
 use Rattle.regress_base.specs.Listing.{lists, is_ascending}
 use Rattle.regress_base.specs.Table.{named, canonicalize, denotes, is_in_closure, is_string}
 use Rattle.regress_unicode.specs.SmallTable.{small_table}

@@ -11,7 +11,8 @@ use Rattle.regress_base.specs.declared.types.Flags.{Flags}
 use Rattle.regress_base.specs.Table.{Table}
 use Rattle.regress_differences.specs.CaseMode.{widest_flags}
 use Rattle.regress_differences.specs.Kinds as differences
-use Rattle.regress_parse.specs.Accepted.{IsAccepted, NoneIsAccepted}
+use Rattle.regress_parse.specs.Accepted.{IsAccepted}
+use Rattle.regress_parse.specs.Rejected.{NoneIsAccepted}
 use Rattle.regress_parse.specs.declared.span.Span.{Span}
 use Rattle.regress_ucd.specs.UnicodeTable.{unicode_table}
 use Rattle.regress_parse.specs.declared.fault.PlacedFault.{PlacedFault}

@@ -3,7 +3,7 @@ use Rattle.std.proofs.Common.{◌≡◌, ℕ, List, subst}
 use Rattle.std.specs.Prelude.{⊤}
 use Rattle.regress_base.specs.declared.types.Flags.{Flags}
 use Rattle.regress_base.specs.Table.{Table}
-use Rattle.regress_parse.specs.Accepted.{NoneIsAccepted}
+use Rattle.regress_parse.specs.Rejected.{NoneIsAccepted}
 use Rattle.regress_parse.specs.Settled.{IsFaultOf}
 use Rattle.regress_parse.specs.declared.fault.PlacedFault.{PlacedFault}
 use Rattle.regress_parse.specs.declared.fault.PlacedFault.TheVariants as placed

@@ -20,7 +20,8 @@ use Rattle.regress_explain.specs.Page.{IsPageOf}
 use Rattle.regress_found.specs.Found.{start_of, state_of}
 use Rattle.regress_found.specs.Repeated.{AreAllMatches}
 use Rattle.regress_found.specs.declared.found.Match.{Match}
-use Rattle.regress_parse.specs.Accepted.{IsAccepted, NoneIsAccepted}
+use Rattle.regress_parse.specs.Accepted.{IsAccepted}
+use Rattle.regress_parse.specs.Rejected.{NoneIsAccepted}
 use Rattle.regress_parse.specs.declared.span.Span.{Span}
 use Rattle.regress_spans.specs.Paired.{spanned_of}
 use Rattle.regress_spans.specs.Remarks.{Said}

@@ -15,7 +15,7 @@ use Rattle.regress_display.specs.Request as trees
 use Rattle.regress_display.specs.Request.{table_asked}
 use Rattle.regress_display.specs.Shown.{IsFirstOutput}
 use Rattle.regress_escape.specs.Escape.{escaped}
-use Rattle.regress_front.specs.Accepted.{NoneIsAccepted}
+use Rattle.regress_front.specs.Rejected.{NoneIsAccepted}
 use Rattle.regress_tree.specs.Steps.{Setting}
 use Rattle.regex_command.specs.Ending.{IsCostlyPattern, IsLate, IsSearchFailure}
 use Rattle.regex_command.specs.Patterns.{IsExplanationIn, MayFailToExplain, IsReport, IsTreeOutput, IsQuietFor, IsShowFailure}

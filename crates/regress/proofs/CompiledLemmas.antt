@@ -17,7 +17,7 @@ use Rattle.regress_front.specs.declared.parse.PlacedFault.{PlacedFault}
 use Rattle.regress_front.specs.declared.parse.PlacedFault.TheVariants as fault
 use Rattle.regress_front.specs.declared.unicode.Tables.{Tables}
 use Rattle.regress_front.specs.Settled.{IsFaultOf}
-use Rattle.regress_match.specs.Names.{capture_of}
+use Rattle.regress_match.specs.Pattern.{capture_of}
 use Rattle.regress_match.specs.declared.names.Group.{Group}
 use Rattle.regress.specs.Compiled.{IsCompiled, IsCompiledFrom, IsTreeOf, groups_of, source_of, tree_of}
 use Rattle.regress.specs.Unicode.{unicode_setting}

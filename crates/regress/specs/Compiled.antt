@@ -10,8 +10,7 @@ use Rattle.regress_front.specs.Tree.{Tree}
 use Rattle.regress_front.specs.WellFormed.{Capture, IsWellFormed, captures}
 use Rattle.regress_found.specs.Found.{outcomes_at}
 use Rattle.regress_found.specs.declared.found.Match as matcher
-use Rattle.regress_match.specs.Pattern.{matcher_setting, matcher_tree}
-use Rattle.regress_match.specs.Names.{capture_of}
+use Rattle.regress_match.specs.Pattern.{matcher_setting, matcher_tree, capture_of}
 use Rattle.regress.specs.declared.found.Match.{Match}
 use Rattle.regress.specs.declared.pattern.Regex.{Regex}
 

@@ -5,7 +5,7 @@ use Rattle.regress_front.specs.Steps.{CaptureSpan}
 use Rattle.regress_front.specs.WellFormed.{Capture}
 use Rattle.regress_found.specs.declared.found.Match.{Match}
 use Rattle.regress_found.specs.Found.{start_of, state_of}
-use Rattle.regress_match.specs.Names.{capture_of}
+use Rattle.regress_match.specs.Pattern.{capture_of}
 use Rattle.regress.specs.declared.groups.Groups.{Groups}
 use Rattle.regress.specs.declared.groups.NamedGroups.{NamedGroups}
 use Rattle.regress.specs.declared.groups.GroupNames.{GroupNames}

@@ -5,7 +5,7 @@ use Rattle.regress_front.specs.Steps.{MatchState}
 use Rattle.regress_front.specs.WellFormed.{Capture}
 use Rattle.regress_found.specs.Found.{IsInside}
 use Rattle.regress_found.specs.Found as one
-use Rattle.regress_match.specs.Names.{capture_of}
+use Rattle.regress_match.specs.Pattern.{capture_of}
 use Rattle.regress_match.specs.Costs.{IsWithinFindCost}
 use Rattle.regress_match.specs.Iterated.{HasCounted, iterated_from, iterated_matcher, iterated_outcomes, iterated_text, step_limit, steps_remaining, steps_taken}
 use Rattle.regress_match.specs.Matcher.{factor_of}

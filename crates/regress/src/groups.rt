@@ -1,7 +1,7 @@
 //! The groups of a match, and their names, as iterators.
 ghost use Rattle.std.specs.Prelude.{◌≡◌, length, option_map};
 ghost use Rattle.std.specs.Iterator.{YieldsFirstBy, at_most};
-ghost use Rattle.regress_match.specs.Names.{capture_of};
+ghost use Rattle.regress_match.specs.Pattern.{capture_of};
 ghost use Rattle.regress.specs.Groups.{named_left, names_left, span_of, spans_left};
 
 use crate::found::range_of;

@@ -73,7 +73,7 @@ pub struct Matches<'r> {
 
 impl<'r> Matches<'r> {
     ghost use Rattle.std.specs.Prelude.{◌≡◌, ◌≤◌, ◌+◌, ◌*◌, IfNone, false, length, map, min};
-    ghost use Rattle.regress_match.specs.Names.{capture_of};
+    ghost use Rattle.regress_match.specs.Pattern.{capture_of};
     ghost use Rattle.regress.specs.Searched.{Proceeds, has_failed, next_from, search_limit, search_remaining, search_taken, searched_factor, searched_groups, searched_matcher, searched_outcomes, searched_text};
 
     pub(crate) fn new(

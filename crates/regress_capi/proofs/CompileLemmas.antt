@@ -4,7 +4,7 @@ use Rattle.std.specs.Prelude.{Some}
 use Rattle.regress_front.specs.Steps.{Setting}
 use Rattle.regress_lexer.specs.FaultKinds.{number_of}
 use Rattle.regress_lexer.specs.declared.fault.FaultKind.{FaultKind}
-use Rattle.regress_parse.specs.Accepted.{NoneIsAccepted}
+use Rattle.regress_parse.specs.Rejected.{NoneIsAccepted}
 use Rattle.regress_parse.specs.Settled.{IsReported, IsSyntaxError}
 use Rattle.regress.specs.Failures.{IsTooLarge}
 use Rattle.regress.specs.declared.limits.Options.{Options}

@@ -1,7 +1,7 @@
 -- The result of a call that compiles a pattern.
 use Rattle.std.specs.Prelude.{◌==◌, ℕ, List, Option, Some, chars, if◌then◌else◌}
 use Rattle.regress_front.specs.Steps.{Setting}
-use Rattle.regress_parse.specs.Accepted.{NoneIsAccepted}
+use Rattle.regress_parse.specs.Rejected.{NoneIsAccepted}
 use Rattle.regress.specs.Compiled.{IsCompiled}
 use Rattle.regress.specs.Kept.{Keeps}
 use Rattle.regress.specs.Failures.{IsTooLarge}

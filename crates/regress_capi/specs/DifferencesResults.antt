@@ -3,7 +3,8 @@ use Rattle.std.specs.Prelude.{◌≡◌, ◌<◌, ◌≤◌, ℕ, List, [], map,
 use Rattle.regress_tree.specs.Steps.{Setting}
 use Rattle.regress_lexer.specs.Source.{Source}
 use Rattle.regress_syntax.specs.Syntax.{Pattern}
-use Rattle.regress_parse.specs.Accepted.{IsAccepted, NoneIsAccepted, OfAccepted}
+use Rattle.regress_parse.specs.Accepted.{IsAccepted, OfAccepted}
+use Rattle.regress_parse.specs.Rejected.{NoneIsAccepted}
 use Rattle.regress_spans.specs.Paired.{spanned_of}
 use Rattle.regress_ecma.specs.Compared.{IsComparable}
 use Rattle.regress_ecma.specs.Differences.{HasCaseDataOfUnicode}

@@ -2,7 +2,7 @@
 use Rattle.std.specs.Prelude.{ℕ, Bool, List}
 use Rattle.regress_tree.specs.Steps.{Setting}
 use Rattle.regress_lexer.specs.Source.{Source}
-use Rattle.regress_parse.specs.Accepted.{NoneIsAccepted}
+use Rattle.regress_parse.specs.Rejected.{NoneIsAccepted}
 use Rattle.regress_capi.specs.Results.{AreWords, IsError, Gives, IsTooSmall}
 
 -- The status, `needed`, `kind`, `position`, and the buffer before and after. `Asked` states that the arguments are

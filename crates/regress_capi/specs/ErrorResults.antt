@@ -3,7 +3,8 @@ use Rattle.std.specs.Prelude.{ℕ, List}
 use Rattle.regress_tree.specs.Steps.{Setting}
 use Rattle.regress_lexer.specs.Source.{Source}
 use Rattle.regress_syntax.specs.Syntax.{Pattern}
-use Rattle.regress_parse.specs.Accepted.{IsAccepted, NoneIsAccepted}
+use Rattle.regress_parse.specs.Accepted.{IsAccepted}
+use Rattle.regress_parse.specs.Rejected.{NoneIsAccepted}
 use Rattle.regress_capi.specs.Results.{IsText, Gives, IsTooSmall}
 
 -- The status, `needed`, `kind`, `position`, and the buffer before and after. `Asked` states that the arguments are

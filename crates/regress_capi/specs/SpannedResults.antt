@@ -5,7 +5,8 @@ use Rattle.regress_tree.specs.Tree.{Tree}
 use Rattle.regress_tree.specs.Visits.{nodes}
 use Rattle.regress_lexer.specs.Source.{Source}
 use Rattle.regress_syntax.specs.Syntax.{Pattern}
-use Rattle.regress_parse.specs.Accepted.{IsAccepted, NoneIsAccepted}
+use Rattle.regress_parse.specs.Accepted.{IsAccepted}
+use Rattle.regress_parse.specs.Rejected.{NoneIsAccepted}
 use Rattle.regress_parse.specs.declared.span.Span.{Span}
 use Rattle.regress_spans.specs.Paired.{postorder, spanned_of}
 use Rattle.regress_encoding.specs.Order.{numbers_of}

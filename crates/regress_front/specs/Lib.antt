@@ -21,6 +21,7 @@ pub use Rattle.regress_properties.specs.Listed
 pub use Rattle.regress_properties.specs.Properties
 pub use Rattle.regress_unicode.specs.FoldEntries
 pub use Rattle.regress_unicode.specs.Parts
+pub use Rattle.regress_unicode.specs.ValidEntries
 pub use Rattle.regress_unicode.specs.TableOf
 pub use Rattle.regress_unicode.specs.ConstructionErrors
 pub use Rattle.regress_base.specs.Listing
@@ -56,6 +57,7 @@ pub use Rattle.regress_syntax.specs.SameNames
 pub use Rattle.regress_syntax.specs.FirstErrors
 pub use Rattle.regress_parse.specs.TreeOf
 pub use Rattle.regress_parse.specs.Accepted
+pub use Rattle.regress_parse.specs.Rejected
 pub use Rattle.regress_parse.specs.Groups
 pub use Rattle.regress_parse.specs.Fault
 pub use Rattle.regress_parse.specs.Settled

@@ -12,7 +12,8 @@ ghost use Rattle.regress_tree.specs.NormalForm.{IsNormal};
 ghost use Rattle.regress_parse.specs.Fault.{RejectedOnlyIf, ReportsKind};
 ghost use Rattle.regress_syntax.specs.Syntax.{Pattern};
 ghost use Rattle.regress_parse.specs.TreeOf.{tree_of};
-ghost use Rattle.regress_parse.specs.Accepted.{IsAccepted, NoneIsAccepted, IsTrueOf, MayExceed, OneIsDerived, OfAccepted, Means};
+ghost use Rattle.regress_parse.specs.Accepted.{IsAccepted, OneIsDerived, OfAccepted, Means};
+ghost use Rattle.regress_parse.specs.Rejected.{NoneIsAccepted, IsTrueOf, MayExceed};
 ghost use Rattle.regress_front.specs.Optimized.{IsOptimized};
 
 use regress_base::types::Flags;

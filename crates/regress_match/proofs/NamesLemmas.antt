@@ -2,7 +2,7 @@
 use Rattle.std.proofs.Common.{◌∙◌, ◌++◌, [], List, map, sym, ap, append_assoc, append-nil}
 use Rattle.regress_tree.specs.WellFormed.{Capture}
 use Rattle.regress_match.specs.Listing.{Lists}
-use Rattle.regress_match.specs.Names.{capture_of}
+use Rattle.regress_match.specs.Pattern.{capture_of}
 use Rattle.regress_match.specs.declared.names.Listing.{Listing}
 
 pub adds_none : (a : Listing) → Lists a a []

@@ -1,7 +1,7 @@
 -- What the walk over the capture groups of a tree collects.
 use Rattle.std.specs.Prelude.{◌≡◌, true, List, ◌++◌, map, is_ok}
 use Rattle.regress_tree.specs.WellFormed.{Capture}
-use Rattle.regress_match.specs.Names.{capture_of}
+use Rattle.regress_match.specs.Pattern.{capture_of}
 use Rattle.regress_match.specs.declared.names.Listing.{Listing}
 
 -- the groups are appended to the list, unless an allocation has failed

@@ -1,14 +1,9 @@
--- The capture groups of a pattern, and what the groups with a name have captured.
-use Rattle.std.specs.Prelude.{ℕ, Bool, false, List, [], ◌∷◌, None, Some, Option, if◌then◌else◌, option_map, slice_index_or, string_bytes}
+-- What the groups with a name have captured.
+use Rattle.std.specs.Prelude.{ℕ, Bool, false, List, [], ◌∷◌, None, Some, Option, if◌then◌else◌, slice_index_or}
 use Rattle.std.specs.Str.{bytes_eq}
 use Rattle.std.specs.Option.{option_or}
 use Rattle.regress_tree.specs.Steps.{CaptureSpan}
 use Rattle.regress_tree.specs.WellFormed.{Capture}
-use Rattle.regress_match.specs.declared.names.Group.{Group}
-
--- the capture group that a list element describes
-abbrev pub capture_of : Group → Capture
-capture_of g = record { id = g.id; name = option_map string_bytes g.name }
 
 -- the group has this name
 abbrev pub is_named : List ℕ → Option (List ℕ) → Bool

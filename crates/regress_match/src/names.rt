@@ -5,7 +5,7 @@ ghost use Rattle.regress_tree.specs.Gathered.{own_group};
 ghost use Rattle.regress_tree.specs.Tree.{tree};
 ghost use Rattle.regress_tree.specs.WellFormed.{captures};
 ghost use Rattle.regress_match.specs.Listing.{Lists};
-ghost use Rattle.regress_match.specs.Names.{capture_of};
+ghost use Rattle.regress_match.specs.Pattern.{capture_of};
 
 use regress_base::types::{CaptureGroupID, CaptureGroupName};
 use regress_tree::ir::{Node, Regex, Walk, walk};

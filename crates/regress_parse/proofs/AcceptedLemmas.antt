@@ -18,7 +18,8 @@ use Rattle.regress_syntax.proofs.lemmas.SameNames.{apart_by_tokens}
 use Rattle.regress_syntax.proofs.lemmas.Scan.{named_by-pattern, deepest-whole}
 use Rattle.regress_parse.specs.Reader.{pattern_at}
 use Rattle.regress_parse.specs.Parsing.{Fits, Exceeds, pattern_part}
-use Rattle.regress_parse.specs.Accepted.{own_context_in, IsDerivedIn, IsWithinLimits, Says, IsTrueIn}
+use Rattle.regress_parse.specs.Accepted.{own_context_in, IsDerivedIn, IsWithinLimits}
+use Rattle.regress_parse.specs.Rejected.{Says, IsTrueIn}
 use Rattle.regress_parse.proofs.GrammarLemmas.{pattern_at-sound, pattern_at-complete}
 use Rattle.regress_parse.proofs.GroupLemmas.{length-names}
 

@@ -11,7 +11,7 @@ use Rattle.regress_lexer.specs.declared.fault.FaultKind.TheVariants.{UnbalancedP
 use Rattle.regress_lexer.specs.declared.fault.Fault.{Fault}
 use Rattle.regress_syntax.specs.Scanning.{OnKindAt}
 use Rattle.regress_syntax.specs.Syntax.{counts}
-use Rattle.regress_parse.specs.Accepted.{IsTrueIn, MayExceed, NoneIsAcceptedIn, Says}
+use Rattle.regress_parse.specs.Rejected.{IsTrueIn, MayExceed, NoneIsAcceptedIn, Says}
 use Rattle.regress_parse.specs.Fault.{HasKind, RejectedOnlyIf, ReportsKind, without_position}
 use Rattle.regress_parse.specs.Parsing.{HasMessageAndPosition}
 use Rattle.regress_parse.specs.Settled.{IsAtFirstDuplicate, IsFinalIn, IsReportedIn, IsFaultIn}

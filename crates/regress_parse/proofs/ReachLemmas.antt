@@ -15,7 +15,7 @@ use Rattle.regress_syntax.specs.Productions.{Context, context_inside, Head, sing
 use Rattle.regress_syntax.specs.Scan.{plain, tokens, TokensShow}
 use Rattle.regress_syntax.proofs.lemmas.Productions.{head_at-shortens, optional_quantifier_at-shortens}
 use Rattle.regress_syntax.proofs.lemmas.Lengths.{opened_by-one, optional_quantifier_at-takes, named_by-length, deepest-length}
-use Rattle.regress_parse.specs.Accepted.{MayExceed}
+use Rattle.regress_parse.specs.Rejected.{MayExceed}
 use Rattle.regress_parse.specs.Parsing.{Reaches, CountsAtMostConsumed}
 use Rattle.regress_parse.specs.Reader.{Term, closed, item_after_head, item_by, quantified, term_by, parse_terms, parse_pattern, fuel, pattern_at, terms_at, item_at, term_at}
 use Rattle.regress_parse.proofs.ReaderLemmas.{more_by, others_by}

@@ -1,5 +1,5 @@
 -- Which patterns are accepted, and when a tree has the meaning of its pattern.
-use Rattle.std.specs.Prelude.{◌≡◌, ◌⊎◌, ℕ, ◌<◌, ◌≤◌, List, [], length, map, encode_utf8_all}
+use Rattle.std.specs.Prelude.{◌≡◌, ℕ, ◌≤◌, List, [], map, encode_utf8_all}
 use Rattle.regress_base.specs.Limits.{max_capture_groups, max_loops, max_nesting_depth}
 use Rattle.regress_tree.specs.Reading.{IsText, forwards}
 use Rattle.regress_tree.specs.Steps.{MatchState, IsStateOf, byte_state, Setting}
@@ -7,8 +7,6 @@ use Rattle.regress_tree.specs.Matching.{matches}
 use Rattle.regress_tree.specs.Tree.{Tree}
 use Rattle.regress_lexer.specs.declared.dialect.Dialect.{Dialect}
 use Rattle.regress_lexer.specs.declared.dialect.Dialect.TheVariants.{Regress}
-use Rattle.regress_lexer.specs.declared.fault.FaultKind.{FaultKind}
-use Rattle.regress_lexer.specs.declared.fault.FaultKind.TheVariants.{TooManyGroups, TooManyLoops, TooDeep, DuplicateName}
 use Rattle.regress_lexer.specs.Source.{Source}
 use Rattle.regress_syntax.specs.Syntax.{Pattern, counts, names, nesting}
 use Rattle.regress_syntax.specs.Meaning.{meaning}
@@ -21,22 +19,6 @@ pub record IsWithinLimits (p : Pattern) : Type 0 where
   pub groups : (counts p).groups ≤ max_capture_groups
   pub loops : (counts p).loops ≤ max_loops
   pub nesting : nesting p ≤ max_nesting_depth
-
--- What a syntax error of this kind states of a pattern that is derived from the source. No other kind occurs for such a
--- pattern. If the pattern is past the limit on nesting depth, groups may be reported as conflicting that are not.
-abbrev pub Says : FaultKind → Pattern → Type 0
-Says kind p =
-    ((kind ≡ TooManyGroups) × (max_capture_groups < (counts p).groups))
-    ⊎ ((kind ≡ TooManyLoops) × (max_loops < (counts p).loops))
-    ⊎ ((kind ≡ TooDeep) × (max_nesting_depth < nesting p))
-    ⊎ ((kind ≡ DuplicateName) × ((NoneConflict p → ⊥) ⊎ (max_nesting_depth < nesting p)))
-
--- The source is long enough to exceed the limit that a syntax error of this kind is about: each group and each loop
--- takes a code point, and so does whatever increases the nesting depth from 1.
-pub record MayExceed (source : Source) (kind : FaultKind) : Type 0 where
-  pub groups : kind ≡ TooManyGroups → max_capture_groups < length source
-  pub loops : kind ≡ TooManyLoops → max_loops < length source
-  pub nesting : kind ≡ TooDeep → max_nesting_depth ≤ length source
 
 -- On every text and from every state, the outcomes of the tree are those of the pattern, in the same order, as byte
 -- offsets.
@@ -61,16 +43,6 @@ module _ (dialect : Dialect) where
     pub limits : IsWithinLimits p
     pub names : NoneConflict p
 
-  -- The source has no accepted pattern.
-  abbrev pub NoneIsAcceptedIn : Setting → Source → Type 0
-  NoneIsAcceptedIn setting source = (p : Pattern) → IsAcceptedIn setting source p → ⊥
-
-  -- What the syntax error states holds for every pattern that is derived from the source, unless the pattern has more
-  -- groups than the limit.
-  abbrev pub IsTrueIn : Setting → Source → FaultKind → Type 0
-  IsTrueIn setting source kind =
-      (p : Pattern) → IsDerivedIn setting source p → Says kind p ⊎ (max_capture_groups < (counts p).groups)
-
   -- At most one pattern is derived from the source, within the limits or not.
   abbrev pub OneIsDerivedIn : Setting → Source → Type 0
   OneIsDerivedIn setting source = (p q : Pattern) → IsDerivedIn setting source p → IsDerivedIn setting source q → p ≡ q
@@ -89,12 +61,6 @@ IsDerived = IsDerivedIn Regress
 
 abbrev pub IsAccepted : Setting → Source → Pattern → Type 0
 IsAccepted = IsAcceptedIn Regress
-
-abbrev pub NoneIsAccepted : Setting → Source → Type 0
-NoneIsAccepted = NoneIsAcceptedIn Regress
-
-abbrev pub IsTrueOf : Setting → Source → FaultKind → Type 0
-IsTrueOf = IsTrueIn Regress
 
 abbrev pub OneIsDerived : Setting → Source → Type 0
 OneIsDerived = OneIsDerivedIn Regress

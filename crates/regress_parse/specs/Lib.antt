@@ -2,6 +2,7 @@ pub mod Reader
 pub mod TreeOf
 pub mod ClassParts
 pub mod Accepted
+pub mod Rejected
 pub mod Groups
 pub mod Fault
 pub mod Settled

@@ -13,7 +13,7 @@ use Rattle.regress_syntax.specs.Scan.{plain, tokens, deepest}
 use Rattle.regress_syntax.specs.FirstErrors.{Flaw, kind_of, remaining_at, IsFirstDuplicate}
 use Rattle.regress_parse.specs.declared.fault.PlacedFault.{PlacedFault}
 use Rattle.regress_parse.specs.declared.fault.PlacedFault.TheVariants.{Syntax, Memory}
-use Rattle.regress_parse.specs.Accepted.{NoneIsAcceptedIn, IsTrueIn, MayExceed}
+use Rattle.regress_parse.specs.Rejected.{NoneIsAcceptedIn, IsTrueIn, MayExceed}
 use Rattle.regress_parse.specs.Fault.{text_of}
 
 -- If two groups of the source conflict, and it is not nested too deeply, then the syntax error is of that kind, and its

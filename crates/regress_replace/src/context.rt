@@ -2,7 +2,7 @@
 ghost use Rattle.std.specs.Prelude.{◌≡◌, ◌++◌, ◌∷◌, ◌≤◌, IfOk, length, map, string_bytes};
 ghost use Rattle.regress_tree.specs.Inside.{IsCaptureInside};
 ghost use Rattle.regress_found.specs.Found.{state_of, IsInside};
-ghost use Rattle.regress_match.specs.Names.{capture_of};
+ghost use Rattle.regress_match.specs.Pattern.{capture_of};
 ghost use Rattle.regress_replace.specs.Expansion.{any_named, captured_text, expand_piece, expansion, expansion_with};
 ghost use Rattle.regress_replace.specs.Parsed.{piece_of};
 

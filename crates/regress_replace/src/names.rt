@@ -1,7 +1,8 @@
 //! Groups by name, in a list of groups.
 ghost use Rattle.std.specs.Prelude.{◌≡◌, map, option_map, string_bytes};
 ghost use Rattle.regress_found.specs.Found.{state_of};
-ghost use Rattle.regress_match.specs.Names.{capture_of, is_named, named_span};
+ghost use Rattle.regress_match.specs.Names.{is_named, named_span};
+ghost use Rattle.regress_match.specs.Pattern.{capture_of};
 ghost use Rattle.regress_replace.specs.Expansion.{any_named};
 
 use regress_base::types::CaptureGroupName;

@@ -1,7 +1,7 @@
 //! Replacing matches by a template.
 ghost use Rattle.std.specs.Prelude.{◌≡◌, All, IfOk, map, string_bytes};
 ghost use Rattle.regress_found.specs.Found.{IsInside};
-ghost use Rattle.regress_match.specs.Names.{capture_of};
+ghost use Rattle.regress_match.specs.Pattern.{capture_of};
 ghost use Rattle.regress_replace.specs.Expansion.{expansion};
 ghost use Rattle.regress_replace.specs.Order.{AreInOrder};
 ghost use Rattle.regress_replace.specs.Replaced.{replaced};

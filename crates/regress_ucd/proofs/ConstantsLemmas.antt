@@ -2,8 +2,8 @@
 use Rattle.std.proofs.Common.{◌≡◌, true, map, All, refl}
 use Rattle.std.proofs.lemmas.List.Sums.{AllPass-from_list_all}
 use Rattle.std.proofs.lemmas.List.Elements.{All-weaker}
-use Rattle.regress_unicode.specs.FoldEntries.{IsPackableEntry, mapped}
-use Rattle.regress_unicode.specs.Parts.{AreValidEntries}
+use Rattle.regress_unicode.specs.FoldEntries.{mapped}
+use Rattle.regress_unicode.specs.ValidEntries.{IsPackableEntry, AreValidEntries}
 use Rattle.regress_unicode.proofs.lemmas.Soundness.{sound_mappings}
 use Rattle.regress_ucd.specs.declared.data.cases.TheConstants.{FOLDS, UPPERS}
 use Rattle.regress_ucd.specs.Data.{mapping}

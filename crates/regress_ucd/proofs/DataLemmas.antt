@@ -2,7 +2,8 @@
 use Rattle.std.proofs.Common.{◌≡◌, ℤ, pos, negsuc, ◌+◌, ◌^◌, ◌<◌, ◌≤ℤ◌, ◌⊎◌, inl, inr, Bool, true, ◌&&◌, ◌||◌, ◌==◌, nat_le, nat_lt, arith, ◌-◌}
 use Rattle.std.proofs.lemmas.Bool.Decides.{nat_tests}
 use Rattle.std.proofs.lemmas.Int.{ints}
-use Rattle.regress_unicode.specs.FoldEntries.{FoldEntry, IsPackableEntry}
+use Rattle.regress_unicode.specs.FoldEntries.{FoldEntry}
+use Rattle.regress_unicode.specs.ValidEntries.{IsPackableEntry}
 
 -- the absolute value of the delta is below 2 ^ 27
 abbrev pub is_short : ℤ → Bool

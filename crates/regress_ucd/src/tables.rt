@@ -1,6 +1,6 @@
 //! Construction of case mappings from the constants.
 ghost use Rattle.std.specs.Prelude.{◌≡◌, All, IfOk, map};
-ghost use Rattle.regress_unicode.specs.FoldEntries.{IsPackableEntry};
+ghost use Rattle.regress_unicode.specs.ValidEntries.{IsPackableEntry};
 ghost use Rattle.regress_ucd.specs.Data.{mapping};
 
 use regress_unicode::FoldRange;

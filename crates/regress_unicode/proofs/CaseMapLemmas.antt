@@ -10,8 +10,8 @@ use Rattle.std.specs.Ordering.{nat_cmp, is_lt}
 use Rattle.std.specs.List.{range_with_len}
 use Rattle.regress_base.specs.Intervals.{code_point_max}
 use Rattle.regress_base.specs.Listing.{lists, is_ascending_from}
-use Rattle.regress_unicode.specs.FoldEntries.{FoldEntry, moved, is_in_mapping, mapped_in_mapping, mapped, is_in_order_from, is_in_order, are_targets_in_range}
-use Rattle.regress_unicode.specs.Parts.{AreValidEntries}
+use Rattle.regress_unicode.specs.FoldEntries.{FoldEntry, moved, is_in_mapping, mapped_in_mapping, mapped}
+use Rattle.regress_unicode.specs.ValidEntries.{is_in_order_from, is_in_order, are_targets_in_range, AreValidEntries}
 use Rattle.regress_unicode.specs.Moves.{codes, moves, mapped_code_points, targets, count_of, HasNoFour}
 use Rattle.regress_base.specs.Table.{IsIdempotent, HasSmallClasses, IsCaseMapping}
 use Rattle.regress_base.proofs.lemmas.Listings.{ascending_parts, ascending_within, ascending_filter, lists-tail, lists-past, lists-filter, length_without, ascending_append, lists-append, lists-run}

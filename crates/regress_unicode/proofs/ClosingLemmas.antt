@@ -11,7 +11,8 @@ use Rattle.std.specs.List.Sorted.{IsNonDecreasingBy}
 use Rattle.regress_base.proofs.lemmas.Sets.{gt-is_within, is_member-nil, is_member-cons, is_member-one, is_member-append, canonical_parts, canonical_lower, from_first, member_above, no_member_below}
 use Rattle.regress_base.specs.Intervals.{Bounds, is_within, is_member, is_canonical_from, IsCanonical}
 use Rattle.regress_unicode.specs.declared.shift.Shift.{Shift}
-use Rattle.regress_unicode.specs.FoldEntries.{FoldEntry, moved, stays_in_range, is_in_order}
+use Rattle.regress_unicode.specs.FoldEntries.{FoldEntry, moved}
+use Rattle.regress_unicode.specs.ValidEntries.{stays_in_range, is_in_order}
 use Rattle.regress_unicode.proofs.ListLemmas.{order_apart}
 use Rattle.regress_unicode.specs.Shifts.{IsShift, maps_to, maps_to_by}
 use Rattle.regress_unicode.proofs.ShiftLemmas.{maps_to-same, maps_to-none, mappings_more, apart_from}

@@ -8,7 +8,8 @@ use Rattle.std.specs.List.{list_any}
 use Rattle.regress_base.proofs.lemmas.Sets.{is_member-nil, is_member-cons}
 use Rattle.regress_base.specs.Intervals.{Bounds, code_point_max, is_within, is_member}
 use Rattle.regress_unicode.specs.declared.shift.Shift.{Shift}
-use Rattle.regress_unicode.specs.FoldEntries.{FoldEntry, moved, is_in_mapping, mapped_in_mapping, mapped, stays_in_range, is_target_in_range, are_targets_in_range, is_in_order_from, is_in_order}
+use Rattle.regress_unicode.specs.FoldEntries.{FoldEntry, moved, is_in_mapping, mapped_in_mapping, mapped}
+use Rattle.regress_unicode.specs.ValidEntries.{stays_in_range, is_target_in_range, are_targets_in_range, is_in_order_from, is_in_order}
 use Rattle.regress_base.specs.Listing.{lists, code_points}
 use Rattle.regress_base.specs.Table.{Table, IsIdempotent, is_in_closure}
 use Rattle.regress_base.proofs.lemmas.Listings.{lists-head, lists-tail, lists-past, lists-interval}

@@ -7,9 +7,10 @@ use Rattle.std.specs.Prelude.{alloc_error}
 use Rattle.regress_unicode.specs.declared.tables_error.Which.TheVariants.{Fold, Upper}
 use Rattle.regress_unicode.specs.declared.tables_error.TablesError.{TablesError}
 use Rattle.regress_unicode.specs.declared.tables_error.TablesError.TheVariants.{RangeOrder, TargetOutOfRange, NotIdempotent, ClassTooLarge, IdentifierPunctuation, BadString, Memory}
-use Rattle.regress_unicode.specs.FoldEntries.{FoldEntry, mapped, is_in_order, are_targets_in_range}
+use Rattle.regress_unicode.specs.FoldEntries.{FoldEntry, mapped}
+use Rattle.regress_unicode.specs.ValidEntries.{is_in_order, are_targets_in_range, AreValidEntries}
 use Rattle.regress_base.specs.Table.{Named, IsIdempotent, HasSmallClasses, is_string}
-use Rattle.regress_unicode.specs.Parts.{Parts, AreValidEntries, strings_of}
+use Rattle.regress_unicode.specs.Parts.{Parts, strings_of}
 use Rattle.regress_unicode.specs.ConstructionErrors.{Meets, position, IsFirstError}
 
 -- the parts meet the conditions of all errors before a position

@@ -8,7 +8,8 @@ use Rattle.std.specs.Ordering.{ordering_index, MatchOrdering}
 use Rattle.std.specs.declared.cmp.Ordering.{Ordering}
 use Rattle.std.specs.declared.cmp.Ordering.TheVariants.{Less, Equal, Greater}
 use Rattle.regress_base.specs.Intervals.{code_point_max}
-use Rattle.regress_unicode.specs.FoldEntries.{FoldEntry, moved, is_in_mapping, mapped_in_mapping, mapped, is_in_order_from, is_in_order, stays_in_range, is_target_in_range, are_targets_in_range}
+use Rattle.regress_unicode.specs.FoldEntries.{FoldEntry, moved, is_in_mapping, mapped_in_mapping, mapped}
+use Rattle.regress_unicode.specs.ValidEntries.{is_in_order_from, is_in_order, stays_in_range, is_target_in_range, are_targets_in_range}
 
 -- how an entry compares with a number
 unfoldable pub position_of_mapping : ℕ → FoldEntry → Ordering

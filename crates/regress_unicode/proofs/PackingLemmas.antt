@@ -4,7 +4,7 @@ use Rattle.std.proofs.lemmas.Nat.{or_shifted}
 use Rattle.std.proofs.lemmas.Int.{ints}
 use Rattle.std.proofs.Math.Facts.{to_z-neg}
 use Rattle.std.specs.Int.{int_div_euclid, int_rem_euclid}
-use Rattle.regress_unicode.specs.FoldEntries.{IsModulo}
+use Rattle.regress_unicode.specs.ValidEntries.{IsModulo}
 
 pub IsModulo-small : (m : ℕ) → IsModulo m → (1 ≤ m) × (m ≤ 16)
 IsModulo-small m h = grind (arith, h)

@@ -9,7 +9,8 @@ use Rattle.std.proofs.Math.Bool.{or-false}
 use Rattle.regress_base.proofs.lemmas.Sets.{is_member-nil, is_member-take_more, or_assoc, canonical_parts}
 use Rattle.regress_base.specs.Intervals.{Bounds, is_within, is_member, is_canonical_from}
 use Rattle.regress_unicode.specs.declared.shift.Shift.{Shift}
-use Rattle.regress_unicode.specs.FoldEntries.{FoldEntry, moved, stays_in_range}
+use Rattle.regress_unicode.specs.FoldEntries.{FoldEntry, moved}
+use Rattle.regress_unicode.specs.ValidEntries.{stays_in_range}
 use Rattle.regress_unicode.specs.Shifts.{IsShift, is_mapped, origin, maps_to, maps_to_by}
 
 -- a shift of the union of two tests

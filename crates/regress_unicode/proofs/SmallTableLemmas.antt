@@ -5,7 +5,8 @@ use Rattle.std.proofs.lemmas.List.Sums.{AllPass-from_list_all}
 use Rattle.regress_base.specs.Intervals.{Bounds, is_canonical_from}
 use Rattle.regress_unicode.specs.FoldEntries.{FoldEntry, mapped}
 use Rattle.regress_base.specs.Table.{Named, HasCanonicalSets}
-use Rattle.regress_unicode.specs.Parts.{AreValidEntries, IsSound, parts_from, sets_of, strings_of}
+use Rattle.regress_unicode.specs.Parts.{parts_from, sets_of, strings_of}
+use Rattle.regress_unicode.specs.ValidEntries.{AreValidEntries, IsSound}
 use Rattle.regress_unicode.specs.SmallTable.{small_folds, small_uppers, small_parts}
 use Rattle.regress_unicode.proofs.lemmas.Soundness.{sound_mappings, sound_from}
 use Rattle.regress_properties.proofs.lemmas.Identifiers.{word_ascii}

@@ -5,7 +5,8 @@ use Rattle.std.proofs.lemmas.Bool.Decides.{nat_tests}
 use Rattle.std.proofs.lemmas.List.Folds.{list_any_more}
 use Rattle.std.specs.List.{list_any}
 use Rattle.std.proofs.Math.Bool.{or-false}
-use Rattle.regress_unicode.specs.FoldEntries.{FoldEntry, moved, is_in_mapping, mapped_in_mapping, is_source, mapped, is_in_order_from}
+use Rattle.regress_unicode.specs.FoldEntries.{FoldEntry, moved, is_in_mapping, mapped_in_mapping, is_source, mapped}
+use Rattle.regress_unicode.specs.ValidEntries.{is_in_order_from}
 use Rattle.regress_unicode.proofs.ListLemmas.{order_parts, below_mapped}
 
 -- whether an entry maps the code point to the target

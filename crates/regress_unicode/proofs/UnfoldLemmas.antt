@@ -4,7 +4,8 @@ use Rattle.std.proofs.lemmas.Bool.{eq-eqb, eqb-true}
 use Rattle.std.proofs.lemmas.Bool.Decides.{nat_tests}
 use Rattle.std.proofs.lemmas.List.{get_or_read}
 use Rattle.regress_base.specs.Intervals.{code_point_max}
-use Rattle.regress_unicode.specs.FoldEntries.{FoldEntry, is_source, is_in_order}
+use Rattle.regress_unicode.specs.FoldEntries.{FoldEntry, is_source}
+use Rattle.regress_unicode.specs.ValidEntries.{is_in_order}
 use Rattle.regress_base.specs.Listing.{lists, is_ascending, is_ascending_from}
 use Rattle.regress_base.proofs.lemmas.Listings.{ascending_parts, lists-append, lists-head, lists-tail}
 use Rattle.regress_base.proofs.lemmas.Literals.{lists-one}

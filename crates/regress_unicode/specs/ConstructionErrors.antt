@@ -4,7 +4,8 @@ use Rattle.regress_unicode.specs.declared.tables_error.Which.{Which}
 use Rattle.regress_unicode.specs.declared.tables_error.Which.TheVariants.{Fold, Upper}
 use Rattle.regress_unicode.specs.declared.tables_error.TablesError.{TablesError}
 use Rattle.regress_unicode.specs.declared.tables_error.TablesError.TheVariants.{RangeOrder, TargetOutOfRange, NotIdempotent, ClassTooLarge, IdentifierPunctuation, BadString, Memory}
-use Rattle.regress_unicode.specs.FoldEntries.{FoldEntry, mapped, is_in_order, are_targets_in_range}
+use Rattle.regress_unicode.specs.FoldEntries.{FoldEntry, mapped}
+use Rattle.regress_unicode.specs.ValidEntries.{is_in_order, are_targets_in_range}
 use Rattle.regress_base.specs.Table.{IsIdempotent, HasSmallClasses, HasWordAscii, HasStrings}
 use Rattle.regress_unicode.specs.Parts.{Parts}
 

@@ -1,5 +1,6 @@
 pub mod FoldEntries
 pub mod Parts
+pub mod ValidEntries
 pub mod SmallTable
 pub mod Moves
 pub mod ConstructionErrors

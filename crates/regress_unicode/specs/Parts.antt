@@ -1,9 +1,9 @@
--- The arguments of `Tables::new`, and the conditions on them.
-use Rattle.std.specs.Prelude.{ℕ, Bool, if◌then◌else◌, List, [], map, IsTrue, String, string_bytes, Vec}
+-- The arguments of `Tables::new`.
+use Rattle.std.specs.Prelude.{ℕ, Bool, if◌then◌else◌, List, [], map, String, string_bytes, Vec}
 use Rattle.std.specs.declared.alloc.Global.{Global}
 use Rattle.regress_base.specs.Intervals.{Bounds}
-use Rattle.regress_unicode.specs.FoldEntries.{FoldEntry, mapped, is_in_order, are_targets_in_range}
-use Rattle.regress_base.specs.Table.{Table, Named, IsIdempotent, HasSmallClasses, IsValidTable}
+use Rattle.regress_unicode.specs.FoldEntries.{FoldEntry, mapped}
+use Rattle.regress_base.specs.Table.{Table, Named}
 use Rattle.regress_properties.specs.Listed.{values_of}
 use Rattle.regress_properties.specs.Properties.{unicode_id_start, unicode_id_continue, unicode_general_category, unicode_script, unicode_script_extensions, unicode_binary, unicode_strings}
 
@@ -44,20 +44,6 @@ sets_of entries = map entry_of entries
 -- the named strings of a list
 abbrev pub strings_of : List (String Global × Vec (Vec ℕ Global) Global) → List (Named (List (List ℕ)))
 strings_of entries = map (λ entry. record { name = string_bytes entry.0; value = values_of entry.1 }) entries
-
--- The entries of a case mapping are valid: a binary search finds the entry of a code point, and the result is a case
--- mapping.
-pub record AreValidEntries (mappings : List FoldEntry) : Type 0 where
-  pub in_order : IsTrue (is_in_order mappings)
-  pub in_range : IsTrue (are_targets_in_range mappings)
-  pub idempotent : IsIdempotent (mapped mappings)
-  pub small_classes : HasSmallClasses (mapped mappings)
-
--- The invariant of `Tables`.
-pub record IsSound (parts : Parts) : Type 0 where
-  pub folds : AreValidEntries parts.folds
-  pub uppers : AreValidEntries parts.uppers
-  pub lawful : IsValidTable (table_from parts)
 
 -- parts with the entries of both case mappings and nothing else
 abbrev pub mappings_alone : (folds uppers : List FoldEntry) → Parts

@@ -3,7 +3,8 @@ use Rattle.std.specs.Prelude.{ℕ, ◌+◌, ◌-◌, ◌%◌, ◌^◌, ◌≤◌
 use Rattle.std.specs.List.{list_any}
 use Rattle.regress_base.specs.Intervals.{code_point_max}
 use Rattle.regress_unicode.specs.declared.shift.Shift.{Shift}
-use Rattle.regress_unicode.specs.FoldEntries.{FoldEntry, moved, stays_in_range}
+use Rattle.regress_unicode.specs.FoldEntries.{FoldEntry, moved}
+use Rattle.regress_unicode.specs.ValidEntries.{stays_in_range}
 
 -- the shift maps code points to code points
 pub record IsShift (s : Shift) : Type 0 where

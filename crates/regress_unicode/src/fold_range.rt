@@ -1,6 +1,7 @@
 //! A packed entry of a case mapping table.
 ghost use Rattle.std.specs.Prelude.{◌≡◌, ℕ, ◌+◌, ◌-◌, ◌*◌, ◌/◌, ◌%◌, ◌^◌, ◌<◌, ◌≤◌, ◌↔◌, ◌==◌, false, IfSome, IfNone, pos, negsuc, ◌≤ℤ◌, IsTrue};
-ghost use Rattle.regress_unicode.specs.FoldEntries.{is_in_mapping, mapped_in_mapping, is_source, is_target_in_range, stays_in_range as stays_in_range_spec, moved, IsModulo};
+ghost use Rattle.regress_unicode.specs.FoldEntries.{is_in_mapping, mapped_in_mapping, is_source, moved};
+ghost use Rattle.regress_unicode.specs.ValidEntries.{is_target_in_range, stays_in_range as stays_in_range_spec, IsModulo};
 ghost use Rattle.regress_base.specs.Intervals.{code_point_max};
 ghost use Rattle.std.specs.declared.cmp.Ordering.TheVariants.{Less, Equal, Greater};
 
@@ -26,7 +27,8 @@ pub struct FoldRange {
 impl Model for FoldRange {
     ghost use Rattle.std.specs.Prelude.{◌+◌, pos, unsigned_abs};
     ghost use Rattle.std.specs.Int.{int_div_euclid, int_rem_euclid};
-    ghost use Rattle.regress_unicode.specs.FoldEntries.{FoldEntry, IsPackableEntry};
+    ghost use Rattle.regress_unicode.specs.FoldEntries.{FoldEntry};
+    ghost use Rattle.regress_unicode.specs.ValidEntries.{IsPackableEntry};
 
     ghost Value = { FoldEntry };
 

@@ -2,7 +2,8 @@
 ghost use Rattle.std.specs.Prelude.{◌≡◌, ◌<◌, ℕ, false, IsTrue};
 ghost use Rattle.std.specs.List.{list_any};
 ghost use Rattle.regress_base.specs.AsciiBitmap.{ascii_contains};
-ghost use Rattle.regress_unicode.specs.FoldEntries.{is_source, is_in_order, is_target_in_range, are_targets_in_range};
+ghost use Rattle.regress_unicode.specs.FoldEntries.{is_source};
+ghost use Rattle.regress_unicode.specs.ValidEntries.{is_in_order, is_target_in_range, are_targets_in_range};
 ghost use Rattle.regress_unicode.specs.LaterTargets.{HasLaterTargets};
 
 use super::FoldRange;

@@ -3,7 +3,8 @@
 
 ghost use Rattle.std.proofs.Props.{props};
 ghost use Rattle.regress_unicode.specs.LaterTargets.{HasLaterTargets};
-ghost use Rattle.regress_unicode.specs.Parts.{parts_from, parts_with, IsSound};
+ghost use Rattle.regress_unicode.specs.Parts.{parts_from, parts_with};
+ghost use Rattle.regress_unicode.specs.ValidEntries.{IsSound};
 
 mod checks;
 mod closure;

@@ -1,6 +1,7 @@
 //! Case mapping of single code points.
 ghost use Rattle.std.specs.Prelude.{◌≡◌, ℕ, IsTrue};
-ghost use Rattle.regress_unicode.specs.FoldEntries.{mapped as mapped_of, is_in_order, are_targets_in_range};
+ghost use Rattle.regress_unicode.specs.FoldEntries.{mapped as mapped_of};
+ghost use Rattle.regress_unicode.specs.ValidEntries.{is_in_order, are_targets_in_range};
 ghost use Rattle.regress_unicode.specs.TableOf.{table_of};
 
 use super::Tables;

@@ -1,7 +1,8 @@
 //! Construction of a table from its parts.
 ghost use Rattle.std.specs.Prelude.{◌≡◌, ◌≢◌, ◌<◌, [], alloc_error, IfOk, IfErr};
 ghost use Rattle.regress_unicode.specs.declared.tables_error.TablesError.TheVariants.{Memory};
-ghost use Rattle.regress_unicode.specs.Parts.{AreValidEntries, mappings_alone};
+ghost use Rattle.regress_unicode.specs.Parts.{mappings_alone};
+ghost use Rattle.regress_unicode.specs.ValidEntries.{AreValidEntries};
 ghost use Rattle.regress_unicode.specs.ConstructionErrors.{IsFirstError, position};
 
 use super::checks::{
@@ -40,7 +41,8 @@ impl Tables {
     ghost use Rattle.std.specs.Prelude.{◌≡◌, ◌≢◌, alloc_error, IfOk, IfErr};
     ghost use Rattle.regress_unicode.specs.declared.tables_error.TablesError.{TablesError as Rejection};
     ghost use Rattle.regress_unicode.specs.declared.tables_error.TablesError.TheVariants.{Memory};
-    ghost use Rattle.regress_unicode.specs.Parts.{parts_from, parts_with, with_unicode_properties, table_from, AreValidEntries, IsSound};
+    ghost use Rattle.regress_unicode.specs.Parts.{parts_from, parts_with, with_unicode_properties, table_from};
+    ghost use Rattle.regress_unicode.specs.ValidEntries.{AreValidEntries, IsSound};
     ghost use Rattle.regress_unicode.specs.ConstructionErrors.{Meets, IsFirstError};
     ghost use Rattle.regress_unicode.specs.TableOf.{table_of};
 

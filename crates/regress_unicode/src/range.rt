@@ -16,7 +16,8 @@ pub struct CodePointRange(u32);
 impl Model for CodePointRange {
     ghost use Rattle.std.specs.Prelude.{◌+◌, ◌-◌, ◌*◌, ◌/◌, ◌%◌};
     ghost use Rattle.std.proofs.Common.{ap, arith};
-    ghost use Rattle.regress_unicode.specs.FoldEntries.{Span, IsPackable};
+    ghost use Rattle.regress_unicode.specs.ValidEntries.{IsPackable};
+    ghost use Rattle.regress_unicode.specs.FoldEntries.{Span};
 
     ghost Value = { Span };
 

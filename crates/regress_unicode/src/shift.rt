@@ -15,7 +15,8 @@ pub(super) struct Shift {
 impl Shift {
     ghost use Rattle.std.specs.Prelude.{◌≡◌, ◌≤◌, IsTrue};
     ghost use Rattle.regress_base.specs.Intervals.{code_point_max};
-    ghost use Rattle.regress_unicode.specs.FoldEntries.{is_target_in_range, moved};
+    ghost use Rattle.regress_unicode.specs.FoldEntries.{moved};
+    ghost use Rattle.regress_unicode.specs.ValidEntries.{is_target_in_range};
     ghost use Rattle.regress_unicode.specs.Shifts.{IsShift, is_mapped, forward, backward};
 
     /// Returns the shift of an entry, from the code points of its range to what they are mapped to.

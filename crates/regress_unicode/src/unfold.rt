@@ -2,7 +2,8 @@
 ghost use Rattle.std.specs.Prelude.{◌≡◌, ◌<◌, ◌≤◌, ◌==◌, ◌||◌, ℕ, length, get_or, IsTrue, IfOk, OnOk};
 ghost use Rattle.std.specs.List.{AllWithin, insert};
 ghost use Rattle.regress_base.specs.Intervals.{code_point_max};
-ghost use Rattle.regress_unicode.specs.FoldEntries.{mapped, is_in_order, are_targets_in_range};
+ghost use Rattle.regress_unicode.specs.FoldEntries.{mapped};
+ghost use Rattle.regress_unicode.specs.ValidEntries.{is_in_order, are_targets_in_range};
 ghost use Rattle.regress_base.specs.Listing.{lists, is_ascending, IsListing};
 ghost use Rattle.regress_base.specs.Table.{denotes};
 ghost use Rattle.regress_unicode.specs.LaterTargets.{HasLaterTargets};

@@ -1,6 +1,6 @@
 //! Calls on a caller's own tables, and on packed ranges.
 ghost use Rattle.std.specs.Prelude.{IfSome};
-ghost use Rattle.regress_unicode.specs.FoldEntries.{IsModulo};
+ghost use Rattle.regress_unicode.specs.ValidEntries.{IsModulo};
 
 use regress_base::codepointset::CodePointSet;
 use regress_unicode::{CodePointRange, FoldRange, Tables, TablesError};

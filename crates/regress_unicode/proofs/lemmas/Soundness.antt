@@ -11,9 +11,10 @@ use Rattle.regress_base.specs.Listing.{lists}
 use Rattle.regress_base.specs.Table.{HasWordAscii, HasCanonicalSets, HasStrings}
 use Rattle.regress_base.proofs.lemmas.Listings.{All-from_lists, ascending_above, lists-filter, lists-run}
 use Rattle.regress_properties.proofs.lemmas.Properties.{id_start-canonical, id_continue-canonical, id_start-ascii, id_continue-ascii, general_category-canonical, script-canonical, script_extensions-canonical, binary-canonical, strings-valid}
-use Rattle.regress_unicode.specs.FoldEntries.{FoldEntry, is_in_mapping, mapped_in_mapping, mapped, is_in_order_from, is_in_order, are_targets_in_range}
+use Rattle.regress_unicode.specs.FoldEntries.{FoldEntry, is_in_mapping, mapped_in_mapping, mapped}
+use Rattle.regress_unicode.specs.ValidEntries.{is_in_order_from, is_in_order, are_targets_in_range, AreValidEntries, IsSound}
 use Rattle.regress_unicode.specs.Moves.{run, codes, moves, mapped_code_points, targets, count_of}
-use Rattle.regress_unicode.specs.Parts.{Parts, AreValidEntries, IsSound, with_unicode_properties}
+use Rattle.regress_unicode.specs.Parts.{Parts, with_unicode_properties}
 use Rattle.regress_unicode.proofs.ListLemmas.{order_parts}
 use Rattle.regress_unicode.proofs.CaseMapLemmas.{All-lists, ascending_codes, case_map, idempotent_from_movers, lists-map, small_from_targets}
 

@@ -1,7 +1,7 @@
 use Rattle.std.proofs.Common.{rules, subst, map}
 use Rattle.std.specs.List.Sorted.{IsPermutation}
 use Rattle.std.proofs.lemmas.List.Sorted.{IsPermutation-map, IsNonDecreasingBy-from_sort_by_key}
-use Rattle.regress_match.specs.Names.{capture_of}
+use Rattle.regress_match.specs.Pattern.{capture_of}
 use Rattle.regress_match.proofs.names.groups.Goals as goal
 
 pub returns-clause-all : goal.returns-clause-all

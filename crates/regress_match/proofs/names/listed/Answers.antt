@@ -4,7 +4,7 @@ use Rattle.regress_tree.specs.Tree.{tree}
 use Rattle.regress_tree.proofs.lemmas.Gathered.{visited_adds, gathered-groups}
 use Rattle.regress_tree.specs.WellFormed.{Capture}
 use Rattle.regress_match.specs.Listing.{Lists}
-use Rattle.regress_match.specs.Names.{capture_of}
+use Rattle.regress_match.specs.Pattern.{capture_of}
 use Rattle.regress_match.specs.declared.names.Group.{Group}
 use Rattle.regress_match.proofs.NamesLemmas.{adds_none, adds_both}
 use Rattle.regress_match.proofs.names.listed.Goals as goal

@@ -3,7 +3,7 @@ use Rattle.std.proofs.lemmas.Result.{err_from_is_err_and}
 use Rattle.regress_tree.specs.declared.ir.node.Regex.{Regex}
 use Rattle.regress_lexer.specs.declared.dialect.Dialect.TheVariants.{Regress}
 use Rattle.regress_syntax.specs.Meaning.{setting_of}
-use Rattle.regress_parse.specs.Accepted.{IsTrueOf, MayExceed}
+use Rattle.regress_parse.specs.Rejected.{IsTrueOf, MayExceed}
 use Rattle.regress_parse.proofs.FaultLemmas.{rejected_unplaced, reports_unplaced}
 use Rattle.regress_parse.proofs.pattern.try_parse.Goals as goal
 

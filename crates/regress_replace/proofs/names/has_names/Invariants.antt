@@ -1,6 +1,6 @@
 -- The groups so far have no name.
 use Rattle.std.proofs.Common.{◌≡◌, drop, map}
-use Rattle.regress_match.specs.Names.{capture_of}
+use Rattle.regress_match.specs.Pattern.{capture_of}
 use Rattle.regress_replace.specs.Expansion.{any_named}
 use Rattle.regress_replace.proofs.names.has_names.Given as goal
 

@@ -1,5 +1,5 @@
 use Rattle.std.proofs.Common.{map, string_bytes}
-use Rattle.regress_match.specs.Names.{capture_of}
+use Rattle.regress_match.specs.Pattern.{capture_of}
 use Rattle.regress_replace.specs.Expansion.{expansion}
 use Rattle.std.proofs.lemmas.Str.{IsCharBoundary-start}
 use Rattle.regress_replace.proofs.lemmas.Order.{before_next}

@@ -1,6 +1,6 @@
 -- What is appended and the rest of the text, with the remaining matches replaced, are together what is wanted.
 use Rattle.std.proofs.Common.{◌≡◌, ◌++◌, drop, map, string_bytes}
-use Rattle.regress_match.specs.Names.{capture_of}
+use Rattle.regress_match.specs.Pattern.{capture_of}
 use Rattle.regress_replace.specs.Expansion.{expansion}
 use Rattle.regress_replace.specs.Replaced.{replaced}
 use Rattle.regress_replace.proofs.lemmas.Order.{IsBefore}

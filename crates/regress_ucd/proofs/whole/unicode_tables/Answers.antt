@@ -1,7 +1,8 @@
 -- The case mappings are those of the constants, which are valid.
 use Rattle.std.proofs.Common.{◌∙◌, ap₂, sym, subst}
 use Rattle.std.proofs.lemmas.Result.{IfOk-weaker}
-use Rattle.regress_unicode.specs.Parts.{AreValidEntries, table_from, with_unicode_properties}
+use Rattle.regress_unicode.specs.Parts.{table_from, with_unicode_properties}
+use Rattle.regress_unicode.specs.ValidEntries.{AreValidEntries}
 use Rattle.regress_ucd.specs.UnicodeTable.{unicode_parts, unicode_table}
 use Rattle.regress_ucd.proofs.ConstantsLemmas.{folds, uppers, valid_folds, valid_uppers}
 use Rattle.regress_ucd.proofs.WholeLemmas.{no_table}

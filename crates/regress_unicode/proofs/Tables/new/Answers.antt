@@ -2,7 +2,8 @@
 use Rattle.std.proofs.Common.{◌≡◌, List, String, Global, true, sym, subst, ap, ◌∙◌}
 use Rattle.std.proofs.lemmas.Result.{err_from_is_err_and}
 use Rattle.std.specs.List.{list_all}
-use Rattle.regress_unicode.specs.Parts.{AreValidEntries, parts_from, sets_of}
+use Rattle.regress_unicode.specs.Parts.{parts_from, sets_of}
+use Rattle.regress_unicode.specs.ValidEntries.{AreValidEntries}
 use Rattle.regress_base.specs.Table.{is_string, HasCanonicalSets}
 use Rattle.regress_base.specs.Intervals.{Bounds}
 use Rattle.regress_unicode.proofs.CaseMapLemmas.{case_map}

@@ -1,6 +1,7 @@
 -- The parts are those of the small table, which satisfies the invariants of tables.
 use Rattle.std.proofs.Common.{◌∙◌, ap, sym, subst}
-use Rattle.regress_unicode.specs.Parts.{IsSound, table_from}
+use Rattle.regress_unicode.specs.Parts.{table_from}
+use Rattle.regress_unicode.specs.ValidEntries.{IsSound}
 use Rattle.regress_unicode.specs.SmallTable.{small_table}
 use Rattle.regress_unicode.proofs.SmallTableLemmas.{small_from, small_sound}
 use Rattle.regress_unicode.proofs.Tables.small.Goals as goal

@@ -1,6 +1,7 @@
 -- The parts are those of Unicode with the case mappings, and are valid.
 use Rattle.std.proofs.Common.{◌∙◌, ap, sym, subst}
-use Rattle.regress_unicode.specs.Parts.{IsSound, table_from}
+use Rattle.regress_unicode.specs.Parts.{table_from}
+use Rattle.regress_unicode.specs.ValidEntries.{IsSound}
 use Rattle.regress_unicode.proofs.UnicodePartsLemmas.{unicode_from}
 use Rattle.regress_unicode.proofs.lemmas.Soundness.{unicode_sound}
 use Rattle.regress_unicode.proofs.Tables.with_unicode_properties.Goals as goal

@@ -2,7 +2,8 @@
 use Rattle.std.proofs.Common.{◌≡◌, ℕ, ◌+◌, ◌<◌, ◌≤◌, ◌||◌, ◌∙◌, IsTrue, length, le_refl, refl, sym, ap, subst, arith}
 use Rattle.std.proofs.lemmas.Bool.{eqb-true}
 use Rattle.regress_base.specs.Intervals.{Bounds, is_member}
-use Rattle.regress_unicode.specs.FoldEntries.{FoldEntry, is_target_in_range}
+use Rattle.regress_unicode.specs.FoldEntries.{FoldEntry}
+use Rattle.regress_unicode.specs.ValidEntries.{is_target_in_range}
 use Rattle.regress_unicode.specs.Shifts.{forward}
 use Rattle.regress_unicode.proofs.ListLemmas.{target_at}
 use Rattle.regress_unicode.proofs.ShiftLemmas.{mappings_more}

@@ -1,7 +1,8 @@
 -- The search compares each entry with `c`, and the results do not decrease.
 use Rattle.std.proofs.Common.{ap, sym, subst, ◌∙◌, get_or, IsTrue, rules}
 use Rattle.std.proofs.lemmas.Fn.{always_returns_same}
-use Rattle.regress_unicode.specs.FoldEntries.{FoldEntry, is_in_mapping, mapped_in_mapping, is_target_in_range}
+use Rattle.regress_unicode.specs.FoldEntries.{FoldEntry, is_in_mapping, mapped_in_mapping}
+use Rattle.regress_unicode.specs.ValidEntries.{is_target_in_range}
 use Rattle.regress_unicode.proofs.ListLemmas.{position_of_mapping, mapping-Equal, mapped_at, target_at, not_found_mapped}
 use Rattle.regress_unicode.proofs.mapping.mapped.Goals as goal
 

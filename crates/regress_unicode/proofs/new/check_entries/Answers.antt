@@ -4,7 +4,8 @@ use Rattle.std.proofs.lemmas.Result.{IfOk-weaker, IfErr-weaker, err_from_is_err_
 use Rattle.regress_unicode.specs.declared.tables_error.Which.TheVariants.{Fold, Upper}
 use Rattle.regress_unicode.specs.declared.tables_error.TablesError.TheVariants.{NotIdempotent, ClassTooLarge, Memory}
 use Rattle.regress_unicode.specs.Moves.{count_of}
-use Rattle.regress_unicode.specs.Parts.{Parts, AreValidEntries, mappings_alone}
+use Rattle.regress_unicode.specs.Parts.{Parts, mappings_alone}
+use Rattle.regress_unicode.specs.ValidEntries.{AreValidEntries}
 use Rattle.regress_unicode.specs.ConstructionErrors.{position, IsFirstError}
 use Rattle.regress_unicode.proofs.CaseMapLemmas.{small_classes_from, large_classes_from}
 use Rattle.regress_unicode.proofs.ConstructionErrorLemmas.{meets_five, meets_six, meets_seven, reported}

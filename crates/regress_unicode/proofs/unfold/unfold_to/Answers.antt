@@ -2,7 +2,8 @@
 use Rattle.std.proofs.Common.{◌<◌, ℕ, false, ◌==◌, ◌&&◌, ◌||◌, ◌∙◌, nat_le, IsTrue, List, le_refl, sym, ap, subst, refl, arith}
 use Rattle.std.proofs.lemmas.List.{take_all}
 use Rattle.regress_base.specs.Intervals.{code_point_max}
-use Rattle.regress_unicode.specs.FoldEntries.{FoldEntry, is_target_in_range}
+use Rattle.regress_unicode.specs.FoldEntries.{FoldEntry}
+use Rattle.regress_unicode.specs.ValidEntries.{is_target_in_range}
 use Rattle.regress_base.specs.Listing.{is_ascending}
 use Rattle.regress_base.proofs.lemmas.Listings.{listed_source}
 use Rattle.regress_unicode.proofs.ListLemmas.{target_at}

@@ -1,6 +1,6 @@
 use Rattle.std.proofs.Common.{◌≡◌, map, string_bytes, subst}
 use Rattle.std.specs.Prelude.{IfOk}
-use Rattle.regress_match.specs.Names.{capture_of}
+use Rattle.regress_match.specs.Pattern.{capture_of}
 use Rattle.regress_replace.specs.Expansion.{expansion}
 use Rattle.regress.specs.Compiled.{match_of}
 use Rattle.regress.proofs.pattern.Regex.expand.Goals as goal

@@ -1,5 +1,5 @@
 use Rattle.std.proofs.Common.{ap₂, arith, map, ◌∙◌}
-use Rattle.regress_match.specs.Names.{capture_of}
+use Rattle.regress_match.specs.Pattern.{capture_of}
 use Rattle.regress_replace.specs.Expansion.{expansion}
 use Rattle.regress_replace.specs.Replaced.{replaced}
 use Rattle.regress.proofs.pattern.Regex.replacen.Goals as goal

@@ -1,6 +1,6 @@
 use Rattle.std.proofs.Common.{◌∙◌, ◌++◌, ap, map, string_bytes, sym, rules, lit<}
 use Rattle.std.proofs.lemmas.Str.Pattern.{split_parts}
-use Rattle.regress_match.specs.Names.{capture_of}
+use Rattle.regress_match.specs.Pattern.{capture_of}
 use Rattle.regress_replace.proofs.TemplateLemmas.{appended-last, appended-plain, expansion-last}
 use Rattle.regress_replace.proofs.context.Context.expand.Goals as goal
 

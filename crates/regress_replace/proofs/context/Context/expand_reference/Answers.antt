@@ -1,6 +1,6 @@
 use Rattle.std.proofs.Common.{◌≡◌, map, string_bytes, refl, lit<}
 use Rattle.std.proofs.lemmas.Str.Pattern.{starts_char}
-use Rattle.regress_match.specs.Names.{capture_of}
+use Rattle.regress_match.specs.Pattern.{capture_of}
 use Rattle.regress_replace.specs.Expansion.{expansion_with}
 use Rattle.regress_replace.proofs.TemplateLemmas.{appended-reference, appended-dollar, expansion-unnamed}
 use Rattle.regress_replace.proofs.context.Context.expand_reference.Goals as goal

@@ -1,6 +1,6 @@
 use Rattle.std.proofs.Common.{map}
 use Rattle.regress_found.specs.Found.{state_of}
-use Rattle.regress_match.specs.Names.{capture_of}
+use Rattle.regress_match.specs.Pattern.{capture_of}
 use Rattle.regress_replace.proofs.NameLemmas.{named_inside}
 use Rattle.regress_replace.proofs.context.Context.value.Goals as goal
 

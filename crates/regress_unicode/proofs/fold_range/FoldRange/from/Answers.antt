@@ -1,7 +1,7 @@
 -- Unpacking a packed entry gives the entry.
 use Rattle.std.proofs.Common.{◌≡◌, ℕ, ◌+◌, ◌-◌, ◌<◌, pos, unsigned_abs, ap, arith}
 use Rattle.std.specs.Int.{int_rem_euclid}
-use Rattle.regress_unicode.specs.FoldEntries.{IsModulo}
+use Rattle.regress_unicode.specs.ValidEntries.{IsModulo}
 use Rattle.regress_unicode.proofs.PackingLemmas.{IsModulo-small, packed, delta_of_packed, mask_of_packed}
 use Rattle.regress_unicode.proofs.fold_range.FoldRange.from.Goals as goal
 
