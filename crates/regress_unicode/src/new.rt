@@ -41,7 +41,7 @@ impl Tables {
     ghost use Rattle.std.specs.Prelude.{◌≡◌, ◌≢◌, alloc_error, IfOk, IfErr};
     ghost use Rattle.regress_unicode.specs.declared.tables_error.TablesError.{TablesError as Rejection};
     ghost use Rattle.regress_unicode.specs.declared.tables_error.TablesError.TheVariants.{Memory};
-    ghost use Rattle.regress_unicode.specs.Parts.{parts_from, parts_with, with_unicode_properties, table_from};
+    ghost use Rattle.regress_unicode.specs.Parts.{parts_from, with_unicode_properties, table_from};
     ghost use Rattle.regress_unicode.specs.ValidEntries.{AreValidEntries, IsSound};
     ghost use Rattle.regress_unicode.specs.ConstructionErrors.{Meets, IsFirstError};
     ghost use Rattle.regress_unicode.specs.TableOf.{table_of};
@@ -144,18 +144,22 @@ impl Tables {
         requires { IsSound (parts_from folds.items uppers.items id_start id_continue general_category.items script.items script_extensions.items binary.items strings.items) }
         ensures { table_of result ≡ table_from (parts_from folds.items uppers.items id_start id_continue general_category.items script.items script_extensions.items binary.items strings.items) }
     {
-        Tables::from_parts(
+        let later_folds = later_targets(&folds);
+        let later_uppers = later_targets(&uppers);
+        Tables {
             folds,
             uppers,
+            later_folds,
+            later_uppers,
             id_start,
             id_continue,
-            false,
+            whole: false,
             general_category,
             script,
             script_extensions,
             binary,
             strings,
-        )
+        }
     }
 
     /// Returns the table with these case mappings, and with the characters of identifiers and the properties of
@@ -175,51 +179,21 @@ impl Tables {
         requires uppers { AreValidEntries uppers.items }
         ensures { IfOk result (λ tables. table_of tables ≡ table_from (with_unicode_properties folds.items uppers.items)) }
     {
-        Ok(Tables::from_parts(
-            folds,
-            uppers,
-            regress_properties::id_start(alloc)?,
-            regress_properties::id_continue(alloc)?,
-            true,
-            Vec::new(alloc),
-            Vec::new(alloc),
-            Vec::new(alloc),
-            Vec::new(alloc),
-            Vec::new(alloc),
-        ))
-    }
-
-    /// Returns the table with these parts, or if `whole` with the properties of Unicode in place of theirs.
-    fn from_parts(
-        folds: Vec<FoldRange>,
-        uppers: Vec<FoldRange>,
-        id_start: CodePointSet,
-        id_continue: CodePointSet,
-        whole: bool,
-        general_category: Vec<(String, CodePointSet)>,
-        script: Vec<(String, CodePointSet)>,
-        script_extensions: Vec<(String, CodePointSet)>,
-        binary: Vec<(String, CodePointSet)>,
-        strings: Vec<(String, Vec<Vec<u32>>)>,
-    ) -> Tables
-        requires { IsSound (parts_with whole (parts_from folds.items uppers.items id_start id_continue general_category.items script.items script_extensions.items binary.items strings.items)) }
-        ensures { table_of result ≡ table_from (parts_with whole (parts_from folds.items uppers.items id_start id_continue general_category.items script.items script_extensions.items binary.items strings.items)) }
-    {
         let later_folds = later_targets(&folds);
         let later_uppers = later_targets(&uppers);
-        Tables {
+        Ok(Tables {
             folds,
             uppers,
             later_folds,
             later_uppers,
-            id_start,
-            id_continue,
-            whole,
-            general_category,
-            script,
-            script_extensions,
-            binary,
-            strings,
-        }
+            id_start: regress_properties::id_start(alloc)?,
+            id_continue: regress_properties::id_continue(alloc)?,
+            whole: true,
+            general_category: Vec::new(alloc),
+            script: Vec::new(alloc),
+            script_extensions: Vec::new(alloc),
+            binary: Vec::new(alloc),
+            strings: Vec::new(alloc),
+        })
     }
 }
