@@ -30,6 +30,15 @@ pub struct Class {
     pub set: CodePointSet,
 }
 
+/// The context of a part of a class.
+#[derive(Clone, Copy)]
+struct ClassContext<'a> {
+    tables: &'a Tables,
+    parameters: &'a Parameters,
+    /// The number of code points that remained before the `[` of the class.
+    opened: usize,
+}
+
 /// Parses a class after its `[` (ECMA-262, CharacterClass, with annex B).
 ///
 /// `opened` is the number of code points that remained before the `[`. Afterwards `cursor` is
@@ -53,24 +62,24 @@ pub fn parse_class(
     ensures kind { FailsByNoLimit result }
 {
     let inverted = cursor.try_consume('^');
-    let set = parse_parts(cursor, tables, parameters, opened)?;
+    let around = ClassContext {
+        tables,
+        parameters,
+        opened,
+    };
+    let set = parse_parts(cursor, &around)?;
     Ok(Class { inverted, set })
 }
 
 /// Parses the parts of a class and the `]` after them.
-fn parse_parts(
-    cursor: &mut Cursor,
-    tables: &Tables,
-    parameters: &Parameters,
-    opened: usize,
-) -> Result<CodePointSet, Fault>
+fn parse_parts(cursor: &mut Cursor, around: &ClassContext) -> Result<CodePointSet, Fault>
     ensures value { let t = source cursor.old in
-        ParsesAs (λ set members. HasMembers members set) (source cursor.new) result (class_parts_by (table_of tables.now) parameters.now (length t + 1) t) }
+        ParsesAs (λ set members. HasMembers members set) (source cursor.new) result (class_parts_by (table_of around.now.tables.now) around.now.parameters.now (length t + 1) t) }
     ensures kind { FailsByNoLimit result }
 {
     let mut gathered = IntervalCollector::new(cursor.alloc);
     while !cursor.is_at(']') {
-        parse_part(cursor, tables, parameters, opened, &mut gathered)?;
+        parse_part(cursor, around, &mut gathered)?;
     }
     cursor.try_consume(']');
     Ok(gathered.into_set()?)
@@ -79,19 +88,17 @@ fn parse_parts(
 /// Parses an atom or a range, and adds its members.
 fn parse_part(
     cursor: &mut Cursor,
-    tables: &Tables,
-    parameters: &Parameters,
-    opened: usize,
+    around: &ClassContext,
     set: &mut IntervalCollector,
 ) -> Result<(), Fault>
-    ensures value { ParsesAs (λ _ members. Adds members set.old set.new) (source cursor.new) result (class_part_at (table_of tables.now) parameters.now (source cursor.old)) }
+    ensures value { ParsesAs (λ _ members. Adds members set.old set.new) (source cursor.new) result (class_part_at (table_of around.now.tables.now) around.now.parameters.now (source cursor.old)) }
     ensures kind { FailsByNoLimit result }
 {
     if let Some(interval) = take_plain_part(cursor) {
         set.add(interval)?;
         return Ok(());
     }
-    read_any_part(cursor, tables, parameters, opened, set)
+    read_any_part(cursor, around, set)
 }
 
 /// Consumes a literal code point, or a range of two literal code points, if one is next. Most parts are such.
@@ -135,18 +142,16 @@ fn is_literal(c: u32) -> bool
 /// Parses an atom or a range of any kind, and adds its members.
 fn read_any_part(
     cursor: &mut Cursor,
-    tables: &Tables,
-    parameters: &Parameters,
-    opened: usize,
+    around: &ClassContext,
     set: &mut IntervalCollector,
 ) -> Result<(), Fault>
-    ensures value { ParsesAs (λ _ members. Adds members set.old set.new) (source cursor.new) result (class_part_at (table_of tables.now) parameters.now (source cursor.old)) }
+    ensures value { ParsesAs (λ _ members. Adds members set.old set.new) (source cursor.new) result (class_part_at (table_of around.now.tables.now) around.now.parameters.now (source cursor.old)) }
     ensures kind { FailsByNoLimit result }
 {
     let left = cursor.rest.len();
-    let first = read_class_atom(cursor, tables, parameters, opened)?;
+    let first = read_class_atom(cursor, around.tables, around.parameters, around.opened)?;
     if try_consume_hyphen(cursor) {
-        read_range(cursor, tables, parameters, opened, first, left, set)
+        read_range(cursor, around, first, left, set)
     } else {
         add_atom(set, cursor.alloc, first)?;
         Ok(())
@@ -177,38 +182,43 @@ fn begins_range(source: &[u32]) -> bool
 /// points that remained at its first atom.
 fn read_range(
     cursor: &mut Cursor,
-    tables: &Tables,
-    parameters: &Parameters,
-    opened: usize,
+    around: &ClassContext,
     first: ClassAtom,
     left: usize,
     set: &mut IntervalCollector,
 ) -> Result<(), Fault>
     requires { IsClassAtomInRange first }
-    ensures value { ParsesAs (λ _ members. Adds members set.old set.new) (source cursor.new) result (range_at (table_of tables.now) parameters.now (class_atom_of first) (source cursor.old)) }
+    ensures value { ParsesAs (λ _ members. Adds members set.old set.new) (source cursor.new) result (range_at (table_of around.now.tables.now) around.now.parameters.now (class_atom_of first) (source cursor.old)) }
     ensures kind { FailsByNoLimit result }
 {
-    let last = read_class_atom(cursor, tables, parameters, opened)?;
-    add_range(set, cursor.alloc, parameters.unicode, left, first, last)
+    let last = read_class_atom(cursor, around.tables, around.parameters, around.opened)?;
+    let range = ClassRange { first, last };
+    add_range(set, cursor.alloc, around.parameters.unicode, left, range)
 }
 
-/// Adds the members of two atoms with a hyphen between them. `left` is the number of code points that remained at the
-/// first.
+/// Two atoms with a hyphen between them.
+#[derive(Drop)]
+struct ClassRange {
+    first: ClassAtom,
+    last: ClassAtom,
+}
+
+/// Adds the members of a range. `left` is the number of code points that remained at its first atom.
 fn add_range(
     set: &mut IntervalCollector,
     alloc: Global,
     unicode: bool,
     left: usize,
-    first: ClassAtom,
-    last: ClassAtom,
+    range: ClassRange,
 ) -> Result<(), Fault>
-    requires first_in_range { IsClassAtomInRange first }
-    requires last_in_range { IsClassAtomInRange last }
+    requires first_in_range { IsClassAtomInRange range.first }
+    requires last_in_range { IsClassAtomInRange range.last }
     ensures ok { OnOk result ((members : List Bounds)
-        × (range_of unicode (class_atom_of first) (class_atom_of last) ≡ Some members) × Adds members set.old set.new) }
-    ensures err { FailsOnlyIf result (range_of unicode (class_atom_of first) (class_atom_of last) ≡ None) }
+        × (range_of unicode (class_atom_of range.first) (class_atom_of range.last) ≡ Some members) × Adds members set.old set.new) }
+    ensures err { FailsOnlyIf result (range_of unicode (class_atom_of range.first) (class_atom_of range.last) ≡ None) }
     ensures kind { FailsByNoLimit result }
 {
+    let ClassRange { first, last } = range;
     if let (ClassAtom::Point(a), ClassAtom::Point(b)) = (&first, &last) {
         if a > b {
             return Err(rejected(left, FaultKind::ReversedRange));

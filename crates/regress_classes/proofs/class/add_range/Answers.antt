@@ -16,8 +16,8 @@ returns-in-Point-Point-clause-ok c = (
 
 pub returns-clause-ok : goal.returns-clause-ok
 returns-clause-ok c =
-    let first : List Bounds = atom_members (class_atom_of c.args.first) in
-    let last : List Bounds = atom_members (class_atom_of c.args.last) in
+    let first : List Bounds = atom_members (class_atom_of c.args.range.first) in
+    let last : List Bounds = atom_members (class_atom_of c.args.range.last) in
     let old = c.args.set.now in
     let second = c.add_atom-2.new.set in (
       (first ++ one_point 45) ++ last,

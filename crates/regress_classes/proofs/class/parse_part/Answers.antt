@@ -12,12 +12,12 @@ use Rattle.regress_classes.proofs.class.parse_part.Goals as goal
 pub returns-in-Some-clause-value : goal.returns-in-Some-clause-value
 returns-in-Some-clause-value c = (
   c.in-Some.interval ∷ [],
-  c.in-Some.ensures.some (table_of c.args.tables.now) c.args.parameters.now,
+  c.in-Some.ensures.some (table_of c.args.around.now.tables.now) c.args.around.now.parameters.now,
   adds_one c.in-Some.interval c.args.set.now c.add.new.self c.in_ok-add.ensures,
 )
 
 pub returns-clause-value : goal.returns-clause-value
 returns-clause-value c =
     subst (λ (t : Source). ParsesAs (λ _ members. Adds members c.args.set.now c.read_any_part.new.set) (source c.read_any_part.new.cursor)
-    c.read_any_part.result (class_part_at (table_of c.args.tables.now) c.args.parameters.now t))
+    c.read_any_part.result (class_part_at (table_of c.args.around.now.tables.now) c.args.around.now.parameters.now t))
     c.in_default.ensures.none c.read_any_part.ensures.value

@@ -11,7 +11,7 @@ use Rattle.regress_classes.proofs.class.read_any_part.Goals as goal
 pub returns-in_ok-add_atom-clause-value : goal.returns-in_ok-add_atom-clause-value
 returns-in_ok-add_atom-clause-value c = (
   atom_members (class_atom_of c.in_ok-first.first),
-  alone_read (table_of c.args.tables.now) c.args.parameters.now (source c.args.cursor.now) (source c.read_class_atom.new.cursor) (class_atom_of c.in_ok-first.first)
+  alone_read (table_of c.args.around.now.tables.now) c.args.around.now.parameters.now (source c.args.cursor.now) (source c.read_class_atom.new.cursor) (class_atom_of c.in_ok-first.first)
       c.in_ok-first.ensures.value (sym c.if-try_consume_hyphen.ensures.found)
       ∙ ap (λ (rest : Source). Some (atom_members (class_atom_of c.in_ok-first.first), rest)) (sym c.if-try_consume_hyphen.ensures.moves),
   c.in_ok-add_atom.ensures,
