@@ -15,11 +15,12 @@ mod token;
 
 use crate::groups::Groups;
 pub use first_errors::FirstErrors;
+use first_errors::Place;
 use regress_lexer::fault::Fault;
 use regress_unicode::Tables;
 use scanner::Scanner;
 use std::alloc::Global;
-use token::{Mode, find_token, skip_insignificant};
+use token::{Mode, TokenContext, find_token, skip_insignificant};
 
 /// What the scan of a pattern finds.
 #[derive(Drop)]
@@ -82,14 +83,19 @@ fn find_groups(
     ensures located { FailsAt result (IsLocated sets pattern.now) }
     ensures duplicate { FailsAt result (IsAtDuplicate sets (table_of tables.now) pattern.now) }
 {
+    let context = TokenContext { sets, tables };
     let mut scanner = Scanner::new(alloc)?;
     let mut first_errors = FirstErrors::none();
     let mut mode = Mode::Plain;
     let mut rest = pattern;
     while let Some((c, after)) = skip_insignificant(rest).split_first() {
         let left = after.len() + 1;
-        first_errors.note(mode, scanner.nesting(), *c, sets, left);
-        if let Some(token) = find_token(alloc, mode, *c, after, sets, tables)? {
+        let place = Place {
+            mode,
+            nesting: scanner.nesting(),
+        };
+        first_errors.note(place, *c, sets, left);
+        if let Some(token) = find_token(alloc, context, mode, *c, after)? {
             scanner.pass(token, left)?;
         }
         mode = mode.after(*c, sets);

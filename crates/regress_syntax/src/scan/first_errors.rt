@@ -18,6 +18,14 @@ pub struct FirstErrors {
     pub(crate) too_deep: Option<usize>,
 }
 
+/// Where a code point is.
+#[derive(Clone, Copy)]
+pub(super) struct Place {
+    pub(super) mode: Mode,
+    /// The number of open groups, the whole pattern included.
+    pub(super) nesting: usize,
+}
+
 impl FirstErrors {
     /// Returns a value in which nothing is noted.
     pub(super) fn none() -> FirstErrors
@@ -30,17 +38,13 @@ impl FirstErrors {
     }
 
     /// Notes the code point `c`, which begins no escape, if it is one of these errors. `left` is the number of code
-    /// points that remain from it on, and `nesting` the number of open groups, the whole pattern included.
-    pub(super) fn note(&mut self, mode: Mode, nesting: usize, c: u32, sets: bool, left: usize)
+    /// points that remain from it on.
+    pub(super) fn note(&mut self, place: Place, c: u32, sets: bool, left: usize)
         ensures { (flaw : Flaw) → noted flaw self.new
-            ≡ option_or (noted flaw self.old) (if is_flaw flaw sets (mode_of mode) nesting c then Some left else None) }
+            ≡ option_or (noted flaw self.old) (if is_flaw flaw sets (mode_of place.mode) place.nesting c then Some left else None) }
     {
-        note_first(&mut self.unopened, is_unopened(mode, nesting, c), left);
-        note_first(
-            &mut self.too_deep,
-            is_too_deep(mode, nesting, c, sets),
-            left,
-        );
+        note_first(&mut self.unopened, is_unopened(place, c), left);
+        note_first(&mut self.too_deep, is_too_deep(place, c, sets), left);
     }
 
     /// Returns `fault` with the position that was noted for its kind, or unchanged if none was.
@@ -77,24 +81,24 @@ fn note_first(position: &mut Option<usize>, is_one: bool, left: usize)
 }
 
 /// Whether `c` is a `)` that closes nothing.
-fn is_unopened(mode: Mode, nesting: usize, c: u32) -> bool
-    ensures { (sets : Bool) → result ≡ is_flaw unopened sets (mode_of mode) nesting c }
+fn is_unopened(place: Place, c: u32) -> bool
+    ensures { (sets : Bool) → result ≡ is_flaw unopened sets (mode_of place.mode) place.nesting c }
 {
-    match mode {
-        Mode::Plain => c == u32::from(')') && nesting == 1,
+    match place.mode {
+        Mode::Plain => c == u32::from(')') && place.nesting == 1,
         Mode::Class { .. } => false,
     }
 }
 
 /// Whether `c` nests the pattern deeper than the limit.
-fn is_too_deep(mode: Mode, nesting: usize, c: u32, sets: bool) -> bool
-    ensures { result ≡ is_flaw too_deep sets (mode_of mode) nesting c }
+fn is_too_deep(place: Place, c: u32, sets: bool) -> bool
+    ensures { result ≡ is_flaw too_deep sets (mode_of place.mode) place.nesting c }
 {
     let most = MAX_NESTING_DEPTH as usize;
-    match mode {
-        Mode::Plain => c == u32::from('(') && nesting >= most,
+    match place.mode {
+        Mode::Plain => c == u32::from('(') && place.nesting >= most,
         Mode::Class { depth, .. } => {
-            sets && c == u32::from('[') && nesting.saturating_add(depth) >= most
+            sets && c == u32::from('[') && place.nesting.saturating_add(depth) >= most
         }
     }
 }

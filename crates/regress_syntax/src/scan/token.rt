@@ -25,6 +25,14 @@ pub(super) enum Mode {
     },
 }
 
+/// What determines the marks of a pattern, besides its source.
+#[derive(Clone, Copy)]
+pub(super) struct TokenContext<'a> {
+    /// The flag v, with which classes nest.
+    pub(super) sets: bool,
+    pub(super) tables: &'a Tables,
+}
+
 /// A parenthesis, a `|`, or, with the flag v, a whole class.
 #[derive(Drop)]
 pub(super) enum GroupToken {
@@ -115,19 +123,20 @@ pub(super) fn skip_insignificant(source: &[u32]) -> &[u32]
 /// Returns the mark that the code point `c` is, if it is one; `after` is the source after it.
 pub(super) fn find_token(
     alloc: Global,
+    context: TokenContext,
     mode: Mode,
     c: u32,
     after: &[u32],
-    sets: bool,
-    tables: &Tables,
 ) -> Result<Option<GroupToken>, AllocError>
-    ensures { IfOk result (λ token. option_map token_of token ≡ token_at sets (table_of tables.now) (mode_of mode) c after.now) }
+    ensures { IfOk result (λ token. option_map token_of token ≡ token_at context.entry.sets (table_of context.entry.tables.now) (mode_of mode) c after.now) }
 {
     Ok(match (mode, char::from_u32(c)) {
-        (Mode::Plain, Some('(')) => Some(read_opening(alloc, after, tables)?),
+        (Mode::Plain, Some('(')) => Some(read_opening(alloc, after, context.tables)?),
         (Mode::Plain, Some(')')) => Some(GroupToken::Closes),
         (Mode::Plain, Some('|')) => Some(GroupToken::Next),
-        (Mode::Class { depth: 0, deepest }, Some(']')) if sets => Some(GroupToken::Nests(deepest)),
+        (Mode::Class { depth: 0, deepest }, Some(']')) if context.sets => {
+            Some(GroupToken::Nests(deepest))
+        }
         _ => None,
     })
 }

@@ -15,5 +15,5 @@ each is first deep left old a b e k h j too_deep = j ∙ ap (λ (q : Bool). opti
 
 pub returns : goal.returns
 returns c =
-    each (λ flaw. is_flaw flaw c.args.sets (mode_of c.args.mode) c.args.nesting c.args.c) _ _ c.args.left c.args.self.now _ _
+    each (λ flaw. is_flaw flaw c.args.sets (mode_of c.args.place.mode) c.args.place.nesting c.args.c) _ _ c.args.left c.args.self.now _ _
     (c.is_unopened.ensures c.args.sets) c.is_too_deep.ensures c.note_first.ensures c.note_first-2.ensures
