@@ -157,7 +157,7 @@ impl fmt::Display for Element<'_> {
                 y,
                 text,
                 note,
-            } => write_text(class, x, y, text, note, f),
+            } => write_text(class, (x, y), text, note, f),
             Element::Title(text) => write!(f, "<title>{}</title>", Escaped(text)),
             Element::Description(text) => write!(f, "<desc>{}</desc>", Escaped(text)),
             Element::Style(text) => write!(f, "<style>{}</style>", Escaped(text)),
@@ -181,14 +181,14 @@ fn write_path<W: Write>(
 
 fn write_text<W: Write>(
     class: &str,
-    x: u32,
-    y: u32,
+    point: (u32, u32),
     text: &str,
     note: &str,
     f: &mut Formatter<W>,
 ) -> fmt::Result
-    ensures { WritesOnOk W.write_str_gives f.old result (text_bytes class.now x y text.now note.now) f.new }
+    ensures { WritesOnOk W.write_str_gives f.old result (text_bytes class.now point.0 point.1 text.now note.now) f.new }
 {
+    let (x, y) = point;
     let (class, text) = (Escaped(class), Escaped(text));
     write!(f, "<text class=\"{class}\" x=\"{x}\" y=\"{y}\">{text}")?;
     write_note(note, f)?;
