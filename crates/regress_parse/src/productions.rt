@@ -25,6 +25,15 @@ use regress_syntax::fault::FaultKind;
 use regress_syntax::{Fault, Group, parse_optional_quantifier};
 use regress_tree::ir::Node;
 
+/// Where an item begins.
+#[derive(Clone, Copy)]
+struct ItemStart {
+    /// The number of groups before it.
+    groups: CaptureGroupID,
+    /// The number of code points that remained there.
+    left: usize,
+}
+
 impl Parser<'_> {
     /// Parses alternatives up to a `)` or the end (ECMA-262, Disjunction).
     #[cycle(parser)]
@@ -178,50 +187,50 @@ impl Parser<'_> {
         ensures spans { RECORDS ≡ true → OnOk result
             (RecordsTerm around.now.whole (context_in around.now) (direction_of around.now) (text self.old) self.old.spans.items (text self.new) self.new.spans.items) }
     {
-        let first = self.group_count;
-        let opened = self.cursor.rest.len();
+        let start = ItemStart {
+            groups: self.group_count,
+            left: self.cursor.rest.len(),
+        };
         if try_open(&mut self.cursor) {
             let kind = parse_head(&mut self.cursor, &around.scope)?;
             let allowed = kind.allows_quantifier(around.scope.flags.unicode);
-            let item = self.consume_group::<RECORDS>(kind, opened, around)?;
-            return self.consume_times::<RECORDS>(item, allowed, first, opened, around);
+            let item = self.consume_group::<RECORDS>(kind, start.left, around)?;
+            return self.consume_times::<RECORDS>(item, allowed, start, around);
         }
         let front = self.cursor.rest;
         let left = MAX_NESTING_DEPTH - around.depth;
         let item = parse_atom(&mut self.cursor, &around.scope, left)?;
-        record_nodes::<RECORDS>(&item, &mut self.spans, around, opened, &self.cursor)?;
+        record_nodes::<RECORDS>(&item, &mut self.spans, around, start.left, &self.cursor)?;
         // Most items have no quantifier.
         if !may_begin(self.cursor.rest) {
             return Ok(item);
         }
         let allowed = !begins_lone(front, around.scope.dialect);
-        self.consume_quantifier::<RECORDS>(item, allowed, first, opened, around)
+        self.consume_quantifier::<RECORDS>(item, allowed, start, around)
     }
 
-    /// Parses the quantifier after an item, if there is one (ECMA-262, Quantifier). `first` is the number of groups
-    /// before the item, and `opened` the number of code points that remained there.
+    /// Parses the quantifier after an item, if there is one (ECMA-262, Quantifier).
     #[inline(always)]
     fn consume_times<const RECORDS: bool>(
         &mut self,
         item: Node,
         allowed: bool,
-        first: CaptureGroupID,
-        opened: usize,
+        start: ItemStart,
         around: &PartContext,
     ) -> Result<Node, Fault>
-        ensures value { (x : Item) (before : Counts) → before.groups ≡ first → allowed ≡ allows (context_in around.now) (head_of_item x) →
+        ensures value { (x : Item) (before : Counts) → before.groups ≡ start.groups → allowed ≡ allows (context_in around.now) (head_of_item x) →
             Builds (direction_of around.now) around.now.depth before self.old item (item_part (table_in around.now) (names_in_context around.now) x) (text self.old) →
             Yields (term_part (table_in around.now) (names_in_context around.now)) (direction_of around.now) around.now.depth before self.new result
             (with_quantifier (context_in around.now) (Some (x, text self.old))) }
         ensures reached { FailsBy result (λ kind. Reaches kind (counted self.old) around.now.depth (text self.old)) }
-        ensures spans { (t : Source) (before : List Span) → RECORDS ≡ true → opened ≡ length t →
+        ensures spans { (t : Source) (before : List Span) → RECORDS ≡ true → start.left ≡ length t →
             RecordsItem around.now.whole (context_in around.now) (direction_of around.now) t before (text self.old) self.old.spans.items allowed →
             OnOk result (RecordsTerm around.now.whole (context_in around.now) (direction_of around.now) t before (text self.new) self.new.spans.items) }
     {
         if !may_begin(self.cursor.rest) {
             return Ok(item);
         }
-        self.consume_quantifier::<RECORDS>(item, allowed, first, opened, around)
+        self.consume_quantifier::<RECORDS>(item, allowed, start, around)
     }
 
     /// Parses the quantifier after an item, where one may begin, as [`Self::consume_times`] does.
@@ -230,17 +239,16 @@ impl Parser<'_> {
         &mut self,
         item: Node,
         allowed: bool,
-        first: CaptureGroupID,
-        opened: usize,
+        start: ItemStart,
         around: &PartContext,
     ) -> Result<Node, Fault>
         requires { may_begin (text self.old) ≡ true }
-        ensures value { (x : Item) (before : Counts) → before.groups ≡ first → allowed ≡ allows (context_in around.now) (head_of_item x) →
+        ensures value { (x : Item) (before : Counts) → before.groups ≡ start.groups → allowed ≡ allows (context_in around.now) (head_of_item x) →
             Builds (direction_of around.now) around.now.depth before self.old item (item_part (table_in around.now) (names_in_context around.now) x) (text self.old) →
             Yields (term_part (table_in around.now) (names_in_context around.now)) (direction_of around.now) around.now.depth before self.new result
             (with_quantifier (context_in around.now) (Some (x, text self.old))) }
         ensures reached { FailsBy result (λ kind. Reaches kind (counted self.old) around.now.depth (text self.old)) }
-        ensures spans { (t : Source) (before : List Span) → RECORDS ≡ true → opened ≡ length t →
+        ensures spans { (t : Source) (before : List Span) → RECORDS ≡ true → start.left ≡ length t →
             RecordsItem around.now.whole (context_in around.now) (direction_of around.now) t before (text self.old) self.old.spans.items allowed →
             OnOk result (RecordsTerm around.now.whole (context_in around.now) (direction_of around.now) t before (text self.new) self.new.spans.items) }
     {
@@ -250,8 +258,13 @@ impl Parser<'_> {
             return Ok(item);
         };
         self.count_loop(left)?;
-        record_if::<RECORDS>(true, &mut self.spans, around, opened, &self.cursor)?;
-        Ok(make_loop(self.cursor.alloc, item, quantifier, first..self.group_count)?)
+        record_if::<RECORDS>(true, &mut self.spans, around, start.left, &self.cursor)?;
+        Ok(make_loop(
+            self.cursor.alloc,
+            item,
+            quantifier,
+            start.groups..self.group_count,
+        )?)
     }
 
     /// Parses a group, after the code points that open it. `opened` is the number of code points that remained before

@@ -130,6 +130,6 @@ returns-clause-spans g c t before on opened reads =
     (Some c.in-Some.quantifier) new c.record_if.new.spans.items
     (c.in_ok-times.ensures.value ∙ ap (λ q. Some (q, new)) c.in-Some.is)
     (c.in_ok-record_if.ensures on
-    ∙ ap (λ (ss : List Span). ss ++ span_to around.whole c.args.opened (text counted) ∷ []) same.spans
-    ∙ ap (λ (u : Source). old.spans.items ++ span_to around.whole c.args.opened u ∷ []) same.text
+    ∙ ap (λ (ss : List Span). ss ++ span_to around.whole c.args.start.left (text counted) ∷ []) same.spans
+    ∙ ap (λ (u : Source). old.spans.items ++ span_to around.whole c.args.start.left u ∷ []) same.text
     ∙ ap (λ n. old.spans.items ++ span_to around.whole n new ∷ []) opened))
