@@ -1,20 +1,17 @@
 //! What leaves match, back references among them.
-ghost use Rattle.std.specs.Prelude.{◌≡◌, ◌-◌, if◌then◌else◌, None, get_or, length};
-ghost use Rattle.regress_base.specs.Table.{denotes};
+ghost use Rattle.std.specs.Prelude.{◌≡◌, ◌-◌, None, Some, get_or, length};
 ghost use Rattle.regress_leaves.specs.Leaves.{put};
 ghost use Rattle.regress_leaves.specs.Subject.{subject};
-ghost use Rattle.regress_program.specs.Cost.{blocks, bytes_ahead, compared, copy_cost};
+ghost use Rattle.regress_program.specs.Cost.{bytes_ahead, compared, copy_cost};
 ghost use Rattle.regress_found.specs.Found.{state};
 ghost use Rattle.regress_program.specs.Shape.{IsPart};
 ghost use Rattle.regress_tree.specs.Matching.{steps};
-ghost use Rattle.regress_tree.specs.Reading.{direction_if, of_bytes};
-ghost use Rattle.regress_tree.specs.References.{match_again};
-ghost use Rattle.regress_tree.specs.Steps.{MatchState};
+ghost use Rattle.regress_tree.specs.Reading.{direction_if};
 ghost use Rattle.regress_tree.specs.Tree.{tree};
 
 use crate::blocks::blocks;
 use regress_leaves::leaves::{all_of, exactly, simple_leaf};
-use regress_leaves::references;
+use regress_leaves::references::match_again;
 use regress_leaves::rules::MatchContext;
 use regress_tree::ir::Node;
 
@@ -41,8 +38,13 @@ pub fn leaf_end(
 {
     match node {
         Node::BackRef { group, icase } => {
-            let span = capture_of(captures, *group);
-            match_again(text, rules, span, *icase, position, left)
+            // A reference to a group without a capture matches the empty text.
+            let Some(span) = capture_of(captures, *group) else {
+                return Some(position);
+            };
+            let ahead = bytes_ahead(text, rules.backwards, position);
+            *left = left.saturating_sub(copy_steps(*icase, span, ahead));
+            match_again(text, rules, *icase, span, position)
         }
         Node::StringSet {
             alternatives,
@@ -67,31 +69,6 @@ fn capture_of(captures: &[Option<(usize, usize)>], group: u32) -> Option<(usize,
     }
 }
 
-/// Returns the position after a copy of the span (BackreferenceMatcher), and subtracts the comparison from the remaining
-/// steps. Without a span it is the position itself.
-fn match_again(
-    text: &str,
-    rules: MatchContext<'_>,
-    span: Option<(usize, usize)>,
-    icase: bool,
-    position: usize,
-    left: &mut u64,
-) -> Option<usize>
-    ensures to { (s : MatchState) → s.position ≡ position → (let u = subject rules.entry text.now in
-        put s result ≡ match_again u.direction (of_bytes u.bytes) (denotes u.setting.table icase u.setting.flags.unicode) span s) }
-    ensures costs { left.new ≡ left.old - copy_cost icase (bytes_ahead (subject rules.entry text.now).direction (length text.now) position) span }
-{
-    let Some(span) = span else {
-        return Some(position);
-    };
-    let bytes = span
-        .1
-        .abs_diff(span.0)
-        .min(bytes_ahead(text, rules.backwards, position));
-    *left = left.saturating_sub(copy_steps(icase, bytes));
-    references::match_again(text, rules, icase, span, position)
-}
-
 /// Returns the number of bytes from a position to where the text ends in the direction of matching.
 fn bytes_ahead(text: &str, backwards: bool, position: usize) -> usize
     ensures { result ≡ bytes_ahead (direction_if backwards) (length text.now) position }
@@ -103,9 +80,10 @@ fn bytes_ahead(text: &str, backwards: bool, position: usize) -> usize
     }
 }
 
-/// Returns the number of steps for a comparison with `bytes` bytes.
-fn copy_steps(icase: bool, bytes: usize) -> u64
-    ensures { result ≡ (if icase then bytes else blocks bytes) }
+/// Returns the number of steps for a comparison with a capture, where `ahead` bytes remain up to where the text ends.
+fn copy_steps(icase: bool, span: (usize, usize), ahead: usize) -> u64
+    ensures { result ≡ copy_cost icase ahead (Some span) }
 {
+    let bytes = span.1.abs_diff(span.0).min(ahead);
     if icase { bytes as u64 } else { blocks(bytes) }
 }

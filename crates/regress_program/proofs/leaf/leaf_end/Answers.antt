@@ -1,4 +1,4 @@
-use Rattle.std.proofs.Common.{rules, ◌≡◌, ◌-◌, [], ◌∷◌, true, length, map, subst, sym, ap, ◌∙◌, refl, arith}
+use Rattle.std.proofs.Common.{rules, ◌≡◌, ◌-◌, Some, None, [], ◌∷◌, true, map, subst, sym, ap, ◌∙◌, refl, arith}
 use Rattle.regress_base.specs.Table.{denotes}
 use Rattle.std.specs.Box.{boxed_slice_items}
 use Rattle.regress_leaves.specs.Leaves.{is_simple}
@@ -7,22 +7,21 @@ use Rattle.regress_tree.specs.declared.ir.node.Node.{the_lemmas}
 use Rattle.regress_tree.proofs.lemmas.Nodes.{tree-Loop1CharBody}
 use Rattle.regress_tree.specs.Matching.{steps}
 use Rattle.regress_tree.specs.Tree.{back_ref, tree, leaf, string_set}
-use Rattle.regress_program.specs.Cost.{bytes_ahead, compared, copy_cost}
 use Rattle.regress_program.specs.Shape.{IsPart}
 use Rattle.regress_program.proofs.LeafLemmas.{back_again, sole_of, one_string}
 use Rattle.regress_found.specs.Found.{state}
 use Rattle.regress_program.proofs.leaf.leaf_end.Goals as goal
 
-pub returns-in-BackRef-clause-to : goal.returns-in-BackRef-clause-to
-returns-in-BackRef-clause-to c =
+pub returns-in-Some-clause-to : goal.returns-in-Some-clause-to
+returns-in-Some-clause-to c =
     let s = state c.args.captures.now c.args.position in
     let u = subject c.args.rules c.args.text.now in
     let group = c.in-BackRef.group in
     let icase = c.in-BackRef.icase in
     let is : tree c.args.node.now ≡ leaf (back_ref group icase) = search (rules, the_lemmas) in
     ap (λ t. steps u.setting u.bytes u.direction t s) is
-    ∙ back_again u (denotes u.setting.table icase u.setting.flags.unicode) (group - 1) c.capture_of-span.result s c.match_again.result
-    c.capture_of-span.ensures (c.match_again.ensures.to s refl)
+    ∙ back_again u (denotes u.setting.table icase u.setting.flags.unicode) (group - 1) (Some c.in-Some.span) s c.match_again.result
+    (sym c.in-Some.is ∙ c.capture_of.ensures) (c.match_again.ensures s refl)
 
 pub index-requires : goal.index-requires
 index-requires c =
@@ -49,15 +48,16 @@ returns-in_default-clause-to c =
     let simple : is_simple (tree c.args.node.now) ≡ true = first_of (search (rules, the_lemmas), grind (arith, the_lemmas, c.requires)) in
     c.simple_leaf.ensures simple (state c.args.captures.now c.args.position) refl
 
-pub returns-in-BackRef-clause-costs : goal.returns-in-BackRef-clause-costs
-returns-in-BackRef-clause-costs c =
+pub returns-in_default-capture_of-clause-to : goal.returns-in_default-capture_of-clause-to
+returns-in_default-capture_of-clause-to c =
     let s = state c.args.captures.now c.args.position in
-    let is : tree c.args.node.now ≡ leaf (back_ref c.in-BackRef.group c.in-BackRef.icase) = search (rules, the_lemmas) in
-    let taken = c.match_again.ensures.costs in
-    let ahead = bytes_ahead (subject c.args.rules c.args.text.now).direction (length c.args.text.now) c.args.position in
-    let span = ap (copy_cost c.in-BackRef.icase ahead) c.capture_of-span.ensures in
-    let total = ap (λ t. compared ahead t s) is in
-    omega (arith, taken, span, total)
+    let u = subject c.args.rules c.args.text.now in
+    let group = c.in-BackRef.group in
+    let icase = c.in-BackRef.icase in
+    let is : tree c.args.node.now ≡ leaf (back_ref group icase) = search (rules, the_lemmas) in
+    ap (λ t. steps u.setting u.bytes u.direction t s) is
+    ∙ back_again u (denotes u.setting.table icase u.setting.flags.unicode) (group - 1) None s (Some c.args.position)
+    (sym c.in_default-capture_of.is ∙ c.capture_of.ensures) refl
 
 pub returns-in-Loop1CharBody-clause-to : goal.returns-in-Loop1CharBody-clause-to
 returns-in-Loop1CharBody-clause-to c =
