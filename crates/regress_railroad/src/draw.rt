@@ -3,7 +3,7 @@ ghost use Rattle.std.specs.Prelude.{◌≡◌, OnOk};
 
 use crate::boxes::{frame_extent, track_step};
 use crate::diagram::{Diagram, Extent, Iterations, Marks, NO_EXTENT, Point, Shape, clear};
-use crate::parts::{draw_box, draw_end, draw_frame, draw_iterations, draw_sides, middle};
+use crate::parts::{Place, draw_box, draw_end, draw_frame, draw_iterations, draw_sides, middle};
 use crate::row::{copied, row_step};
 use crate::style::{GAP, RADIUS};
 use crate::ways::{
@@ -53,11 +53,12 @@ fn draw_shape(diagram: &Diagram, at: Point, sheet: &mut Sheet) -> Drawn
     ensures { OnOk result (sheet.new.depth ≡ sheet.old.depth) }
 {
     let extent = diagram.extent;
+    let place = Place { extent, at };
     let title = diagram.title.as_ref();
     match &diagram.shape {
         Shape::Line => Ok(()),
         Shape::End => draw_end(at, sheet),
-        Shape::Boxed { kind, label } => draw_box(*kind, label, title, extent, at, sheet),
+        Shape::Boxed { kind, label } => draw_box(*kind, label, title, place, sheet),
         Shape::Row(parts) => draw_row(parts, at, sheet),
         Shape::Rows(rows) => draw_rows(rows, extent, at, sheet),
         Shape::Tracks(tracks) => draw_tracks(tracks, extent, at, sheet),
@@ -72,7 +73,7 @@ fn draw_shape(diagram: &Diagram, at: Point, sheet: &mut Sheet) -> Drawn
         },
         Shape::Frame { kind, label, body } => {
             sheet.open_group("framed")?;
-            draw_frame(*kind, label, title, extent, at, sheet)?;
+            draw_frame(*kind, label, title, place, sheet)?;
             draw_sides(body.extent, extent, at, sheet)?;
             draw(body, middle(body.extent.width, extent, at), sheet)?;
             sheet.close_group()
@@ -83,7 +84,11 @@ fn draw_shape(diagram: &Diagram, at: Point, sheet: &mut Sheet) -> Drawn
             draw_line(at, at.right(extent.width), sheet)?;
             draw_thread(at.right(extent.width / 2), sheet)?;
             sheet.open_group("framed")?;
-            draw_frame(*kind, label, title, frame, inside, sheet)?;
+            let framed = Place {
+                extent: frame,
+                at: inside,
+            };
+            draw_frame(*kind, label, title, framed, sheet)?;
             draw_sides(body.extent, frame, inside, sheet)?;
             draw(body, middle(body.extent.width, frame, inside), sheet)?;
             sheet.close_group()

@@ -7,6 +7,13 @@ use crate::ways::{Drawn, draw_line, draw_way_over, draw_way_under};
 use regress_labels::{Label, columns};
 use regress_svg::{Element, Sheet};
 
+/// Where a part is drawn: its extent, and the point at which the connecting line enters.
+#[derive(Clone, Copy)]
+pub(crate) struct Place {
+    pub(crate) extent: Extent,
+    pub(crate) at: Point,
+}
+
 /// Draws a text from a point on its baseline, unless it is empty.
 pub(crate) fn draw_text(class: &str, text: &str, at: Point, sheet: &mut Sheet) -> Drawn
     ensures { OnOk result (sheet.new.depth ≡ sheet.old.depth) }
@@ -24,9 +31,10 @@ pub(crate) fn draw_text(class: &str, text: &str, at: Point, sheet: &mut Sheet) -
     })
 }
 
-fn draw_rectangle(class: &str, radius: u32, extent: Extent, at: Point, sheet: &mut Sheet) -> Drawn
+fn draw_rectangle(class: &str, radius: u32, place: Place, sheet: &mut Sheet) -> Drawn
     ensures { OnOk result (sheet.new.depth ≡ sheet.old.depth) }
 {
+    let Place { extent, at } = place;
     sheet.draw(Element::Rectangle {
         class,
         x: at.x,
@@ -73,8 +81,7 @@ pub(crate) fn draw_box(
     kind: BoxKind,
     label: &Label,
     title: Option<&String>,
-    extent: Extent,
-    at: Point,
+    place: Place,
     sheet: &mut Sheet,
 ) -> Drawn
     ensures { OnOk result (sheet.new.depth ≡ sheet.old.depth) }
@@ -88,8 +95,8 @@ pub(crate) fn draw_box(
     };
     sheet.open_group(class)?;
     draw_title(title, sheet)?;
-    draw_rectangle("box", radius, extent, at, sheet)?;
-    draw_label(label, at.right(PADDING).down(5), sheet)?;
+    draw_rectangle("box", radius, place, sheet)?;
+    draw_label(label, place.at.right(PADDING).down(5), sheet)?;
     sheet.close_group()
 }
 
@@ -109,8 +116,7 @@ pub(crate) fn draw_frame(
     kind: FrameKind,
     label: &str,
     title: Option<&String>,
-    extent: Extent,
-    at: Point,
+    place: Place,
     sheet: &mut Sheet,
 ) -> Drawn
     ensures { OnOk result (sheet.new.depth ≡ sheet.old.depth) }
@@ -125,8 +131,9 @@ pub(crate) fn draw_frame(
     };
     let title = title.map_or(meaning, |title| title.as_str());
     sheet.draw(Element::Title(title))?;
-    draw_rectangle(class, 6, extent, at, sheet)?;
-    let point = at.up(extent.above).right(PADDING).down(NOTE - 2);
+    draw_rectangle(class, 6, place, sheet)?;
+    let top = place.at.up(place.extent.above);
+    let point = top.right(PADDING).down(NOTE - 2);
     draw_text("small", label, point, sheet)
 }
 
