@@ -1,5 +1,5 @@
 -- A failure that is passed on, and one of which less is stated.
-use Rattle.std.proofs.Common.{inl, inr, sym, subst}
+use Rattle.std.proofs.Common.{◌≡◌, inl, inr, sym, subst}
 use Rattle.std.specs.Prelude.{Result, Ok, Err, IfErr}
 use Rattle.std.specs.Result.{IsErrAnd}
 use Rattle.regex_lines.specs.Ending.{IsLate, IsSearchFailure, OrOutput}
