@@ -11,11 +11,11 @@ use Rattle.regress_parse.specs.declared.fault.PlacedFault.{PlacedFault}
 use Rattle.regress_parse.specs.declared.fault.PlacedFault.TheVariants as placed
 use Rattle.regress_syntax.specs.Syntax.{Pattern}
 use Rattle.regress_ucd.specs.UnicodeTable.{unicode_table}
-use Rattle.regex_command.specs.Ending.{unaccepted}
+use Rattle.regex_lines.specs.Ending.{unaccepted}
 use Rattle.regex_options.specs.Request.{Form}
 use Rattle.regex_command.specs.Patterns.{HasForm, IsAcceptedPattern, IsExplanationIn}
 use Rattle.regress.specs.Unicode.{unicode_setting}
-use Rattle.regex_command.specs.declared.failure.Failure.{Failure}
+use Rattle.regex_lines.specs.declared.failure.Failure.{Failure}
 use Rattle.regex_command.proofs.LintLemmas.{appends_nothing}
 use Rattle.regex_command.proofs.SettingLemmas.{OnSyntax, under_unicode}
 

@@ -1,17 +1,6 @@
 pub mod BufferedLemmas
 pub mod CostLemmas
 pub mod ExplainLemmas
-pub mod FoldLemmas
-pub mod FoundLemmas
-pub mod InputLemmas
-pub mod JsonLemmas
-pub mod LineLemmas
 pub mod LintLemmas
-pub mod PaintLemmas
-pub mod ReplyLemmas
-pub mod RunLemmas
-pub mod SearchLemmas
-pub mod SearcherLemmas
 pub mod SettingLemmas
-pub mod SomewhereLemmas
 pub mod TreeLemmas

@@ -24,10 +24,10 @@ use Rattle.regress_syntax.specs.Syntax.{Pattern}
 use Rattle.regress_tree.specs.Tree.{Tree}
 use Rattle.regress_warnings.specs.Warned as warnings
 use Rattle.regex_command.specs.Remarks.{AreRemarks}
-use Rattle.regex_command.specs.Ending.{unaccepted}
+use Rattle.regex_lines.specs.Ending.{unaccepted}
 use Rattle.regex_command.specs.Patterns.{HasDifferences, HasWarnings, IsListed, IsListedNext, IsReport, line_of}
 use Rattle.regress.specs.Unicode.{unicode_setting}
-use Rattle.regex_command.specs.declared.failure.Failure.{Failure}
+use Rattle.regex_lines.specs.declared.failure.Failure.{Failure}
 use Rattle.regex_command.proofs.SettingLemmas.{OnSyntax, under_unicode}
 
 pub appends_nothing : (known : Option (List ℕ)) → Appends known known []

@@ -6,10 +6,10 @@ use Rattle.regress_display.specs.Request.{NoneIsAccepted, Request}
 use Rattle.regress_display.specs.Fault.{IsFaultOutput}
 use Rattle.regress_display.specs.declared.request.Format.{Format}
 use Rattle.regress_display.specs.declared.request.Format.TheVariants.{Text, Json, Svg}
-use Rattle.regex_command.specs.Ending.{IsOutputFailure, OrOutput}
+use Rattle.regex_lines.specs.Ending.{IsOutputFailure, OrOutput}
 use Rattle.regex_command.specs.Patterns.{HasFaultOutput, IsTreeOutput, IsFaultWritten, IsQuietFor, IsShowFailure}
-use Rattle.regex_command.specs.declared.failure.Failure.{Failure}
-use Rattle.regex_command.specs.declared.failure.Failure.TheVariants.{Output}
+use Rattle.regex_lines.specs.declared.failure.Failure.{Failure}
+use Rattle.regex_lines.specs.declared.failure.Failure.TheVariants.{Output}
 use Rattle.regex_command.proofs.LintLemmas.{appends_nothing}
 
 -- Nothing is written to standard output, unless the format is JSON.

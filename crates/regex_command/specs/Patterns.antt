@@ -28,9 +28,9 @@ use Rattle.regress_spans.specs.Remarks.{Said}
 use Rattle.regress_syntax.specs.Syntax.{Pattern}
 use Rattle.regress_tree.specs.Steps.{Setting}
 use Rattle.regress_warnings.specs.Warned as warnings
-use Rattle.regex_command.specs.Ending.{IsCostlyPattern, IsLate}
-use Rattle.regex_command.specs.declared.failure.Failure.TheVariants.{Argument, Memory, Output, Closed, Syntax, TooLarge, OutOfSteps, Unreadable, PatternNotUtf8, TooLong}
-use Rattle.regex_command.specs.declared.failure.Failure.{Failure}
+use Rattle.regex_lines.specs.Ending.{IsCostlyPattern, IsLate}
+use Rattle.regex_lines.specs.declared.failure.Failure.TheVariants.{Argument, Memory, Output, Closed, Syntax, TooLarge, OutOfSteps, Unreadable, PatternNotUtf8, TooLong}
+use Rattle.regex_lines.specs.declared.failure.Failure.{Failure}
 
 -- What is written to standard output for a rejected pattern: its syntax error as JSON, and nothing in the other formats.
 abbrev pub IsFaultWritten : Format → Request → List ℕ → Type 0

@@ -17,11 +17,11 @@ use Rattle.regress_display.specs.Shown.{IsFirstOutput}
 use Rattle.regress_escape.specs.Escape.{escaped}
 use Rattle.regress_front.specs.Rejected.{NoneIsAccepted}
 use Rattle.regress_tree.specs.Steps.{Setting}
-use Rattle.regex_command.specs.Ending.{IsCostlyPattern, IsLate, IsSearchFailure}
+use Rattle.regex_lines.specs.Ending.{IsCostlyPattern, IsLate, IsSearchFailure, MayFailToRead}
 use Rattle.regex_command.specs.Patterns.{IsExplanationIn, MayFailToExplain, IsReport, IsTreeOutput, IsQuietFor, IsShowFailure}
-use Rattle.regex_command.specs.Searched.{WritesInputs, WritesSomeOf, inputs_of}
-use Rattle.regex_command.specs.declared.failure.Failure.TheVariants.{Argument, Memory, Output, Closed, Syntax, TooLarge, OutOfSteps, Unreadable, PatternNotUtf8, TooLong}
-use Rattle.regex_command.specs.declared.failure.Failure.{Failure}
+use Rattle.regex_lines.specs.Searched.{WritesInputs, WritesSomeOf, inputs_of}
+use Rattle.regex_lines.specs.declared.failure.Failure.TheVariants.{Argument, Memory, Output, Closed, Syntax, TooLarge, OutOfSteps, Unreadable, PatternNotUtf8, TooLong}
+use Rattle.regex_lines.specs.declared.failure.Failure.{Failure}
 
 -- The bytes are the text of the pattern. Nothing is known of the bytes of a file.
 abbrev pub IsTextOf : Source → List ℕ → Type 0
@@ -31,19 +31,6 @@ IsTextOf (in_file name) bytes = ⊤
 -- P holds of the text of the pattern.
 abbrev pub OfText : Source → (P : List ℕ → Type 0) → Type 0
 OfText source P = (text : List ℕ) × IsTextOf source text × P text
-
--- A failure that may occur while the file of a pattern is read.
-abbrev pub MayFailToRead : Failure → Type 0
-MayFailToRead Argument = ⊥
-MayFailToRead Memory = ⊤
-MayFailToRead Output = ⊥
-MayFailToRead Closed = ⊥
-MayFailToRead (Syntax pattern message position) = ⊥
-MayFailToRead TooLarge = ⊥
-MayFailToRead OutOfSteps = ⊥
-MayFailToRead (Unreadable name) = ⊤
-MayFailToRead (PatternNotUtf8 name offset) = ⊤
-MayFailToRead (TooLong name) = ⊥
 
 -- The text of the pattern is not known: memory is short, or its file cannot be read or is not UTF-8.
 abbrev pub LacksText : Source → Failure → Type 0

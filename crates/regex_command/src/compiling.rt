@@ -1,11 +1,11 @@
 //! Compiles a pattern.
 ghost use Rattle.std.specs.Prelude.{IfOk, IfErr};
 ghost use Rattle.regress.specs.Unicode.{unicode_setting};
-ghost use Rattle.regex_command.specs.Ending.{IsOwn};
+ghost use Rattle.regex_lines.specs.Ending.{IsOwn};
 ghost use Rattle.regex_command.specs.Printed.{IsRejected};
 
-use crate::failure::Failure;
 use crate::pattern::Pattern;
+use regex_lines::Failure;
 use regress::{Error, Options, Regex};
 use regress_ucd::unicode_tables;
 use std::alloc::Global;

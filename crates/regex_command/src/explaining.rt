@@ -3,15 +3,14 @@ ghost use Rattle.std.specs.Prelude.{◌≡◌, ◌++◌, ℕ, List, true, Ok, If
 ghost use Rattle.regress_arguments.specs.Output.{Took};
 ghost use Rattle.regress.specs.Unicode.{unicode_setting};
 ghost use Rattle.regress.specs.Compiled.{match_of};
-ghost use Rattle.regex_command.specs.Ending.{OrOutput};
+ghost use Rattle.regex_lines.specs.Ending.{OrOutput};
 ghost use Rattle.regress_explain.specs.Page.{IsPageOf};
 ghost use Rattle.regex_command.specs.Patterns.{AreMatchRanges, HasForm, IsAcceptedPattern, IsExplanationIn, MayFailToExplain, MayFailToFind, range_of};
 ghost use Rattle.regex_options.specs.Request.{asked_form};
 
 use crate::compiling::compiled;
-use crate::failure::{Failure, reject};
 use crate::pattern::Pattern;
-use crate::printing::print;
+use regex_lines::{Failure, print, reject};
 use regex_options::Form;
 use regress::Match;
 use regress_base::util::code_points;

@@ -5,13 +5,12 @@ ghost use Rattle.regress.specs.Unicode.{unicode_setting};
 ghost use Rattle.regress_arguments.specs.Output.{Took};
 ghost use Rattle.regress_spans.specs.Remarks.{said, said_by};
 ghost use Rattle.regress_tree.specs.Tree.{tree};
-ghost use Rattle.regex_command.specs.Ending.{IsLate, OrOutput};
+ghost use Rattle.regex_lines.specs.Ending.{IsLate, OrOutput};
 ghost use Rattle.regex_command.specs.Patterns.{IsListed, IsListedNext, IsReport, line_of};
 ghost use Rattle.regex_command.specs.Remarks.{AreRemarks};
 
-use crate::failure::{Failure, reject};
 use crate::pattern::Pattern;
-use crate::printing::print;
+use regex_lines::{Failure, print, reject};
 use regress_arguments::write_with_caret;
 use regress_base::util::code_points;
 use regress_differences::remarks_of as differences;

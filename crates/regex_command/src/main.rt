@@ -9,36 +9,22 @@ ghost use Rattle.std.specs.Io.KnownBytes.{Appends};
 ghost use Rattle.regress_display.specs.Request.{requested};
 ghost use Rattle.regex_options.specs.Table.{topic_text};
 ghost use Rattle.regex_options.specs.Request.{action, ask, asked_by};
-ghost use Rattle.regex_command.specs.Ending.{IsLate, OrOutput};
+ghost use Rattle.regex_lines.specs.Ending.{IsLate, OrOutput};
 ghost use Rattle.regex_options.specs.Plain.{job, source};
 ghost use Rattle.regex_command.specs.Printed.{Begins, Does, IsDue, IsQuiet, IsQuietAt, MayFail, MayFailAt, Prints, PrintsAll, PrintsEscaped, PrintsFirst, PrintsSome, changes, status_if_none, view_of, LacksText, OfText};
 ghost use Rattle.regress.specs.Unicode.{unicode_setting};
 
 mod compiling;
 mod explaining;
-mod failure;
-mod inputs;
-mod json;
 mod linting;
-mod painting;
 mod pattern;
-mod place;
-mod prefix;
-mod printing;
-mod reading;
-mod reply;
-mod runs;
-mod searcher;
-mod searching;
 mod showing;
 
 use compiling::compiled;
 use explaining::print_explanation;
-use failure::{Failure, report};
-use inputs::search_all;
 use linting::print_lint;
 use pattern::{Pattern, pattern_text};
-use printing::{flush, print};
+use regex_lines::{Failure, flush, print, report, search_all};
 use regex_options::{
     Action, Arguments, Asked, COMMANDS, OPTIONS, Output, ParseError, Request, Search, Task, Topic,
     UsageError, View, allows_color, interpret, parse_arguments, topic_text, write_usage_error,
@@ -46,7 +32,6 @@ use regex_options::{
 use regress_arguments::{ArgumentsError, arguments};
 use regress_display::Request as TreeRequest;
 use regress_escape::escape;
-use searcher::Searcher;
 use showing::print_tree;
 use std::alloc::Global;
 use std::env::Env;
@@ -315,8 +300,7 @@ fn print_search<'a, R: Files + AllocGlobal, I: Read + Drop, W: Write>(
     ensures due { IfErr result (IsDue (unicode_setting pattern.entry.flags) pattern.entry.text.now) }
 {
     let regex = compiled(rt.alloc(), pattern)?;
-    let searcher = Searcher::new(rt.alloc(), &regex);
-    let searched = search_all(rt, &searcher, search, input, out);
+    let searched = search_all(rt, &regex, search, input, out);
     flush(out)?;
     let any = searched?;
     Ok(any || changes(search.task))

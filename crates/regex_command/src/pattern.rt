@@ -1,11 +1,11 @@
 //! Patterns, and where they are.
 ghost use Rattle.std.specs.Prelude.{◌≡◌, IfOk, IfErr, string_bytes};
-ghost use Rattle.regex_command.specs.Printed.{IsTextOf, LacksText, MayFailToRead};
-ghost use Rattle.regex_command.specs.Searched.{without_line_feed};
+ghost use Rattle.regex_command.specs.Printed.{IsTextOf, LacksText};
+ghost use Rattle.regex_lines.specs.Ending.{MayFailToRead};
+ghost use Rattle.regex_lines.specs.Searched.{without_line_feed};
 ghost use Rattle.regex_options.specs.Plain.{source};
 
-use crate::failure::{Failure, read_failure};
-use crate::reading::remove_line_feed;
+use regex_lines::{Failure, read_failure, remove_line_feed};
 use regex_options::PatternSource;
 use regress_base::types::Flags;
 use std::fs::{File, Files};

@@ -4,12 +4,12 @@ ghost use Rattle.regress_arguments.specs.Output.{Took};
 ghost use Rattle.regress_display.specs.Request.{NoneIsAccepted, setting_of_request, requested};
 ghost use Rattle.regress_display.specs.Fault.{IsFaultOutput};
 ghost use Rattle.regress_display.specs.Shown.{IsFirstOutput};
-ghost use Rattle.regex_command.specs.Ending.{OrOutput};
+ghost use Rattle.regex_lines.specs.Ending.{OrOutput};
 ghost use Rattle.regex_command.specs.Patterns.{HasFaultOutput, IsTreeOutput, IsFaultWritten, IsQuietFor, IsShowFailure};
-ghost use Rattle.regex_command.specs.declared.failure.Failure.TheVariants.{Output};
+ghost use Rattle.regex_lines.specs.declared.failure.Failure.TheVariants.{Output};
 ghost use Rattle.regress_parse.specs.Settled.{IsSyntaxError};
 
-use crate::failure::{Failure, write_syntax_error};
+use regex_lines::{Failure, write_syntax_error};
 use regress_display::{Format, Request, ShowError, show, write_json_fault};
 use regress_parse::{Error, FaultKind};
 use std::alloc::Global;

@@ -1,13 +1,12 @@
-use Rattle.std.proofs.Common.{◌≡◌, ◌∙◌, ◌⊎◌, ◌||◌, inr, ap, map, subst, sym}
+use Rattle.std.proofs.Common.{◌≡◌, ◌∙◌, ◌⊎◌, ◌||◌, inr, ap, map, sym}
 use Rattle.std.specs.Prelude.{string_bytes}
 use Rattle.regress_arguments.proofs.lemmas.Output.{appends_kept}
-use Rattle.regex_command.specs.Ending.{IsCostly, IsCostlyPattern, IsOwn, OrOutput}
-use Rattle.regex_command.specs.Searched.{WritesSomeOf, inputs_of}
+use Rattle.regex_lines.specs.Ending.{IsCostly, IsCostlyPattern, OrOutput}
+use Rattle.regex_lines.specs.Searched.{WritesSomeOf, inputs_of}
 use Rattle.regex_options.specs.Plain.{job}
 use Rattle.regex_command.specs.Printed.{IsDue, PrintsFirst, changes}
-use Rattle.regress.specs.Compiled.{IsCompiled}
 use Rattle.regress.specs.Unicode.{unicode_setting}
-use Rattle.regex_command.proofs.SearchLemmas.{costly_failure, late_failure, or_output, passed_on}
+use Rattle.regex_lines.proofs.lemmas.Failures.{costly_failure, late_failure, or_output, passed_on}
 use Rattle.regex_command.proofs.print_search.Goals.{then-any, else-any}
 use Rattle.regex_command.proofs.print_search.Goals as goal
 
@@ -20,8 +19,8 @@ returns-in_err-any-clause-first g c =
     let old = g.W.Write.contents c.args.out.now in
     let between = g.W.Write.contents c.search_all-searched.new.out in
     let new = g.W.Write.contents c.flush.new.out in
-    let r = c.new-searcher.result.regex.now in
-    let compiled = subst (IsCompiled (unicode_setting c.args.pattern.flags) c.args.pattern.text.now) (sym c.new-searcher.ensures) c.in_ok-regex.ensures.own.compiled in
+    let r = c.in_ok-regex.regex in
+    let compiled = c.in_ok-regex.ensures.own.compiled in
     passed_on (OrOutput (c.flush.new.out ≡ c.args.out.now
     ⊎ PrintsFirst (unicode_setting c.args.pattern.flags) c.args.pattern.text.now task multiline files input old new)) c.from_residual-in_err-any.result c.in_err-any.field-0.0
     c.from_residual-in_err-any.ensures.1
@@ -39,16 +38,16 @@ returns-clause-all g c =
       | then-any w ↦ w.result-is ∙ w.if-any.true ∙ ap (λ b. b || changes task) (sym w.if-any.true)
       | else-any w ↦ w.result-is ∙ w.changes.ensures ∙ ap (λ b. b || changes task) (sym w.if-any.false)
     ] in
-    let r = c.new-searcher.result.regex.now in
-    let compiled = subst (IsCompiled (unicode_setting c.args.pattern.flags) c.args.pattern.text.now) (sym c.new-searcher.ensures) c.in_ok-regex.ensures.own.compiled in
+    let r = c.in_ok-regex.regex in
+    let compiled = c.in_ok-regex.ensures.own.compiled in
     (r, compiled, (c.in_ok-any.any, found, (all.0, all.1, appends_kept old between new all.0 all.2 c.flush.ensures.kept)))
 
 pub returns-in_err-any-clause-due : goal.returns-in_err-any-clause-due
 returns-in_err-any-clause-due g c =
     let setting = unicode_setting c.args.pattern.flags in
     let text = c.args.pattern.text.now in
-    let r = c.new-searcher.result.regex.now in
-    let own = subst (IsOwn setting text) (sym c.new-searcher.ensures) c.in_ok-regex.ensures.own in
+    let r = c.in_ok-regex.regex in
+    let own = c.in_ok-regex.ensures.own in
     passed_on (IsDue setting text) c.from_residual-in_err-any.result c.in_err-any.field-0.0 c.from_residual-in_err-any.ensures.1
     (inr (costly_failure (IsCostly r) (IsCostlyPattern setting text) (λ costly. (r, own, costly)) c.in_err-any.field-0.0 c.in_err-any.ensures.failed))
 

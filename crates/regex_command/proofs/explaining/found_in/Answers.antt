@@ -2,10 +2,10 @@ use Rattle.std.proofs.Common.{◌∙◌, List, ap, map}
 use Rattle.regress.specs.Compiled.{match_of}
 use Rattle.regress.specs.declared.found.Match.{Match}
 use Rattle.regress.specs.Unicode.{unicode_setting}
-use Rattle.regex_command.specs.Ending.{search_failure}
+use Rattle.regex_lines.specs.Ending.{search_failure}
 use Rattle.regex_command.specs.Patterns.{MayFailToFind, range_of}
 use Rattle.regex_command.proofs.CostLemmas.{costly_find, found_large}
-use Rattle.regex_command.proofs.SearchLemmas.{passed_on}
+use Rattle.regex_lines.proofs.lemmas.Failures.{passed_on}
 use Rattle.regex_command.proofs.explaining.found_in.Goals as goal
 
 pub returns-clause-ranges : goal.returns-clause-ranges

@@ -1,8 +1,0 @@
-use Rattle.std.proofs.Common.{inr, None}
-use Rattle.regex_options.specs.Plain.{job}
-use Rattle.regex_command.specs.Searched.{named}
-use Rattle.regex_command.proofs.SearchLemmas.{nothing_first}
-use Rattle.regex_command.proofs.inputs.search_file.Goals as goal
-
-pub returns-in-Err-clause-first : goal.returns-in-Err-clause-first
-returns-in-Err-clause-first g c = inr (nothing_first c.args.search.searcher.now.regex.now (job c.args.search.task) (named c.args.search.place) None (g.W.Write.contents c.args.out.now))

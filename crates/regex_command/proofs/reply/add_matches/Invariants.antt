@@ -1,7 +1,0 @@
--- the matches so far
-use Rattle.std.proofs.Common.{◌≡◌, ◌++◌}
-use Rattle.regex_command.proofs.ReplyLemmas.{shown_so_far}
-use Rattle.regex_command.proofs.reply.add_matches.Given as goal
-
-abbrev pub invariant-loop-found : goal.invariant-loop-found
-invariant-loop-found l = l.to.items ≡ l.fn.to.items ++ shown_so_far l.paints l.prefix l.text.run.text.now l.found-items l.found-index

@@ -1,8 +1,0 @@
--- What is in front of what is shown of a line, as the code represents it.
-use Rattle.std.specs.Prelude.{ℕ, List}
-use Rattle.regex_command.specs.Searched.{named, prefix_of}
-use Rattle.regex_command.specs.declared.prefix.Prefix.{Prefix}
-use Rattle.regex_options.specs.Plain.{job}
-
-abbrev pub text_of : Prefix → List ℕ
-text_of prefix = prefix_of (job prefix.task) (named prefix.place) prefix.number

@@ -1,0 +1,13 @@
+mod CostLemmas
+mod FoldLemmas
+mod FoundLemmas
+mod InputLemmas
+mod JsonLemmas
+mod LineLemmas
+mod PaintLemmas
+mod ReplyLemmas
+mod RunLemmas
+mod SearchLemmas
+mod SearcherLemmas
+mod SomewhereLemmas
+pub mod lemmas

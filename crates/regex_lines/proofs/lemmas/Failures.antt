@@ -1,0 +1,49 @@
+-- A failure that is passed on, and one of which less is stated.
+use Rattle.std.proofs.Common.{◌≡◌, inl, inr, sym, subst}
+use Rattle.std.specs.Prelude.{Result, Ok, Err, IfErr}
+use Rattle.std.specs.Result.{IsErrAnd}
+use Rattle.regex_lines.specs.Ending.{IsLate, IsSearchFailure, OrOutput}
+use Rattle.regex_lines.specs.declared.failure.Failure.{Failure}
+use Rattle.regex_lines.specs.declared.failure.Failure.TheVariants.{Argument, Memory, Output, Closed, Syntax, TooLarge, OutOfSteps, Unreadable, PatternNotUtf8, TooLong}
+
+-- a failure that `?` passes on
+pub passed_on : {X F : Type 0} (P : F → Type 0) (result : Result X F) (failure : F) → IsErrAnd result (λ f. f ≡ failure) → P failure → IfErr result P
+passed_on P (Ok x) failure is p = absurd is
+passed_on P (Err f) failure is p = subst P (sym is) p
+
+pub or_output : (P Q : Type 0) (failure : Failure) → OrOutput P failure → (P → Q) → OrOutput Q failure
+or_output P Q failure (inl output) more = inl output
+or_output P Q failure (inr p) more = inr (more p)
+
+pub if_err_map : {X : Type 0} (P Q : Type 0) (result : Result X Failure) → IfErr result (OrOutput P) → (P → Q) → IfErr result (OrOutput Q)
+if_err_map P Q (Ok x) h more = tt
+if_err_map P Q (Err failure) h more = or_output P Q failure h more
+
+-- a failure that may occur whatever the pattern is, and one that may occur if it is costly
+pub costly_failure : (P Q : Type 0) → (P → Q) → (failure : Failure) → IsSearchFailure P failure → IsSearchFailure Q failure
+costly_failure P Q more Argument h = absurd h
+costly_failure P Q more Memory h = tt
+costly_failure P Q more Output h = tt
+costly_failure P Q more Closed h = tt
+costly_failure P Q more (Syntax pattern text position) h = absurd h
+costly_failure P Q more TooLarge h = absurd h
+costly_failure P Q more OutOfSteps h = more h
+costly_failure P Q more (Unreadable name) h = tt
+costly_failure P Q more (PatternNotUtf8 name offset) h = absurd h
+costly_failure P Q more (TooLong name) h = tt
+
+pub late_failure : (costly : Type 0) (failure : Failure) → IsLate failure → IsSearchFailure costly failure
+late_failure costly Argument h = absurd h
+late_failure costly Memory h = tt
+late_failure costly Output h = tt
+late_failure costly Closed h = tt
+late_failure costly (Syntax pattern text position) h = absurd h
+late_failure costly TooLarge h = absurd h
+late_failure costly OutOfSteps h = absurd h
+late_failure costly (Unreadable name) h = absurd h
+late_failure costly (PatternNotUtf8 name offset) h = absurd h
+late_failure costly (TooLong name) h = absurd h
+
+pub if_err_by : {X : Type 0} (P Q : Failure → Type 0) (result : Result X Failure) → ((failure : Failure) → P failure → Q failure) → IfErr result P → IfErr result Q
+if_err_by P Q (Ok x) more h = tt
+if_err_by P Q (Err failure) more h = more failure h

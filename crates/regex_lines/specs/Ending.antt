@@ -1,0 +1,101 @@
+-- How a run of the program ends.
+use Rattle.std.specs.Prelude.{◌≡◌, ◌⊎◌, ⊤, ℕ, Bool, false, List, None, Result, Ok, Err, chars}
+use Rattle.regress.specs.Compiled.{IsCompiled}
+use Rattle.regress.specs.Costs.{AllCostLimit, CostsLimit, factor_of}
+use Rattle.regress.specs.Kept.{Keeps}
+use Rattle.regress.specs.Limits.{default_options}
+use Rattle.regress.specs.declared.failure.SearchError.{SearchError}
+use Rattle.regress.specs.declared.failure.SearchError.TheVariants as errors
+use Rattle.regress.specs.declared.pattern.Regex.{Regex}
+use Rattle.regress_parse.specs.declared.fault.PlacedFault.{PlacedFault}
+use Rattle.regress_parse.specs.declared.fault.PlacedFault.TheVariants as placed
+use Rattle.regress_tree.specs.Steps.{Setting}
+use Rattle.regex_lines.specs.declared.failure.Failure.{Failure}
+use Rattle.regex_lines.specs.declared.failure.Failure.TheVariants.{Argument, Memory, Output, Closed, Syntax, TooLarge, OutOfSteps, Unreadable, PatternNotUtf8, TooLong}
+
+-- A failure that may occur for any pattern: memory is short, or the output cannot be written.
+abbrev pub IsLate : Failure → Type 0
+IsLate Argument = ⊥
+IsLate Memory = ⊤
+IsLate Output = ⊤
+IsLate Closed = ⊤
+IsLate (Syntax pattern text position) = ⊥
+IsLate TooLarge = ⊥
+IsLate OutOfSteps = ⊥
+IsLate (Unreadable name) = ⊥
+IsLate (PatternNotUtf8 name offset) = ⊥
+IsLate (TooLong name) = ⊥
+
+-- The regular expression that the program compiles from a pattern: with the default options.
+pub record IsOwn (setting : Setting) (text : List ℕ) (r : Regex) : Type 0 where
+  pub compiled : IsCompiled setting text r
+  pub keeps : Keeps default_options setting.flags (chars text) r
+
+-- Searches with the regular expression are not known to take linear time, and in some text they cost at least the step
+-- limit: one search, or those for all matches.
+pub record IsCostly (r : Regex) : Type 0 where
+  pub linear : factor_of r ≡ None
+  pub text : List ℕ
+  pub costs : CostsLimit r text 0 ⊎ AllCostLimit r text 0
+
+-- The regular expression of the pattern is costly.
+abbrev pub IsCostlyPattern : Setting → (text : List ℕ) → Type 0
+IsCostlyPattern setting text = (r : Regex) × IsOwn setting text r × IsCostly r
+
+-- why a search fails, as a failure of the program
+abbrev pub search_failure : SearchError → Failure
+search_failure errors.Memory = Memory
+search_failure errors.OutOfSteps = OutOfSteps
+
+-- A search may be out of memory, and out of steps if the pattern is costly.
+abbrev pub IsSearchError : (costly : Type 0) → SearchError → Type 0
+IsSearchError costly errors.Memory = ⊤
+IsSearchError costly errors.OutOfSteps = costly
+
+-- A failure that may occur while inputs are searched: the search may be out of steps if the pattern is costly.
+abbrev pub IsSearchFailure : (costly : Type 0) → Failure → Type 0
+IsSearchFailure costly Argument = ⊥
+IsSearchFailure costly Memory = ⊤
+IsSearchFailure costly Output = ⊤
+IsSearchFailure costly Closed = ⊤
+IsSearchFailure costly (Syntax pattern text position) = ⊥
+IsSearchFailure costly TooLarge = ⊥
+IsSearchFailure costly OutOfSteps = costly
+IsSearchFailure costly (Unreadable name) = ⊤
+IsSearchFailure costly (PatternNotUtf8 name offset) = ⊥
+IsSearchFailure costly (TooLong name) = ⊤
+
+-- A failure that may occur while the file of a pattern is read.
+abbrev pub MayFailToRead : Failure → Type 0
+MayFailToRead Argument = ⊥
+MayFailToRead Memory = ⊤
+MayFailToRead Output = ⊥
+MayFailToRead Closed = ⊥
+MayFailToRead (Syntax pattern text position) = ⊥
+MayFailToRead TooLarge = ⊥
+MayFailToRead OutOfSteps = ⊥
+MayFailToRead (Unreadable name) = ⊤
+MayFailToRead (PatternNotUtf8 name offset) = ⊤
+MayFailToRead (TooLong name) = ⊥
+
+-- The output could not be written.
+abbrev pub IsOutputFailure : Failure → Type 0
+IsOutputFailure Argument = ⊥
+IsOutputFailure Memory = ⊥
+IsOutputFailure Output = ⊤
+IsOutputFailure Closed = ⊤
+IsOutputFailure (Syntax pattern text position) = ⊥
+IsOutputFailure TooLarge = ⊥
+IsOutputFailure OutOfSteps = ⊥
+IsOutputFailure (Unreadable name) = ⊥
+IsOutputFailure (PatternNotUtf8 name offset) = ⊥
+IsOutputFailure (TooLong name) = ⊥
+
+-- The output could not be written, or P holds.
+abbrev pub OrOutput : Type 0 → Failure → Type 0
+OrOutput P failure = IsOutputFailure failure ⊎ P
+
+-- what is returned for a pattern that is rejected with this error
+abbrev pub unaccepted : PlacedFault → Result Bool Failure
+unaccepted (placed.Syntax kind error position) = Ok false
+unaccepted (placed.Memory error) = Err Memory

@@ -1,0 +1,56 @@
+-- What is known of the texts of a line and of the matches in them when the line is shown.
+use Rattle.std.specs.Prelude.{ℕ, ◌+◌, ◌<◌, ◌≤◌, ◌^◌, Bool, true, false, List, [], ◌∷◌, ◌++◌, All, flat_map, length, map}
+use Rattle.std.specs.List.{Any}
+use Rattle.regress_found.specs.Found.{IsInside}
+use Rattle.regress_replace.specs.Order.{AreInOrder}
+use Rattle.regress.specs.Compiled.{groups_of, match_of}
+use Rattle.regress.specs.declared.pattern.Regex.{Regex}
+use Rattle.regex_options.specs.declared.task.Shown.{Shown}
+use Rattle.regex_options.specs.declared.task.Shown.TheVariants.{Lines, Matches, Json, Count, Names, Nothing}
+use Rattle.regex_lines.specs.Reply.{matches_json, painted_line, ended, matches_shown, Run, TextMatches}
+use Rattle.regex_lines.specs.declared.runs.TextMatches as code
+
+-- The texts are in order in the part of a line of this length from an offset on.
+abbrev pub AreInLine : (len from : ℕ) → List Run → Type 0
+AreInLine len from [] = from ≤ len
+AreInLine len from (run ∷ runs) = from ≤ run.start × AreInLine len (run.start + length run.text) runs
+
+-- Byte offsets in the text, as offsets in the line, have 64 bits.
+abbrev pub HasOffsets : Run → Type 0
+HasOffsets run = run.start + length run.text < 2 ^ 64
+
+-- The matches are inside their text, and in order.
+pub record AreInText (f : code.TextMatches) : Type 0 where
+  pub inside : All (λ m. IsInside f.run.text.now (match_of m)) f.matches.items
+  pub order : AreInOrder 0 (map match_of f.matches.items)
+
+-- There is a match in one of the texts.
+abbrev pub HasMatch : List TextMatches → Type 0
+HasMatch found = Any (λ f. 0 < length f.matches) found
+
+-- All matches of a selected line are needed to show it.
+abbrev pub needs_matches : Shown → (paints : Bool) → Bool
+needs_matches Lines paints = paints
+needs_matches Matches paints = true
+needs_matches Json paints = true
+needs_matches Count paints = false
+needs_matches Names paints = false
+needs_matches Nothing paints = false
+
+-- what is written for a selected line for which its matches are not needed
+abbrev pub plain : (line : List ℕ) → Shown → (prefix : List ℕ) → List ℕ
+plain line Lines prefix = prefix ++ ended line
+plain line Matches prefix = []
+plain line Json prefix = []
+plain line Count prefix = []
+plain line Names prefix = []
+plain line Nothing prefix = []
+
+-- what is written for one for which they are
+abbrev pub shown_by : Regex → (line : List ℕ) → Shown → (paints : Bool) → (prefix : List ℕ) → List TextMatches → List ℕ
+shown_by r line Lines paints prefix found = prefix ++ ended (painted_line line 0 found)
+shown_by r line Matches paints prefix found = flat_map (matches_shown paints prefix) found
+shown_by r line Json paints prefix found = flat_map (matches_json (groups_of r) prefix) found
+shown_by r line Count paints prefix found = []
+shown_by r line Names paints prefix found = []
+shown_by r line Nothing paints prefix found = []

@@ -1,0 +1,6 @@
+pub mod Ending
+pub mod InLine
+pub mod Prefix
+pub mod Reading
+pub mod Reply
+pub mod Searched

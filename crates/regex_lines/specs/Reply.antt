@@ -1,0 +1,206 @@
+-- What is written for a line: the texts in which a pattern is searched, matches in color, and matches as JSON (RFC 8259).
+use Rattle.std.specs.Prelude.{◌≡◌, ℕ, zero, suc, ◌+◌, Bool, not, List, [], ◌∷◌, ◌++◌, All, drop, if◌then◌else◌, length, map, take, ◌==◌, codes, slice_range, flat_map, Option, Some, None, ◌↔◌, true, false, IsTrue}
+use Rattle.std.specs.Str.{is_utf8}
+use Rattle.std.specs.Str.Lossy.{utf8_invalid_len, utf8_valid_len}
+use Rattle.std.specs.Fmt.{decimal}
+use Rattle.std.specs.List.{Any}
+use Rattle.regex_options.specs.Plain.{Job, matching, replacing}
+use Rattle.regex_options.specs.declared.task.Selection.{Selection}
+use Rattle.regex_options.specs.declared.task.Shown.TheVariants.{Lines, Matches, Json, Count, Names, Nothing}
+use Rattle.regex_options.specs.declared.task.Shown.{Shown}
+use Rattle.regress.specs.Compiled.{outcomes_of, groups_of, match_of}
+use Rattle.regress.specs.Groups.{group_span}
+use Rattle.regress.specs.Replaced.{ReplacesAll}
+use Rattle.regress.specs.Searched.{MatchesSomewhere}
+use Rattle.regress.specs.declared.pattern.Regex.{Regex}
+use Rattle.regress_display.specs.Fault.{json_text}
+use Rattle.regress_found.specs.Found.{start_of, state_of}
+use Rattle.regress_found.specs.Repeated.{AreAllMatches}
+use Rattle.regress_found.specs.declared.found.Match.{Match}
+use Rattle.regress_replace.specs.Expansion.{matched_text, expansion}
+use Rattle.regress_replace.specs.Replaced.{replaced}
+use Rattle.regress_tree.specs.Steps.{CaptureSpan}
+use Rattle.regress_tree.specs.WellFormed.{Capture}
+use Rattle.regex_lines.specs.declared.runs.Run as code
+use Rattle.regex_lines.specs.declared.runs.TextMatches as code_matches
+
+-- a text in a line, and the byte offset at which it starts
+pub record Run : Type 0 where
+  pub start : ℕ
+  pub text : List ℕ
+
+-- the run as the code represents it
+abbrev pub run_of : code.Run → Run
+run_of r = record { start = r.start; text = r.text.now }
+
+-- the text with this offset, unless it is empty
+abbrev pub unless_empty : (start : ℕ) → List ℕ → List Run
+unless_empty start text = if length text == 0 then [] else record { start = start; text = text } ∷ []
+
+-- the length of the longest UTF-8 text in front, and of the invalid sequence after it
+abbrev pub chunk_len : List ℕ → ℕ
+chunk_len bytes = utf8_valid_len bytes + utf8_invalid_len (drop (utf8_valid_len bytes) bytes)
+
+-- The maximal runs of UTF-8, without empty ones, in bytes that start at this offset: between them are invalid sequences.
+-- There are at most `bound` sequences.
+abbrev pub runs_within : (bound start : ℕ) → List ℕ → List Run
+runs_within zero start bytes = []
+runs_within (suc bound) start [] = []
+runs_within (suc bound) start (b ∷ bs) =
+    unless_empty start (take (utf8_valid_len (b ∷ bs)) (b ∷ bs))
+    ++ runs_within bound (start + chunk_len (b ∷ bs)) (drop (chunk_len (b ∷ bs)) (b ∷ bs))
+
+-- the maximal runs of UTF-8 in a line that are not empty
+abbrev pub utf8_runs : (line : List ℕ) → List Run
+utf8_runs line = runs_within (length line) 0 line
+
+-- the line as one text
+abbrev pub whole : (line : List ℕ) → List Run
+whole line = record { start = 0; text = line } ∷ []
+
+-- the line itself, or the runs of a line that is not UTF-8
+abbrev pub texts_of : (line : List ℕ) → List Run
+texts_of line = if is_utf8 line then whole line else utf8_runs line
+
+-- a text in a line, and all matches in it
+pub record TextMatches : Type 0 where
+  pub run : Run
+  pub matches : List Match
+
+-- these as the code represents them
+abbrev pub matches_of : code_matches.TextMatches → TextMatches
+matches_of f = record { run = run_of f.run; matches = map match_of f.matches.items }
+
+-- These are the texts, each with all matches of the pattern in it.
+pub record AreSearched (r : Regex) (texts : List Run) (found : List TextMatches) : Type 0 where
+  pub texts_are : map (λ f. f.run) found ≡ texts
+  pub all : All (λ f. AreAllMatches f.run.text (outcomes_of r f.run.text) f.matches) found
+
+-- a text between the codes of a terminal for bold red and for its defaults (ECMA-48, SGR), unless it is empty
+abbrev pub painted : (text : List ℕ) → List ℕ
+painted text = if length text == 0 then [] else (27 ∷ codes "[1;31m") ++ (text ++ (27 ∷ codes "[0m"))
+
+-- the text, with `paints` in color
+abbrev pub painted_if : (paints : Bool) → (text : List ℕ) → List ℕ
+painted_if paints text = if paints then painted text else text
+
+-- the text with each match that is not empty in color
+abbrev pub painted_text : TextMatches → List ℕ
+painted_text f = replaced f.run.text (λ m. painted (matched_text f.run.text m)) 0 f.matches
+
+-- the line from an offset on, with the matches in its texts in color
+abbrev pub painted_line : (line : List ℕ) → (from : ℕ) → List TextMatches → List ℕ
+painted_line line from [] = drop from line
+painted_line line from (f ∷ fs) =
+    slice_range line from f.run.start ++ (painted_text f ++ painted_line line (f.run.start + length f.run.text) fs)
+
+-- what is in front of the matches of a line: the name of the input, and the number of the line
+abbrev pub json_prefix : (name : List ℕ) → (number : ℕ) → List ℕ
+json_prefix name number = codes "{\"file\":\"" ++ json_text name ++ codes "\",\"line\":" ++ decimal number ++ codes ","
+
+-- the members for a text with this span
+abbrev pub located_json : (start end : ℕ) → (text : List ℕ) → List ℕ
+located_json start end text =
+    codes "\"span\":[" ++ decimal start ++ codes "," ++ decimal end ++ codes "],\"text\":\"" ++ json_text text ++ codes "\""
+
+-- the members for a part of a text: its span in bytes of the line, and its text
+abbrev pub part_json : Run → Option CaptureSpan → List ℕ
+part_json run None = codes "\"span\":null,\"text\":null"
+part_json run (Some span) = located_json (run.start + span.0) (run.start + span.1) (slice_range run.text span.0 span.1)
+
+abbrev pub name_json : Option (List ℕ) → List ℕ
+name_json None = codes "null"
+name_json (Some name) = codes "\"" ++ json_text name ++ codes "\""
+
+-- the object of a group
+abbrev pub group_json : Run → (name : Option (List ℕ)) → Option CaptureSpan → List ℕ
+group_json run name span = codes "{\"name\":" ++ name_json name ++ codes "," ++ part_json run span ++ codes "}"
+
+abbrev pub comma_before : (number : ℕ) → List ℕ
+comma_before number = if number == 0 then [] else codes ","
+
+-- the objects of the groups with these names, the first of which has this number, where they count from 0
+abbrev pub groups_json : Run → Match → (number : ℕ) → (names : List (Option (List ℕ))) → List ℕ
+groups_json run m number [] = []
+groups_json run m number (name ∷ names) =
+    comma_before number ++ group_json run name (group_span m (number + 1)) ++ groups_json run m (number + 1) names
+
+-- the members for a match, and for its groups in the order of their numbers, and the end of the object
+abbrev pub match_json : Run → (groups : List Capture) → Match → List ℕ
+match_json run groups m =
+    part_json run (Some (start_of m, (state_of m).position)) ++ codes ",\"groups\":[" ++ groups_json run m 0 (map (λ c. c.name) groups) ++ codes "]}\n"
+
+-- an object for each match in a text, each on a line with what is in front
+abbrev pub matches_json : (groups : List Capture) → (prefix : List ℕ) → TextMatches → List ℕ
+matches_json groups prefix f = flat_map (λ m. prefix ++ match_json f.run groups m) f.matches
+
+-- the bytes and a line feed
+abbrev pub ended : List ℕ → List ℕ
+ended bytes = bytes ++ codes "\n"
+
+-- a match that is not empty on a line of its own, with `paints` in color
+abbrev pub shown_match : (paints : Bool) → (prefix text : List ℕ) → Match → List ℕ
+shown_match paints prefix text m =
+    if length (matched_text text m) == 0 then [] else prefix ++ ended (painted_if paints (matched_text text m))
+
+-- a line for each match in a text that is not empty
+abbrev pub matches_shown : (paints : Bool) → (prefix : List ℕ) → TextMatches → List ℕ
+matches_shown paints prefix f = flat_map (shown_match paints prefix f.run.text) f.matches
+
+-- The pattern matches somewhere in one of the texts.
+abbrev pub MatchesIn : Regex → List Run → Type 0
+MatchesIn r texts = Any (λ run. MatchesSomewhere run.text (outcomes_of r run.text)) texts
+
+-- The pattern matches in one of the texts, or with `invert` in none.
+abbrev pub IsSelected : Regex → (texts : List Run) → (invert selected : Bool) → Type 0
+IsSelected r texts invert selected = (matches : Bool) × (IsTrue matches ↔ MatchesIn r texts) × (selected ≡ (if invert then not matches else matches))
+
+module _ (r : Regex) (line : List ℕ) (texts : List Run) where
+  -- what is written for all matches in the texts
+  abbrev pub ShowsMatches : (List TextMatches → List ℕ) → (bytes : List ℕ) → Type 0
+  ShowsMatches written bytes = (found : List TextMatches) × AreSearched r texts found × (bytes ≡ written found)
+
+  -- the line with what is in front, with `paints` its matches in color
+  abbrev pub ShowsLine : (paints : Bool) → (prefix bytes : List ℕ) → Type 0
+  ShowsLine true prefix bytes = ShowsMatches (λ found. prefix ++ ended (painted_line line 0 found)) bytes
+  ShowsLine false prefix bytes = bytes ≡ prefix ++ ended line
+
+  -- what is written for a selected line with these texts, after what is in front
+  abbrev pub Shows : Shown → (paints : Bool) → (prefix bytes : List ℕ) → Type 0
+  Shows Lines paints prefix bytes = ShowsLine paints prefix bytes
+  Shows Matches paints prefix bytes = ShowsMatches (flat_map (matches_shown paints prefix)) bytes
+  Shows Json paints prefix bytes = ShowsMatches (flat_map (matches_json (groups_of r) prefix)) bytes
+  Shows Count paints prefix bytes = bytes ≡ []
+  Shows Names paints prefix bytes = bytes ≡ []
+  Shows Nothing paints prefix bytes = bytes ≡ []
+
+  -- nothing is written for a line that is not selected
+  abbrev pub ShowsIf : (selected : Bool) → Selection → (prefix bytes : List ℕ) → Type 0
+  ShowsIf true s prefix bytes = Shows s.shown s.paints prefix bytes
+  ShowsIf false s prefix bytes = bytes ≡ []
+
+-- a line feed, if there is to be one
+abbrev pub feed_if : Bool → List ℕ
+feed_if ended = if ended then codes "\n" else []
+
+module _ (r : Regex) (line : List ℕ) where
+  -- the line from an offset on, with the matches in these texts replaced
+  abbrev pub IsReplacedFrom : (template : List ℕ) → (from : ℕ) → List Run → (out : List ℕ) → Type 0
+  IsReplacedFrom template from [] out = out ≡ drop from line
+  IsReplacedFrom template from (run ∷ runs) out = (text : List ℕ) × (rest : List ℕ)
+      × ReplacesAll run.text (outcomes_of r run.text) (λ m. expansion run.text m (groups_of r) template) text
+      × IsReplacedFrom template (run.start + length run.text) runs rest × (out ≡ slice_range line from run.start ++ (text ++ rest))
+
+  -- the line with the matches in its texts replaced, and a line feed if it has one
+  abbrev pub ShowsReplaced : (texts : List Run) → (ended : Bool) → (template bytes : List ℕ) → Type 0
+  ShowsReplaced texts ended template bytes = (out : List ℕ) × IsReplacedFrom template 0 texts out × (bytes ≡ out ++ feed_if ended)
+
+  -- Whether the line is selected by these texts, and what is written for it.
+  abbrev pub IsReplyIn : (texts : List Run) → (ended : Bool) → Job → (prefix : List ℕ) → (selected : Bool) → (bytes : List ℕ) → Type 0
+  IsReplyIn texts ended (matching s) prefix selected bytes =
+      IsSelected r texts s.invert selected × ShowsIf r line texts selected s prefix bytes
+  IsReplyIn texts ended (replacing template) prefix selected bytes = (selected ≡ true) × ShowsReplaced texts ended template bytes
+
+  -- the same for the texts of the line
+  abbrev pub IsReply : (ended : Bool) → Job → (prefix : List ℕ) → (selected : Bool) → (bytes : List ℕ) → Type 0
+  IsReply ended job prefix selected bytes = IsReplyIn (texts_of line) ended job prefix selected bytes

@@ -1,0 +1,245 @@
+-- What is written for an input, and for all inputs.
+use Rattle.std.specs.Prelude.{ℕ, Bool, List, ◌≡◌, ◌-◌, true, false, [], ◌∷◌, ◌++◌, length, take, slice_index, if◌then◌else◌, ◌==◌, Option, IfSome, ◌+◌, ◌&&◌, ◌||◌, Some, None, codes, nat_le, nat_lt, map}
+use Rattle.std.specs.List.{FoldsTo}
+use Rattle.std.specs.Fmt.{decimal}
+use Rattle.std.specs.Io.KnownBytes.{Appends}
+use Rattle.regex_options.specs.Plain.{Job, matching, replacing}
+use Rattle.regex_options.specs.declared.task.Shown.TheVariants.{Lines, Matches, Json, Count, Names, Nothing}
+use Rattle.regex_options.specs.declared.task.Shown.{Shown}
+use Rattle.regress.specs.declared.pattern.Regex.{Regex}
+use Rattle.regress_arguments.specs.Output.{Took}
+use Rattle.regex_lines.specs.Reply.{IsReply, ended, json_prefix}
+use Rattle.regex_lines.specs.declared.place.Place.{Place}
+
+-- the name of an input, whether it is shown in front of each line, and whether the input is one line
+pub record Named : Type 0 where
+  pub name : List ℕ
+  pub in_front : Bool
+  pub multiline : Bool
+
+-- the name as the code represents it
+abbrev pub named : Place → Named
+named place = record { name = place.name.now; in_front = place.in_front; multiline = place.multiline }
+
+-- the bytes end with a line feed
+abbrev pub has_line_feed : List ℕ → Bool
+has_line_feed bytes = slice_index bytes (length bytes - 1) == 10
+
+-- the bytes without a line feed at their end
+abbrev pub without_line_feed : List ℕ → List ℕ
+without_line_feed bytes = if has_line_feed bytes then take (length bytes - 1) bytes else bytes
+
+-- a line without its line feed, and whether a line feed ends it
+pub record Line : Type 0 where
+  pub bytes : List ℕ
+  pub ended : Bool
+
+-- the lines, with one byte more in front of the first one
+abbrev pub onto_line : ℕ → List Line → List Line
+onto_line b [] = record { bytes = b ∷ []; ended = false } ∷ []
+onto_line b (line ∷ lines) = record { bytes = b ∷ line.bytes; ended = line.ended } ∷ lines
+
+-- The lines. The last one may lack a line feed.
+abbrev pub lines_of : List ℕ → List Line
+lines_of [] = []
+lines_of (b ∷ bs) = if b == 10 then record { bytes = []; ended = true } ∷ lines_of bs else onto_line b (lines_of bs)
+
+-- A text as one line. An empty text has no line.
+abbrev pub one_line : List ℕ → List Line
+one_line [] = []
+one_line (b ∷ bs) = record { bytes = without_line_feed (b ∷ bs); ended = has_line_feed (b ∷ bs) } ∷ []
+
+-- the lines, or with `multiline` one
+abbrev pub split_text : (multiline : Bool) → List ℕ → List Line
+split_text true text = one_line text
+split_text false text = lines_of text
+
+-- The first lines of an input, whose bytes may be known: all of them if it was read to its end.
+pub record AreLinesOf (multiline : Bool) (input : Option (List ℕ)) (ended : Bool) (lines : List Line) : Type 0 where
+  pub text : List ℕ
+  pub known : IfSome input (λ known. text ≡ known)
+  pub others : List Line
+  pub whole : split_text multiline text ≡ lines ++ others
+  pub all : ended ≡ true → others ≡ []
+
+-- how far an input is searched: the number of lines, the number of selected lines, and what was written for them
+pub record Progress : Type 0 where
+  pub lines : ℕ
+  pub selected : ℕ
+  pub written : List ℕ
+
+abbrev pub at_start : Progress
+at_start = record { lines = 0; selected = 0; written = [] }
+
+-- 1 if the test holds
+abbrev pub one_if : Bool → ℕ
+one_if b = if b then 1 else 0
+
+-- the number is not below the limit, if there is one
+abbrev pub reaches : (limit : Option ℕ) → ℕ → Bool
+reaches None n = false
+reaches (Some limit) n = nat_le limit n
+
+-- whether lines are numbered
+abbrev pub has_numbers : Job → Bool
+has_numbers (matching s) = s.numbers
+has_numbers (replacing template) = false
+
+-- the name of the input and a colon, if it is shown in front
+abbrev pub name_of : Named → List ℕ
+name_of place = if place.in_front then place.name ++ codes ":" else []
+
+-- what is shown does not depend on lines after the first selected one
+abbrev pub needs_one : Shown → Bool
+needs_one Lines = false
+needs_one Matches = false
+needs_one Json = false
+needs_one Count = false
+needs_one Names = true
+needs_one Nothing = true
+
+-- this many lines of an input are enough
+abbrev pub is_enough : Job → (selected : ℕ) → Bool
+is_enough (matching s) selected = reaches s.max_count selected || (needs_one s.shown && nat_lt 0 selected)
+is_enough (replacing template) selected = false
+
+-- whether matches are shown as JSON
+abbrev pub is_json : Shown → Bool
+is_json Lines = false
+is_json Matches = false
+is_json Json = true
+is_json Count = false
+is_json Names = false
+is_json Nothing = false
+
+abbrev pub shows_json : Job → Bool
+shows_json (matching s) = is_json s.shown
+shows_json (replacing template) = false
+
+-- what is in front of a line as text: the name of the input and the number of the line, if they are shown
+abbrev pub text_prefix : Job → Named → (number : ℕ) → List ℕ
+text_prefix job place number = name_of place ++ (if has_numbers job then decimal number ++ codes ":" else [])
+
+-- what is in front of what is shown of the line with this number
+abbrev pub prefix_of : Job → Named → (number : ℕ) → List ℕ
+prefix_of job place number = if shows_json job then json_prefix place.name number else text_prefix job place number
+
+-- what is written at the end of an input for the number of selected lines
+abbrev pub shown_at_end : Shown → Named → (selected : ℕ) → List ℕ
+shown_at_end Lines place selected = []
+shown_at_end Matches place selected = []
+shown_at_end Json place selected = []
+shown_at_end Count place selected = name_of place ++ ended (decimal selected)
+shown_at_end Names place selected = if nat_lt 0 selected then ended place.name else []
+shown_at_end Nothing place selected = []
+
+-- the same, where only lines that match are counted
+abbrev pub written_at_end : Job → Named → (selected : ℕ) → List ℕ
+written_at_end (matching s) place selected = shown_at_end s.shown place selected
+written_at_end (replacing template) place selected = []
+
+module _ (r : Regex) (job : Job) where
+  -- One line further, and it is searched.
+  pub record IsSearchedLine (place : Named) (p : Progress) (line : Line) (q : Progress) : Type 0 where
+    pub selected : Bool
+    pub bytes : List ℕ
+    pub reply : IsReply r line.bytes line.ended job (prefix_of job place (p.lines + 1)) selected bytes
+    pub next : q ≡ record { lines = p.lines + 1; selected = p.selected + one_if selected; written = p.written ++ bytes }
+
+  -- One line further: the line is passed over if enough lines are selected before it.
+  pub record IsStep (place : Named) (p : Progress) (line : Line) (q : Progress) : Type 0 where
+    pub passed : is_enough job p.selected ≡ true → q ≡ p
+    pub searched : is_enough job p.selected ≡ false → IsSearchedLine place p line q
+
+  -- The lines of an input were searched in order: all of them, or the first ones.
+  pub record IsSearched (place : Named) (input : Option (List ℕ)) (all : Bool) (p : Progress) : Type 0 where
+    pub lines : List Line
+    pub are : AreLinesOf place.multiline input all lines
+    pub steps : FoldsTo (IsStep place) at_start lines p
+
+  -- all lines of an input were searched, this many are selected, and their output was written
+  abbrev pub SearchesAll : Named → (input old new : Option (List ℕ)) → (selected : ℕ) → Type 0
+  SearchesAll place input old new selected =
+      (p : Progress) × IsSearched place input true p × (p.selected ≡ selected) × Appends old new p.written
+
+  -- the first lines of an input were searched
+  abbrev pub SearchesFirst : Named → (input old new : Option (List ℕ)) → Type 0
+  SearchesFirst place input old new = (p : Progress) × IsSearched place input false p × Appends old new p.written
+
+-- an input: its name, and its bytes if they are known
+abbrev pub Input : Type 0
+Input = Named × Option (List ℕ)
+
+-- The files with these names. Their names are in front of lines if there are several. Nothing is known of their bytes.
+abbrev pub named_files : (multiline : Bool) → List (List ℕ) → List Input
+named_files multiline files = map (λ name. (record { name = name; in_front = nat_lt 1 (length files); multiline = multiline }, None)) files
+
+-- the files, or standard input if there are none
+abbrev pub inputs_of : (multiline : Bool) → (files : List (List ℕ)) → (input : Option (List ℕ)) → List Input
+inputs_of multiline [] input = (record { name = codes "(standard input)"; in_front = false; multiline = multiline }, input) ∷ []
+inputs_of multiline (file ∷ files) input = named_files multiline (file ∷ files)
+
+-- whether a line was selected, and what was written
+pub record Result : Type 0 where
+  pub any : Bool
+  pub written : List ℕ
+
+abbrev pub is_nothing : Shown → Bool
+is_nothing Lines = false
+is_nothing Matches = false
+is_nothing Json = false
+is_nothing Count = false
+is_nothing Names = false
+is_nothing Nothing = true
+
+-- No line is to be selected; or one is, and nothing is shown.
+abbrev pub has_ended : Job → (any : Bool) → Bool
+has_ended (matching s) any = reaches s.max_count 0 || (any && is_nothing s.shown)
+has_ended (replacing template) any = false
+
+module _ (r : Regex) (job : Job) where
+  -- what is written for an input: what its lines yield, and what is shown at its end
+  pub record IsWritten (place : Named) (input : Option (List ℕ)) (any : Bool) (bytes : List ℕ) : Type 0 where
+    pub progress : Progress
+    pub searched : IsSearched r job place input true progress
+    pub some : any ≡ nat_lt 0 progress.selected
+    pub is : bytes ≡ progress.written ++ written_at_end job place progress.selected
+
+  abbrev pub WritesInput : Named → (input old new : Option (List ℕ)) → (any : Bool) → Type 0
+  WritesInput place input old new any = Took old new (IsWritten place input any)
+
+  -- One input further, and it is searched.
+  pub record IsSearchedInput (before : Result) (input : Input) (after : Result) : Type 0 where
+    pub any : Bool
+    pub bytes : List ℕ
+    pub written : IsWritten input.0 input.1 any bytes
+    pub next : after ≡ record { any = before.any || any; written = before.written ++ bytes }
+
+  -- One input further: it is passed over if the search ended before it.
+  pub record IsInputStep (before : Result) (input : Input) (after : Result) : Type 0 where
+    pub passed : has_ended job before.any ≡ true → after ≡ before
+    pub searched : has_ended job before.any ≡ false → IsSearchedInput before input after
+
+  -- all inputs in order
+  abbrev pub WritesInputs : List Input → (old new : Option (List ℕ)) → (any : Bool) → Type 0
+  WritesInputs inputs old new any =
+      (bytes : List ℕ) × FoldsTo IsInputStep (record { any = false; written = [] }) inputs (record { any = any; written = bytes }) × Appends old new bytes
+
+  -- what is written for the first lines of the first input, if there is one
+  abbrev pub IsBegun : List Input → (bytes : List ℕ) → Type 0
+  IsBegun [] bytes = bytes ≡ []
+  IsBegun (input ∷ others) bytes = (p : Progress) × IsSearched r job input.0 input.1 false p × (bytes ≡ p.written)
+
+  -- what is written for the first inputs, and the first lines of the next one
+  pub record IsFirst (inputs : List Input) (bytes : List ℕ) : Type 0 where
+    pub before : List Input
+    pub others : List Input
+    pub parts : inputs ≡ before ++ others
+    pub result : Result
+    pub steps : FoldsTo IsInputStep (record { any = false; written = [] }) before result
+    pub more : List ℕ
+    pub begun : IsBegun others more
+    pub is : bytes ≡ result.written ++ more
+
+  abbrev pub WritesSomeOf : List Input → (old new : Option (List ℕ)) → Type 0
+  WritesSomeOf inputs old new = Took old new (IsFirst inputs)

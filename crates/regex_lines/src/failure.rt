@@ -1,0 +1,184 @@
+//! Failures of a run.
+ghost use Rattle.std.specs.Prelude.{◌≡◌};
+ghost use Rattle.regex_lines.specs.Ending.{IsLate, IsOutputFailure, IsSearchFailure, MayFailToRead, unaccepted};
+ghost use Rattle.regex_lines.specs.declared.failure.Failure.TheVariants.{Output};
+
+use regress::{Error, SearchError};
+use regress_arguments::{write_visible, write_with_caret};
+use regress_parse::PlacedFault;
+use std::alloc::{AllocError, AllocFailed};
+use std::io::{self, ErrorKind, Write};
+
+/// Why a run ends with status 2.
+///
+/// `io::Error` has no `From` conversion: the caller knows whether it is an error of an input or of the output.
+#[derive(Drop)]
+pub enum Failure<'a> {
+    /// An argument is not UTF-8.
+    Argument,
+    /// An allocation failed.
+    Memory,
+    /// Standard output cannot be written.
+    Output,
+    /// Standard output is a pipe that nobody reads, of which there is no message.
+    Closed,
+    /// The pattern is rejected, with a syntax error at a code-point index of the pattern or at its end.
+    Syntax {
+        pattern: String,
+        text: String,
+        position: usize,
+    },
+    /// The pattern is too large.
+    TooLarge,
+    /// The step limit was reached.
+    OutOfSteps,
+    /// The file with this name cannot be opened or read.
+    Unreadable(&'a str),
+    /// The pattern in the file with this name is not UTF-8 from this byte offset on.
+    PatternNotUtf8 {
+        name: &'a str,
+        offset: usize,
+    },
+    /// The input with this name has 2^64 lines.
+    TooLong(&'a str),
+}
+
+impl<'a> From<AllocError> for Failure<'a> {
+    ghost use Rattle.std.specs.Prelude.{◌≡◌};
+    ghost use Rattle.regex_lines.specs.declared.failure.Failure.TheVariants.{Memory};
+
+    ghost from_gives = { λ _ failure. failure ≡ Memory };
+
+    fn from(_: AllocError) -> Failure<'a> {
+        Failure::Memory
+    }
+}
+
+impl<'a, T: Drop> From<AllocFailed<T>> for Failure<'a> {
+    ghost use Rattle.std.specs.Prelude.{◌≡◌};
+    ghost use Rattle.regex_lines.specs.declared.failure.Failure.TheVariants.{Memory};
+
+    ghost from_gives = { λ _ failure. failure ≡ Memory };
+
+    fn from(_: AllocFailed<T>) -> Failure<'a> {
+        Failure::Memory
+    }
+}
+
+impl<'a> From<SearchError> for Failure<'a> {
+    ghost use Rattle.std.specs.Prelude.{◌≡◌};
+    ghost use Rattle.regex_lines.specs.Ending.{search_failure};
+
+    ghost from_gives = { λ error failure. failure ≡ search_failure error };
+
+    fn from(error: SearchError) -> Failure<'a> {
+        match error {
+            SearchError::Memory => Failure::Memory,
+            SearchError::OutOfSteps => Failure::OutOfSteps,
+        }
+    }
+}
+
+/// Writes the message of a failure to `err`, and returns the exit status. An error of that write is ignored.
+pub fn report<E: Write>(failure: Failure<'_>, err: &mut E) -> u8
+    ensures { result ≡ 2 }
+{
+    let _ = write_message(failure, err);
+    2
+}
+
+/// Writes the message of a failure.
+fn write_message<E: Write>(failure: Failure<'_>, err: &mut E) -> io::Result<()> {
+    match failure {
+        Failure::Argument => writeln!(err, "regex: an argument is not UTF-8"),
+        Failure::Memory => writeln!(err, "regex: out of memory"),
+        Failure::Output => writeln!(err, "regex: can't write standard output"),
+        Failure::Closed => Ok(()),
+        Failure::Syntax {
+            pattern,
+            text,
+            position,
+        } => write_syntax_error(&text, &pattern, position, err),
+        Failure::TooLarge => writeln!(err, "regex: the pattern is too large"),
+        Failure::OutOfSteps => writeln!(err, "regex: the search takes too many steps"),
+        Failure::Unreadable(name) => {
+            write_name(name, err)?;
+            writeln!(err, "can't be read")
+        }
+        Failure::PatternNotUtf8 { name, offset } => {
+            write_name(name, err)?;
+            writeln!(err, "the pattern is not UTF-8, at byte offset {offset}")
+        }
+        Failure::TooLong(name) => {
+            write_name(name, err)?;
+            writeln!(err, "too many lines")
+        }
+    }
+}
+
+/// Writes what is in front of a message about an input.
+fn write_name<E: Write>(name: &str, err: &mut E) -> io::Result<()> {
+    err.write_all(b"regex: ")?;
+    write_visible(name, err)?;
+    err.write_all(b": ")
+}
+
+/// Writes to `err` why a pattern is rejected, and returns that it is not accepted. An error of that write is ignored.
+///
+/// # Errors
+/// Returns `Memory` if that is why.
+pub fn reject<'f, E: Write>(
+    fault: PlacedFault,
+    pattern: &str,
+    err: &mut E,
+) -> Result<bool, Failure<'f>>
+    ensures { result ≡ unaccepted fault }
+{
+    match fault {
+        PlacedFault::Syntax {
+            error,
+            position,
+            ..
+        } => {
+            let _ = write_syntax_error(&error.text, pattern, position, err);
+            Ok(false)
+        }
+        PlacedFault::Memory(_) => Err(Failure::Memory),
+    }
+}
+
+/// Returns why the output cannot be written.
+pub(crate) fn output_failure<'a>(error: io::Error) -> Failure<'a>
+    ensures output { IsOutputFailure result }
+    ensures late { IsLate result }
+{
+    match error.kind() {
+        ErrorKind::BrokenPipe => Failure::Closed,
+        _ => Failure::Output,
+    }
+}
+
+/// Returns why a file cannot be read.
+pub fn read_failure(error: io::Error, name: &str) -> Failure<'_>
+    ensures search { IsSearchFailure ⊥ result }
+    ensures reading { MayFailToRead result }
+{
+    match error.kind() {
+        ErrorKind::OutOfMemory => Failure::Memory,
+        _ => Failure::Unreadable(name),
+    }
+}
+
+/// Writes a syntax error with its position, a code-point index of the pattern or its length, and the pattern with a caret.
+///
+/// # Errors
+/// Returns an error of `err`.
+pub fn write_syntax_error<E: Write>(
+    text: &str,
+    pattern: &str,
+    position: usize,
+    err: &mut E,
+) -> io::Result<()> {
+    writeln!(err, "regex: {text}, at position {position}")?;
+    write_with_caret(pattern, position, err)
+}

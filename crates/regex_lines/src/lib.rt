@@ -1,0 +1,20 @@
+//! Searches in the lines of texts, what is written for them, and why a run of the program `regex` fails.
+#![tactic(auto)]
+
+mod failure;
+mod inputs;
+mod json;
+mod painting;
+mod place;
+mod prefix;
+mod printing;
+mod reading;
+mod reply;
+mod runs;
+mod searcher;
+mod searching;
+
+pub use failure::{Failure, read_failure, reject, report, write_syntax_error};
+pub use inputs::search_all;
+pub use printing::{flush, print};
+pub use reading::remove_line_feed;

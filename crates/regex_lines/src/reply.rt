@@ -1,0 +1,384 @@
+//! What is written for a line.
+ghost use Rattle.std.specs.Prelude.{◌≡◌, ◌↔◌, ◌++◌, ℕ, List, All, IfErr, IfOk, IsTrue, OnOk, false, flat_map, if◌then◌else◌, length, map, not, true};
+ghost use Rattle.regex_options.specs.Plain.{job};
+ghost use Rattle.regex_lines.specs.Ending.{IsCostly, IsSearchError};
+ghost use Rattle.regex_lines.specs.InLine.{AreInLine, AreInText, HasMatch, needs_matches, plain, shown_by};
+ghost use Rattle.regex_lines.specs.Reply.{painted_if, IsReplacedFrom, IsReply, IsReplyIn, IsSelected, MatchesIn, ShowsIf, ShowsReplaced, ended, feed_if, matches_shown, AreSearched, matches_of, run_of, utf8_runs, whole};
+ghost use Rattle.regex_lines.specs.Prefix.{text_of};
+
+use crate::json::all_json;
+use crate::painting::{add_painted_if, painted_line};
+use crate::prefix::{Prefix, prefix_text};
+use crate::runs::{Run, TextMatches, utf8_runs};
+use crate::searcher::Searcher;
+use regex_options::{Selection, Shown, Task};
+use regress::SearchError;
+use std::alloc::{AllocError, Global};
+use std::str;
+
+/// Whether a line is selected, and what is written for it.
+#[derive(Drop)]
+pub(crate) struct Reply {
+    pub(crate) selected: bool,
+    pub(crate) bytes: Vec<u8>,
+}
+
+/// A line, whether a line feed ends it, and the texts in it.
+#[derive(Clone, Copy)]
+struct Line<'a> {
+    bytes: &'a [u8],
+    ended: bool,
+    texts: &'a [Run<'a>],
+}
+
+/// Returns what a task writes for a line, which a line feed may end. Each line of it has `prefix` in front where the
+/// task selects lines. A line that is not UTF-8 is searched run by run, and its other bytes match nowhere.
+pub(crate) fn reply_to(
+    searcher: &Searcher<'_>,
+    prefix: Prefix<'_>,
+    line: &[u8],
+    ended: bool,
+) -> Result<Reply, SearchError>
+    ensures reply { IfOk result (λ reply. IsReply searcher.now.regex.now line.now ended (job prefix.entry.task) (text_of prefix.entry) reply.selected reply.bytes.items) }
+    ensures failed { IfErr result (IsSearchError (IsCostly searcher.now.regex.now)) }
+{
+    match str::from_utf8(line) {
+        Ok(text) => reply_to_text(searcher, prefix, text, ended),
+        Err(_) => reply_to_runs(searcher, prefix, line, ended),
+    }
+}
+
+/// Returns what a task writes for a line that is UTF-8.
+fn reply_to_text(
+    searcher: &Searcher<'_>,
+    prefix: Prefix<'_>,
+    text: &str,
+    ended: bool,
+) -> Result<Reply, SearchError>
+    ensures reply { IfOk result (λ reply. IsReplyIn searcher.now.regex.now text.now (whole text.now) ended (job prefix.entry.task) (text_of prefix.entry) reply.selected reply.bytes.items) }
+    ensures failed { IfErr result (IsSearchError (IsCostly searcher.now.regex.now)) }
+{
+    let texts = [Run { start: 0, text }];
+    let line = Line {
+        bytes: text.as_bytes(),
+        ended,
+        texts: &texts,
+    };
+    reply_in(searcher, prefix, line)
+}
+
+/// Returns what a task writes for a line that is not UTF-8.
+fn reply_to_runs(
+    searcher: &Searcher<'_>,
+    prefix: Prefix<'_>,
+    line: &[u8],
+    ended: bool,
+) -> Result<Reply, SearchError>
+    ensures reply { IfOk result (λ reply. IsReplyIn searcher.now.regex.now line.now (utf8_runs line.now) ended (job prefix.entry.task) (text_of prefix.entry) reply.selected reply.bytes.items) }
+    ensures failed { IfErr result (IsSearchError (IsCostly searcher.now.regex.now)) }
+{
+    let texts = utf8_runs(searcher.alloc, line)?;
+    let line = Line {
+        bytes: line,
+        ended,
+        texts: &texts,
+    };
+    reply_in(searcher, prefix, line)
+}
+
+/// Returns what a task writes for a line with these texts.
+fn reply_in(
+    searcher: &Searcher<'_>,
+    prefix: Prefix<'_>,
+    line: Line<'_>,
+) -> Result<Reply, SearchError>
+    requires { AreInLine (length line.bytes.now) 0 (map run_of line.texts.now) }
+    ensures reply { IfOk result (λ reply. IsReplyIn searcher.now.regex.now line.entry.bytes.now (map run_of line.entry.texts.now) line.entry.ended (job prefix.entry.task)
+        (text_of prefix.entry) reply.selected reply.bytes.items) }
+    ensures failed { IfErr result (IsSearchError (IsCostly searcher.now.regex.now)) }
+{
+    match prefix.task {
+        Task::Match(selection) => selected(searcher, selection, prefix, line),
+        Task::Replace(template) => Ok(Reply {
+            selected: true,
+            bytes: replaced(searcher, template, line)?,
+        }),
+    }
+}
+
+/// Searches a line once: for all matches only if they are shown.
+fn selected(
+    searcher: &Searcher<'_>,
+    selection: Selection,
+    prefix: Prefix<'_>,
+    line: Line<'_>,
+) -> Result<Reply, SearchError>
+    requires { AreInLine (length line.bytes.now) 0 (map run_of line.texts.now) }
+    ensures selected { IfOk result (λ reply. IsSelected searcher.now.regex.now (map run_of line.entry.texts.now) selection.invert reply.selected) }
+    ensures shows { IfOk result (λ reply. ShowsIf searcher.now.regex.now line.entry.bytes.now (map run_of line.entry.texts.now) reply.selected selection (text_of prefix.entry) reply.bytes.items) }
+    ensures failed { IfErr result (IsSearchError (IsCostly searcher.now.regex.now)) }
+{
+    if needs_matches(selection) {
+        selected_by_matches(searcher, selection, prefix, line)
+    } else {
+        selected_by_test(searcher, selection, prefix, line)
+    }
+}
+
+/// Returns whether all matches of a selected line are needed to show it.
+fn needs_matches(selection: Selection) -> bool
+    ensures { result ≡ needs_matches selection.shown selection.paints }
+{
+    match selection.shown {
+        Shown::Lines => selection.paints,
+        Shown::Matches | Shown::Json => true,
+        Shown::Count | Shown::Names | Shown::Nothing => false,
+    }
+}
+
+/// Searches a line, of which no matches are shown.
+fn selected_by_test(
+    searcher: &Searcher<'_>,
+    selection: Selection,
+    prefix: Prefix<'_>,
+    line: Line<'_>,
+) -> Result<Reply, SearchError>
+    requires { needs_matches selection.shown selection.paints ≡ false }
+    ensures selected { IfOk result (λ reply. IsSelected searcher.now.regex.now (map run_of line.entry.texts.now) selection.invert reply.selected) }
+    ensures shows { IfOk result (λ reply. ShowsIf searcher.now.regex.now line.entry.bytes.now (map run_of line.entry.texts.now) reply.selected selection (text_of prefix.entry) reply.bytes.items) }
+    ensures failed { IfErr result (IsSearchError (IsCostly searcher.now.regex.now)) }
+{
+    let selected = is_selected(selection.invert, match_in(searcher, line.texts)?);
+    if selected {
+        let bytes = plain(searcher.alloc, selection.shown, prefix, line.bytes)?;
+        Ok(Reply { selected, bytes })
+    } else {
+        let bytes = Vec::new(searcher.alloc);
+        Ok(Reply { selected, bytes })
+    }
+}
+
+/// Searches a line, of which the matches are shown.
+fn selected_by_matches(
+    searcher: &Searcher<'_>,
+    selection: Selection,
+    prefix: Prefix<'_>,
+    line: Line<'_>,
+) -> Result<Reply, SearchError>
+    requires order { AreInLine (length line.bytes.now) 0 (map run_of line.texts.now) }
+    requires shows { needs_matches selection.shown selection.paints ≡ true }
+    ensures selected { IfOk result (λ reply. IsSelected searcher.now.regex.now (map run_of line.entry.texts.now) selection.invert reply.selected) }
+    ensures shows { IfOk result (λ reply. ShowsIf searcher.now.regex.now line.entry.bytes.now (map run_of line.entry.texts.now) reply.selected selection (text_of prefix.entry) reply.bytes.items) }
+    ensures failed { IfErr result (IsSearchError (IsCostly searcher.now.regex.now)) }
+{
+    let found = search_texts(searcher, line.texts)?;
+    let selected = is_selected(selection.invert, has_match(&found));
+    if selected {
+        let bytes = shown(searcher, selection, prefix, line.bytes, &found)?;
+        Ok(Reply { selected, bytes })
+    } else {
+        let bytes = Vec::new(searcher.alloc);
+        Ok(Reply { selected, bytes })
+    }
+}
+
+/// Returns whether a line is selected, by whether the pattern matches in it.
+fn is_selected(invert: bool, matches: bool) -> bool
+    ensures { result ≡ (if invert then not matches else matches) }
+{
+    if invert { !matches } else { matches }
+}
+
+/// Returns whether the pattern matches in one of the texts.
+fn match_in(searcher: &Searcher<'_>, texts: &[Run<'_>]) -> Result<bool, SearchError>
+    ensures matches { IfOk result (λ matches. IsTrue matches ↔ MatchesIn searcher.now.regex.now (map run_of texts.now)) }
+    ensures failed { IfErr result (IsSearchError (IsCostly searcher.now.regex.now)) }
+{
+    for run in texts {
+        if searcher.is_match(run.text)? {
+            return Ok(true);
+        }
+    }
+    Ok(false)
+}
+
+/// Returns the texts, each with all matches in it.
+fn search_texts<'a>(
+    searcher: &'a Searcher<'a>,
+    texts: &[Run<'a>],
+) -> Result<Vec<TextMatches<'a>>, SearchError>
+    ensures searched { IfOk result (λ found. AreSearched searcher.now.regex.now (map run_of texts.now) (map matches_of found.items)) }
+    ensures inside { IfOk result (λ found. All AreInText found.items) }
+    ensures failed { IfErr result (IsSearchError (IsCostly searcher.now.regex.now)) }
+{
+    let mut found = Vec::new(searcher.alloc);
+    for run in texts {
+        let matches = searcher.find_all(run.text)?;
+        found.push(TextMatches { run: *run, matches })?;
+    }
+    Ok(found)
+}
+
+/// Returns whether there is a match in one of the texts.
+fn has_match(found: &[TextMatches<'_>]) -> bool
+    ensures { IsTrue result ↔ HasMatch (map matches_of found.now) }
+{
+    for text in found {
+        if !text.matches.is_empty() {
+            return true;
+        }
+    }
+    false
+}
+
+/// Returns what is written for a selected line with these matches.
+fn shown(
+    searcher: &Searcher<'_>,
+    selection: Selection,
+    prefix: Prefix<'_>,
+    line: &[u8],
+    found: &[TextMatches<'_>],
+) -> Result<Vec<u8>, AllocError>
+    requires order { AreInLine (length line.now) 0 (map (λ f. f.run) (map matches_of found.now)) }
+    requires inside { All AreInText found.now }
+    requires shows { needs_matches selection.shown selection.paints ≡ true }
+    ensures { IfOk result (λ bytes. bytes.items ≡ shown_by searcher.now.regex.now line.now selection.shown selection.paints (text_of prefix.entry) (map matches_of found.now)) }
+{
+    let prefix = prefix_text(searcher.alloc, prefix)?;
+    match selection.shown {
+        Shown::Lines => painted_line(searcher.alloc, &prefix, line, found),
+        Shown::Matches => all_matches(searcher.alloc, selection.paints, &prefix, found),
+        Shown::Json => all_json(searcher.alloc, searcher.regex, &prefix, found),
+        Shown::Count | Shown::Names | Shown::Nothing => Ok(Vec::new(searcher.alloc)),
+    }
+}
+
+/// Returns what is written for a selected line without its matches.
+fn plain(
+    alloc: Global,
+    shown: Shown,
+    prefix: Prefix<'_>,
+    line: &[u8],
+) -> Result<Vec<u8>, AllocError>
+    ensures { IfOk result (λ bytes. bytes.items ≡ plain line.now shown (text_of prefix.entry)) }
+{
+    match shown {
+        Shown::Lines => whole_line(alloc, prefix, line),
+        Shown::Matches | Shown::Json | Shown::Count | Shown::Names | Shown::Nothing => {
+            Ok(Vec::new(alloc))
+        }
+    }
+}
+
+/// Returns the line, with `prefix` in front.
+fn whole_line(alloc: Global, prefix: Prefix<'_>, line: &[u8]) -> Result<Vec<u8>, AllocError>
+    ensures { IfOk result (λ bytes. bytes.items ≡ text_of prefix.entry ++ ended line.now) }
+{
+    let prefix = prefix_text(alloc, prefix)?;
+    let mut bytes = Vec::new(alloc);
+    add_line(&prefix, line, &mut bytes)?;
+    Ok(bytes)
+}
+
+/// Adds a line, with `prefix` in front.
+fn add_line(prefix: &str, line: &[u8], to: &mut Vec<u8>) -> Result<(), AllocError>
+    ensures { OnOk result (to.new.items ≡ to.old.items ++ (prefix.now ++ ended line.now)) }
+{
+    to.extend_from_slice(prefix.as_bytes())?;
+    to.extend_from_slice(line)?;
+    to.push(b'\n')?;
+    Ok(())
+}
+
+/// Returns a line for each match that is not empty.
+fn all_matches(
+    alloc: Global,
+    paints: bool,
+    prefix: &str,
+    found: &[TextMatches<'_>],
+) -> Result<Vec<u8>, AllocError>
+    requires { All AreInText found.now }
+    ensures { IfOk result (λ bytes. bytes.items ≡ flat_map (matches_shown paints prefix.now) (map matches_of found.now)) }
+{
+    let mut bytes = Vec::new(alloc);
+    for text in found {
+        add_matches(paints, prefix, text, &mut bytes)?;
+    }
+    Ok(bytes)
+}
+
+/// Adds a line for each match in a text that is not empty.
+fn add_matches(
+    paints: bool,
+    prefix: &str,
+    text: &TextMatches<'_>,
+    to: &mut Vec<u8>,
+) -> Result<(), AllocError>
+    requires { AreInText text.now }
+    ensures { OnOk result (to.new.items ≡ to.old.items ++ matches_shown paints prefix.now (matches_of text.now)) }
+{
+    for found in &text.matches {
+        let matched = &text.run.text[found.start()..found.end()];
+        if !matched.is_empty() {
+            add_match(paints, prefix, matched, to)?;
+        }
+    }
+    Ok(())
+}
+
+/// Adds a line with a match, with `prefix` in front.
+fn add_match(paints: bool, prefix: &str, text: &str, to: &mut Vec<u8>) -> Result<(), AllocError>
+    ensures { OnOk result (to.new.items ≡ to.old.items ++ (prefix.now ++ ended (painted_if paints text.now))) }
+{
+    to.extend_from_slice(prefix.as_bytes())?;
+    add_painted_if(paints, text, to)?;
+    to.push(b'\n')?;
+    Ok(())
+}
+
+/// Returns the line with the matches in its texts replaced, and its line feed.
+fn replaced(searcher: &Searcher<'_>, template: &str, line: Line<'_>) -> Result<Vec<u8>, SearchError>
+    requires { AreInLine (length line.bytes.now) 0 (map run_of line.texts.now) }
+    ensures replaced { IfOk result (λ bytes. ShowsReplaced searcher.now.regex.now line.entry.bytes.now (map run_of line.entry.texts.now) line.entry.ended template.now bytes.items) }
+    ensures failed { IfErr result (IsSearchError (IsCostly searcher.now.regex.now)) }
+{
+    let mut bytes = Vec::new(searcher.alloc);
+    add_replaced(searcher, template, line, &mut bytes)?;
+    add_feed_if(line.ended, &mut bytes)?;
+    Ok(bytes)
+}
+
+/// Adds a line feed, if there is to be one.
+fn add_feed_if(ended: bool, to: &mut Vec<u8>) -> Result<(), AllocError>
+    ensures { OnOk result (to.new.items ≡ to.old.items ++ feed_if ended) }
+{
+    if ended {
+        to.push(b'\n')?;
+    }
+    Ok(())
+}
+
+/// Adds the line with the matches in its texts replaced.
+fn add_replaced(
+    searcher: &Searcher<'_>,
+    template: &str,
+    line: Line<'_>,
+    to: &mut Vec<u8>,
+) -> Result<(), SearchError>
+    requires { AreInLine (length line.bytes.now) 0 (map run_of line.texts.now) }
+    ensures replaced { OnOk result ((out : List ℕ) × IsReplacedFrom searcher.now.regex.now line.entry.bytes.now template.now 0 (map run_of line.entry.texts.now) out
+        × (to.new.items ≡ to.old.items ++ out)) }
+    ensures failed { IfErr result (IsSearchError (IsCostly searcher.now.regex.now)) }
+{
+    let mut from = 0;
+    for run in line.texts {
+        to.extend_from_slice(&line.bytes[from..run.start])?;
+        let text = searcher
+            .regex
+            .replace_all(searcher.alloc, run.text, template)?;
+        to.extend_from_slice(text.as_bytes())?;
+        from = run.start + run.text.len();
+    }
+    to.extend_from_slice(&line.bytes[from..])?;
+    Ok(())
+}
