@@ -1,5 +1,5 @@
 -- Each branch is the production that the grammar selects.
-use Rattle.std.proofs.Common.{ℕ, Bool, false, true, ◌==◌, ◌∷◌, drop, Some, arith, refl, sym, ap, subst, ◌∙◌}
+use Rattle.std.proofs.Common.{ℕ, Bool, false, true, ◌==◌, ◌∷◌, drop, Some, arith, sym, ap, subst, ◌∙◌}
 use Rattle.std.proofs.lemmas.Bool.{ne_eqb}
 use Rattle.regress_lexer.specs.Reads.{ParsesAs}
 use Rattle.std.proofs.lemmas.List.Elements.{All-tail}
