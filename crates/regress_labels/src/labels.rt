@@ -82,10 +82,12 @@ pub fn group_text(
     group: u32,
     name: Option<&String>,
 ) -> Result<String, AllocError> {
-    match name {
-        Some(name) => Ok(format!(in alloc; "{front}{group} {name}")?),
-        None => Ok(format!(in alloc; "{front}{group}")?),
+    let mut text = format!(in alloc; "{front}{group}")?;
+    if let Some(name) = name {
+        text.push(' ')?;
+        text.push_str(name)?;
     }
+    Ok(text)
 }
 
 /// Returns how many iterations a loop takes, and whether it is lazy. The label is empty if the lines show that.
@@ -104,14 +106,24 @@ fn times(alloc: Global, min: usize, max: Option<usize>) -> Result<String, AllocE
     match (min, max) {
         (0, None | Some(1)) => Ok(String::new(alloc)),
         (1, None) => String::from_str(alloc, "1 or more"),
-        (min, None) => Ok(format!(in alloc; "at least {min}")?),
-        (0, Some(max)) if max > 0 => Ok(format!(in alloc; "at most {max}")?),
-        (min, Some(max)) if min == max => Ok(format!(in alloc; "exactly {min}")?),
-        (min, Some(max)) if min.saturating_add(1) == max => Ok(format!(in alloc;
-            "{min} or {max}"
-        )?),
-        (min, Some(max)) => Ok(format!(in alloc; "{min} to {max}")?),
+        (min, None) => numbered(alloc, "at least ", min),
+        (0, Some(max)) if max > 0 => numbered(alloc, "at most ", max),
+        (min, Some(max)) if min == max => numbered(alloc, "exactly ", min),
+        (min, Some(max)) => one_to_another(alloc, min, max),
     }
+}
+
+fn numbered(alloc: Global, front: &str, number: usize) -> Result<String, AllocError> {
+    Ok(format!(in alloc; "{front}{number}")?)
+}
+
+fn one_to_another(alloc: Global, min: usize, max: usize) -> Result<String, AllocError> {
+    let between = if min.saturating_add(1) == max {
+        "or"
+    } else {
+        "to"
+    };
+    Ok(format!(in alloc; "{min} {between} {max}")?)
 }
 
 /// Returns the letters of flags as JavaScript writes them, where `v` includes `u`; an empty text if there are none.

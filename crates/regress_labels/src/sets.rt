@@ -94,7 +94,7 @@ fn letter(upper: Interval, lower: Interval) -> Option<Character> {
 pub fn set_label(
     alloc: Global,
     negated: bool,
-    mut set: CodePointSet,
+    set: CodePointSet,
 ) -> Result<Option<Label>, AllocError> {
     if set.is_empty() {
         return Ok(if negated {
@@ -103,11 +103,7 @@ pub fn set_label(
             None
         });
     }
-    let mut listing = Listing::new(alloc);
-    list_classes(alloc, &mut set, &mut listing)?;
-    for interval in set.intervals() {
-        list_interval(*interval, alloc, &mut listing)?;
-    }
+    let listing = listed(alloc, set)?;
     let front = match (negated, listing.is_single()) {
         (false, false) => "one of",
         (false, true) => "",
@@ -121,20 +117,41 @@ pub fn set_label(
     }))
 }
 
+/// Lists the members of a set: the classes that it contains, and the intervals of the rest.
+fn listed(alloc: Global, mut set: CodePointSet) -> Result<Listing, AllocError> {
+    let mut listing = Listing::new(alloc);
+    list_classes(alloc, &mut set, &mut listing)?;
+    for interval in set.intervals() {
+        list_interval(*interval, alloc, &mut listing)?;
+    }
+    Ok(listing)
+}
+
 /// Removes the classes that a set contains from it, and lists them; `\d` only if it is the whole set.
 fn list_classes(
     alloc: Global,
     set: &mut CodePointSet,
     listing: &mut Listing,
 ) -> Result<(), AllocError> {
-    if set.intervals().len() == 1 && take(alloc, set, &digit_intervals())? {
-        listing.push("\\d")?;
+    if set.intervals().len() == 1 {
+        list_class(alloc, set, &digit_intervals(), "\\d", listing)?;
     }
-    if take(alloc, set, &word_intervals())? {
-        listing.push("\\w")?;
-    }
-    if take(alloc, set, spaces(alloc)?.intervals())? {
-        listing.push("\\s")?;
+    list_class(alloc, set, &word_intervals(), "\\w", listing)?;
+    list_class(alloc, set, spaces(alloc)?.intervals(), "\\s", listing)
+}
+
+/// Removes a class from a set, and lists it, if [`take`] does.
+fn list_class(
+    alloc: Global,
+    set: &mut CodePointSet,
+    class: &[Interval],
+    name: &str,
+    listing: &mut Listing,
+) -> Result<(), AllocError>
+    requires { IsCanonical class.now }
+{
+    if take(alloc, set, class)? {
+        listing.push(name)?;
     }
     Ok(())
 }

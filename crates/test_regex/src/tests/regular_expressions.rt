@@ -1,8 +1,7 @@
 //! Tests of the calls of `regress`, each on a pattern whose matches ECMA-262 states.
 
 use regress::{
-    Error, Flags, FlagsError, Match, Nonlinear, Options, Regex, SearchError, Tables, escape,
-    parse_flags,
+    Error, Flags, FlagsError, Match, Nonlinear, Options, Regex, SearchError, Tables, parse_flags,
 };
 use std::alloc::Global;
 use std::ops::Range;
@@ -16,7 +15,7 @@ fn a_regular_expression_has_the_source_and_the_flags_of_its_pattern(
     let alloc = rt.alloc();
     let regex = Regex::with_flags(alloc, "(?<x>a)|(c)", "ig")?;
     expect_eq!(rt; regex.source(), "(?<x>a)|(c)");
-    let text = format!(in alloc; "{regex}")?;
+    let text = regex.to_string(alloc)?;
     expect_eq!(rt; text.as_str(), "(?<x>a)|(c)");
     assert!(rt; regex.flags().icase);
     Ok(())
@@ -44,12 +43,19 @@ fn names_of(alloc: Global, regex: &Regex) -> Result<Vec<Option<&str>>, Fail> {
 
 #[test]
 fn a_text_is_tested_for_a_match(rt: HostRuntime) -> Result<(), Fail> {
-    let alloc = rt.alloc();
-    let regex = Regex::with_flags(alloc, "a|b", "i")?;
-    for (text, wanted) in [("xB", true), ("x", false)] {
-        expect_eq!(rt; regex.is_match(alloc, text)?, wanted);
+    for (pattern, flags, text, wanted) in &[
+        ("a|b", "i", "xB", true),
+        ("a|b", "i", "x", false),
+        // the simple case folding of U+1E9E is U+00DF
+        ("^stra\u{DF}e$", "iu", "STRA\u{1E9E}E", true),
+    ] {
+        expect_eq!(rt; matches(rt.alloc(), pattern, flags, text)?, *wanted, "{pattern}");
     }
     Ok(())
+}
+
+fn matches(alloc: Global, pattern: &str, flags: &str, text: &str) -> Result<bool, Fail> {
+    Ok(Regex::with_flags(alloc, pattern, flags)?.is_match(alloc, text)?)
 }
 
 #[test]
@@ -60,6 +66,8 @@ fn the_groups_of_a_match_are_listed(rt: HostRuntime) -> Result<(), Fail> {
         Some(found) => {
             let wanted = [Some(1..2), None, Some(1..2), None];
             expect_eq!(rt; groups_of(alloc, &found)?.as_slice(), wanted.as_slice());
+            assert!(rt; found.named_group("x").is_none());
+            assert!(rt; has_y_alone(&found));
         }
         None => assert!(rt; false, "it matches"),
     }
@@ -72,20 +80,6 @@ fn groups_of(alloc: Global, found: &Match<'_>) -> Result<Vec<Option<Range<usize>
         groups.push(group)?;
     }
     Ok(groups)
-}
-
-#[test]
-fn the_named_groups_of_a_match_are_listed(rt: HostRuntime) -> Result<(), Fail> {
-    let alloc = rt.alloc();
-    let regex = Regex::new(alloc, "(?<x>a)|(?<y>b)|(c)")?;
-    match regex.find_at(alloc, "ab", 1)? {
-        Some(found) => {
-            assert!(rt; found.named_group("x").is_none());
-            assert!(rt; has_y_alone(&found));
-        }
-        None => assert!(rt; false, "it matches"),
-    }
-    Ok(())
 }
 
 /// Returns whether the named groups are x, which is unset, and y.
@@ -106,12 +100,6 @@ fn matches_from_an_offset_on_are_found(rt: HostRuntime) -> Result<(), Fail> {
 }
 
 #[test]
-fn a_text_is_escaped(rt: HostRuntime) -> Result<(), Fail> {
-    expect_eq!(rt; escape(rt.alloc(), "(a")?.as_str(), "\\(a");
-    Ok(())
-}
-
-#[test]
 fn names_of_groups_are_identifiers_of_unicode(rt: HostRuntime) -> Result<(), Fail> {
     let alloc = rt.alloc();
     let regex = Regex::new(alloc, "(?<größe>\\d+)")?;
@@ -123,24 +111,15 @@ fn names_of_groups_are_identifiers_of_unicode(rt: HostRuntime) -> Result<(), Fai
 }
 
 #[test]
-fn letters_are_folded_as_in_unicode(rt: HostRuntime) -> Result<(), Fail> {
-    let alloc = rt.alloc();
-    // the simple case folding of U+1E9E is U+00DF
-    let regex = Regex::with_flags(alloc, "^stra\u{DF}e$", "iu")?;
-    assert!(rt; regex.is_match(alloc, "STRA\u{1E9E}E")?);
-    Ok(())
-}
-
-#[test]
 fn letters_that_specify_no_flags_are_an_error(rt: HostRuntime) -> Result<(), Fail> {
-    for (letters, text) in [
+    for (letters, text) in &[
         ("gg", "flag g occurs twice"),
         ("iI", "unknown flag I"),
         ("uv", "flags u and v exclude each other"),
     ] {
         // the pattern is not parsed
         let message = rejection(rt.alloc(), "(", letters)?;
-        expect_eq!(rt; message.as_deref(), Some(text));
+        expect_eq!(rt; message.as_deref(), Some(*text));
     }
     Ok(())
 }
@@ -148,7 +127,7 @@ fn letters_that_specify_no_flags_are_an_error(rt: HostRuntime) -> Result<(), Fai
 /// Returns the message of the error about letters of flags, `None` if there is none.
 fn rejection(alloc: Global, pattern: &str, letters: &str) -> Result<Option<String>, Fail> {
     match Regex::with_flags(alloc, pattern, letters) {
-        Err(Error::Flags(error)) => { Ok(Some(format!(in alloc; "{}", Error::Flags(error))?)) }
+        Err(error @ Error::Flags(_)) => Ok(Some(error.to_string(alloc)?)),
         _ => Ok(None),
     }
 }
@@ -159,8 +138,8 @@ fn a_pattern_may_have_lone_surrogates(rt: HostRuntime) -> Result<(), Fail> {
     let regex = with_lone_surrogate(alloc)?;
     expect_eq!(rt; regex.source(), "a\u{FFFD}|b\u{1F600}");
     // UTF-8 has no surrogates
-    for (text, wanted) in [("a\u{FFFD} a\u{1F600}", false), ("b\u{1F600}", true)] {
-        expect_eq!(rt; regex.is_match(alloc, text)?, wanted);
+    for (text, wanted) in &[("a\u{FFFD} a\u{1F600}", false), ("b\u{1F600}", true)] {
+        expect_eq!(rt; regex.is_match(alloc, text)?, *wanted);
     }
     Ok(())
 }
@@ -184,8 +163,6 @@ fn a_syntax_error_has_a_position(rt: HostRuntime) -> Result<(), Fail> {
 
 #[test]
 fn a_pattern_that_is_too_large_is_rejected(rt: HostRuntime) -> Result<(), Fail> {
-    let alloc = rt.alloc();
-    let tables = Arc::new(alloc, Tables::small(alloc)?)?;
     let few_nodes = Options {
         nodes: 5,
         ..Options::default()
@@ -194,20 +171,93 @@ fn a_pattern_that_is_too_large_is_rejected(rt: HostRuntime) -> Result<(), Fail> 
         instructions: 5,
         ..Options::default()
     };
-    for (pattern, options) in [("abc", few_nodes), ("[ab]{5}", few_instructions)] {
-        let result = Regex::with_options(alloc, pattern, Flags::default(), options, &tables);
-        assert!(rt; matches!(result, Err(Error::TooLarge)), "{pattern}");
+    assert!(rt; is_too_large(rt.alloc(), "abc", few_nodes)?);
+    assert!(rt; is_too_large(rt.alloc(), "[ab]{5}", few_instructions)?);
+    Ok(())
+}
+
+fn is_too_large(alloc: Global, pattern: &str, options: Options) -> Result<bool, Fail> {
+    let tables = Arc::new(alloc, Tables::small(alloc)?)?;
+    let result = Regex::with_options(alloc, pattern, Flags::default(), options, &tables);
+    Ok(matches!(result, Err(Error::TooLarge)))
+}
+
+/// What is stated of the searches of a pattern.
+struct Searches {
+    nonlinear: Option<Nonlinear>,
+    /// Whether searches for all matches are linear.
+    are_all_linear: bool,
+    /// Whether a search for one match is linear.
+    is_one_linear: bool,
+    /// Whether there is a match, `None` if the search is out of steps.
+    found: Option<bool>,
+}
+
+#[test]
+fn searches_that_are_not_linear_have_a_step_limit(rt: HostRuntime) -> Result<(), Fail> {
+    for (pattern, linear_instructions, wanted) in &[
+        (
+            "(a*)*b",
+            0,
+            Searches {
+                nonlinear: Some(Nonlinear::TooManyInstructions),
+                are_all_linear: false,
+                is_one_linear: false,
+                found: None,
+            },
+        ),
+        (
+            "(a*)*b",
+            1000,
+            Searches {
+                nonlinear: None,
+                are_all_linear: true,
+                is_one_linear: true,
+                found: Some(false),
+            },
+        ),
+        (
+            "(a*)*\\1b",
+            1000,
+            Searches {
+                nonlinear: Some(Nonlinear::BackReference),
+                are_all_linear: false,
+                is_one_linear: false,
+                found: None,
+            },
+        ),
+        (
+            "(?=(a))",
+            1000,
+            Searches {
+                nonlinear: Some(Nonlinear::CapturingLookaround),
+                are_all_linear: false,
+                is_one_linear: true,
+                found: Some(true),
+            },
+        ),
+    ] {
+        let regex = limited(rt.alloc(), pattern, 10, *linear_instructions)?;
+        assert!(rt; are_as_stated(&regex, wanted), "{pattern}");
+        expect_eq!(rt; found_in(rt.alloc(), &regex, MANY), wanted.found, "{pattern}");
     }
     Ok(())
 }
 
-#[test]
-fn a_search_by_backtracking_has_a_step_limit(rt: HostRuntime) -> Result<(), Fail> {
-    let alloc = rt.alloc();
-    let regex = limited(alloc, "(a*)*b", 10, 0)?;
-    assert!(rt; is_out_of_steps(alloc, &regex, MANY));
-    expect_eq!(rt; regex.nonlinear(), Some(Nonlinear::TooManyInstructions));
-    Ok(())
+fn are_as_stated(regex: &Regex, wanted: &Searches) -> bool {
+    regex.nonlinear() == wanted.nonlinear
+        && regex.is_linear() == wanted.are_all_linear
+        && regex.steps_per_byte().is_some() == wanted.are_all_linear
+        && regex.is_find_linear() == wanted.is_one_linear
+        && regex.find_steps_per_byte().is_some() == wanted.is_one_linear
+}
+
+/// Returns whether a pattern has a match in a text, `None` if the search is out of steps.
+fn found_in(alloc: Global, regex: &Regex, text: &str) -> Option<bool> {
+    match regex.find(alloc, text) {
+        Ok(found) => Some(found.is_some()),
+        Err(_) => None,
+    }
 }
 
 #[test]
@@ -229,44 +279,8 @@ fn steps_until_end(alloc: Global, regex: &Regex, text: &str) -> Option<u64> {
     }
 }
 
-#[test]
-fn a_linear_search_has_no_step_limit(rt: HostRuntime) -> Result<(), Fail> {
-    let alloc = rt.alloc();
-    let regex = limited(alloc, "(a*)*b", 10, 1000)?;
-    assert!(rt; regex.is_linear());
-    expect_eq!(rt; regex.nonlinear(), None);
-    assert!(rt; regex.steps_per_byte().is_some());
-    assert!(rt; !regex.is_match(alloc, MANY)?);
-    Ok(())
-}
-
-#[test]
-fn a_search_with_a_back_reference_is_not_linear(rt: HostRuntime) -> Result<(), Fail> {
-    let alloc = rt.alloc();
-    let regex = limited(alloc, "(a*)*\\1b", 10, 1000)?;
-    assert!(rt; !regex.is_linear());
-    assert!(rt; !regex.is_find_linear());
-    assert!(rt; regex.steps_per_byte().is_none());
-    assert!(rt; is_out_of_steps(alloc, &regex, MANY));
-    Ok(())
-}
-
-#[test]
-fn a_lookaround_that_captures_is_linear_for_one_match(rt: HostRuntime) -> Result<(), Fail> {
-    let regex = Regex::new(rt.alloc(), "(?=(a))")?;
-    expect_eq!(rt; regex.nonlinear(), Some(Nonlinear::CapturingLookaround));
-    assert!(rt; regex.is_find_linear());
-    assert!(rt; regex.find_steps_per_byte().is_some());
-    Ok(())
-}
-
 /// A text on which nested loops backtrack exponentially.
 const MANY: &str = "aaaaaaaaaaaaaaaaaaaaaaaaaaaaaaaaaaaaaaaaaaaa";
-
-/// Returns whether a search is out of steps.
-fn is_out_of_steps(alloc: Global, regex: &Regex, text: &str) -> bool {
-    matches!(regex.find(alloc, text), Err(SearchError::OutOfSteps))
-}
 
 /// Compiles a pattern for searches of at most `steps` steps if they are not linear, with tables for programs of at most
 /// `linear_instructions` instructions.
@@ -287,14 +301,8 @@ fn limited(
 
 #[test]
 fn flags_are_rejected(rt: HostRuntime) -> Result<(), Fail> {
-    match parse_flags("ii") {
-        Err(FlagsError::Repeated(letter)) => expect_eq!(rt; letter, 'i'),
-        _ => assert!(rt; false, "it occurs twice"),
-    }
-    match parse_flags("gx") {
-        Err(FlagsError::Unknown(letter)) => expect_eq!(rt; letter, 'x'),
-        _ => assert!(rt; false, "it is unknown"),
-    }
+    assert!(rt; matches!(parse_flags("ii"), Err(FlagsError::Repeated('i'))));
+    assert!(rt; matches!(parse_flags("gx"), Err(FlagsError::Unknown('x'))));
     assert!(rt; matches!(parse_flags("uv"), Err(FlagsError::UnicodeAndSets)));
     let flags = parse_flags("v")?;
     assert!(rt; flags.unicode);

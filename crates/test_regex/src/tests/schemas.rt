@@ -30,7 +30,7 @@ const MATCHING: &str =
 #[test]
 fn a_document_is_validated_by_the_patterns_of_a_schema(rt: HostRuntime) -> Result<(), Fail> {
     let alloc = rt.alloc();
-    for (schema, document, wanted) in [
+    for (schema, document, wanted) in &[
         ("{\"pattern\": \"^a*$\"}", "\"aaa\"", ""),
         ("{\"pattern\": \"^a*$\"}", "\"abc\"", " ^a*$\n"),
         // it is not anchored
@@ -66,7 +66,7 @@ fn a_document_is_validated_by_the_patterns_of_a_schema(rt: HostRuntime) -> Resul
         (MATCHING, "{\"a_X_31\": \"\"}", "/a_X_31 y\n/a_X_31 x\n"),
     ] {
         let found = listed(alloc, schema, document)?;
-        expect_eq!(rt; found.as_str(), wanted, "{schema} {document}");
+        expect_eq!(rt; found.as_str(), *wanted, "{schema} {document}");
     }
     Ok(())
 }
