@@ -9,6 +9,7 @@ use Rattle.regress_front.specs.NormalForm.{IsNormal}
 use Rattle.regress_front.specs.Syntax.{Pattern}
 use Rattle.regress_front.specs.TreeOf.{tree_of}
 use Rattle.regress_front.specs.Accepted as parse
+use Rattle.regress_front.specs.Rejected as rejected
 use Rattle.regress_arguments.specs.Request.{Request}
 
 -- the request's flags, and the small table
@@ -25,7 +26,7 @@ IsAcceptedPattern request = (p : Pattern) × IsAccepted request p
 
 -- The request's text denotes no pattern.
 abbrev pub NoneIsAccepted : Request → Type 0
-NoneIsAccepted request = parse.NoneIsAccepted (setting_of_request request) request.0
+NoneIsAccepted request = rejected.NoneIsAccepted (setting_of_request request) request.0
 
 -- A tree in normal form with the meaning and the groups of the pattern.
 pub record IsOptimized (request : Request) (p : Pattern) (t : Tree) : Type 0 where

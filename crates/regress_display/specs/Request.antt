@@ -3,6 +3,7 @@ use Rattle.std.specs.Prelude.{ℕ, Bool, List, if◌then◌else◌, chars}
 use Rattle.regress_base.specs.Table.{Table}
 use Rattle.regress_base.specs.declared.types.Flags.{Flags}
 use Rattle.regress_parse.specs.Accepted as parse
+use Rattle.regress_parse.specs.Rejected as rejected
 use Rattle.regress_syntax.specs.Syntax.{Pattern}
 use Rattle.regress_tree.specs.Steps.{Setting}
 use Rattle.regress_ucd.specs.UnicodeTable.{unicode_table}
@@ -47,4 +48,4 @@ IsAcceptedPattern request = (p : Pattern) × IsAccepted request p
 
 -- The requested text denotes no pattern.
 abbrev pub NoneIsAccepted : Request → Type 0
-NoneIsAccepted request = parse.NoneIsAccepted (setting_of_request request) request.pattern
+NoneIsAccepted request = rejected.NoneIsAccepted (setting_of_request request) request.pattern
