@@ -9,4 +9,4 @@ mod shown;
 pub use environment::{ArgumentsError, arguments};
 pub use flags::parse_flags;
 pub use pattern::parse_pattern;
-pub use shown::{write_visible, write_with_caret};
+pub use shown::{write_visible, write_with_caret, write_with_carets};

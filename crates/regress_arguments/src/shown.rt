@@ -1,6 +1,7 @@
 //! Patterns and other arguments, as messages show them.
 
 use std::io::{self, Write};
+use std::ops::Range;
 use unicode_segmentation::UnicodeSegmentation;
 use unicode_width::UnicodeWidthStr;
 
@@ -14,27 +15,43 @@ const INDENT: &str = "  ";
 const CUT: &str = "...";
 
 /// Writes a pattern on a line, and on the next one a caret below the character at a code-point index, or after the
-/// last one.
-///
-/// The pattern is shown as [`write_visible`] writes it. Of a long one, the columns around the caret are shown.
+/// last one, as [`write_with_carets`] does.
 ///
 /// # Errors
 /// Returns the error of a write.
 pub fn write_with_caret<W: Write>(pattern: &str, index: usize, to: &mut W) -> io::Result<()> {
-    let column = columns_before(pattern, index);
-    let all = columns_before(pattern, usize::MAX);
-    let after = all.saturating_sub(column).min(COLUMNS / 2);
-    let start = column.saturating_sub(COLUMNS.saturating_sub(after));
+    write_with_carets(pattern, index..index, to)
+}
+
+/// Writes a pattern on a line, and on the next one a caret below each column of a span of code points: of all characters
+/// of which it has a part. If these have no column, there is one caret at the start of the span.
+///
+/// The pattern is shown as [`write_visible`] writes it. Of a long one, the columns around the start of the span are
+/// shown, and only these have carets.
+///
+/// # Errors
+/// Returns the error of a write.
+pub fn write_with_carets<W: Write>(
+    pattern: &str,
+    span: Range<usize>,
+    to: &mut W,
+) -> io::Result<()> {
+    let marked = columns_of_span(pattern, span);
+    let all = columns_of_span(pattern, 0..usize::MAX).end;
+    let after = all.saturating_sub(marked.start).min(COLUMNS / 2);
+    let start = marked.start.saturating_sub(COLUMNS.saturating_sub(after));
     let end = start.saturating_add(COLUMNS);
 
     let front = if start > 0 { CUT } else { "" };
     write!(to, "{INDENT}{front}")?;
-    let before = write_columns(pattern, start, column, to)?;
-    write_columns(pattern, column, end, to)?;
+    let before = write_columns(pattern, start..marked.start, to)?;
+    let carets = write_columns(pattern, marked.start..marked.end.min(end), to)?;
+    write_columns(pattern, marked.end..end, to)?;
     let back = if all > end { CUT } else { "" };
     write!(to, "{back}\n{INDENT}")?;
-    write_spaces(before.saturating_add(front.len()), to)?;
-    to.write_all(b"^\n")
+    write_copies(b" ", before.saturating_add(front.len()), to)?;
+    write_copies(b"^", carets.max(1), to)?;
+    to.write_all(b"\n")
 }
 
 /// Writes a text with each control character, and each one that formats bidirectional text, as an escape such as
@@ -54,33 +71,35 @@ pub fn write_visible<W: Write>(text: &str, to: &mut W) -> io::Result<()> {
     Ok(())
 }
 
-/// Returns the number of columns of the grapheme clusters that end at or before a code-point index.
-fn columns_before(pattern: &str, index: usize) -> usize {
-    let mut end: usize = 0;
-    let mut columns: usize = 0;
+/// Returns the columns of a span of code points: those of all grapheme clusters of which it has a part.
+fn columns_of_span(pattern: &str, span: Range<usize>) -> Range<usize> {
+    let mut point: usize = 0;
+    let mut column: usize = 0;
+    let mut start: usize = 0;
     for cluster in pattern.graphemes(true) {
-        end = end.saturating_add(cluster.chars().count());
-        if end > index {
+        if point >= span.start && point >= span.end {
             break;
         }
-        columns = columns.saturating_add(columns_of(cluster));
+        point = point.saturating_add(cluster.chars().count());
+        column = column.saturating_add(columns_of(cluster));
+        if point <= span.start {
+            start = column;
+        }
     }
-    columns
+    start..column
 }
 
-/// Writes the grapheme clusters between two columns, and returns how many columns they have.
-fn write_columns<W: Write>(
-    pattern: &str,
-    start: usize,
-    end: usize,
-    to: &mut W,
-) -> io::Result<usize> {
+/// Writes the grapheme clusters in a range of columns, and returns how many columns they have.
+fn write_columns<W: Write>(pattern: &str, range: Range<usize>, to: &mut W) -> io::Result<usize> {
     let mut column: usize = 0;
     let mut written: usize = 0;
     for cluster in pattern.graphemes(true) {
+        if column >= range.end {
+            break;
+        }
         let columns = columns_of(cluster);
         let next = column.saturating_add(columns);
-        if start <= column && column < end && next <= end {
+        if range.start <= column && next <= range.end {
             write_visible(cluster, to)?;
             written = written.saturating_add(columns);
         }
@@ -111,9 +130,9 @@ fn is_escaped(c: char) -> bool {
     }
 }
 
-fn write_spaces<W: Write>(count: usize, to: &mut W) -> io::Result<()> {
+fn write_copies<W: Write>(text: &[u8], count: usize, to: &mut W) -> io::Result<()> {
     for _ in 0..count {
-        to.write_all(b" ")?;
+        to.write_all(text)?;
     }
     Ok(())
 }

@@ -43,10 +43,21 @@ abbrev pub begins_with_digits : Trees → Bool
 begins_with_digits no_trees = false
 begins_with_digits (more_trees t ts) = is_digits t
 
--- the list begins with a `.` and digits
-abbrev pub begins_with_dot : Trees → Bool
-begins_with_dot no_trees = false
-begins_with_dot (more_trees t ts) = is_dot t && begins_with_digits ts
+abbrev mutual
+  -- the list begins with a `.` and digits, which a group or a loop may contain
+  pub begins_with_dot : Trees → Bool
+  begins_with_dot no_trees = false
+  begins_with_dot (more_trees t ts) = is_dot t && begins_with_digits ts || contains_dot_first t
+
+  -- the group or the loop contains a list that begins so, as `(?:.\d+)?`
+  pub contains_dot_first : Tree → Bool
+  contains_dot_first (leaf l) = false
+  contains_dot_first (cat parts) = begins_with_dot parts
+  contains_dot_first (alt left right) = false
+  contains_dot_first (wrapped (capture_group id name) body) = contains_dot_first body
+  contains_dot_first (wrapped (loop q start end) body) = contains_dot_first body
+  contains_dot_first (wrapped (loop_one q) body) = contains_dot_first body
+  contains_dot_first (wrapped (lookaround negate backwards start end) body) = false
 
 -- somewhere in the list digits, a `.` and digits follow one another
 abbrev pub has_dot_between_digits : Trees → Bool

@@ -2,7 +2,7 @@
 ghost use Rattle.std.specs.Prelude.{◌≡◌};
 ghost use Rattle.std.specs.List.{list_all};
 ghost use Rattle.regress_tree.specs.Tree.{tree, trees};
-ghost use Rattle.regress_warnings.specs.Digits.{are_digits, is_digit, is_digits, is_dot, begins_with_digits, begins_with_dot, has_dot_between_digits};
+ghost use Rattle.regress_warnings.specs.Digits.{are_digits, is_digit, is_digits, is_dot, begins_with_digits, begins_with_dot, contains_dot_first, has_dot_between_digits};
 
 use regress_base::codepointset::Interval;
 use regress_tree::ir::Node;
@@ -10,7 +10,8 @@ use regress_tree::ir::Node;
 /// Returns whether somewhere in a list digits, a `.` and digits follow one another.
 ///
 /// # Complexity
-/// Linear in the number of parts, and for each in the number of loops and groups directly around a digit.
+/// Linear in the number of parts, and for each in the number of loops and groups directly around a digit, or around what
+/// begins with a `.`.
 pub(crate) fn has_dot_between_digits(parts: &[Node]) -> bool
     ensures { result ≡ has_dot_between_digits (trees parts.now) }
 {
@@ -24,13 +25,30 @@ pub(crate) fn has_dot_between_digits(parts: &[Node]) -> bool
     false
 }
 
-/// Returns whether a list begins with a `.` and digits.
+/// Returns whether a list begins with a `.` and digits, which a group or a loop may contain.
+#[cycle(begins_with_dot)]
 fn begins_with_dot(parts: &[Node]) -> bool
     ensures { result ≡ begins_with_dot (trees parts.now) }
 {
     match parts {
-        [dot, others @ ..] => is_dot(dot) && begins_with_digits(others),
+        [first, others @ ..] => {
+            is_dot(first) && begins_with_digits(others) || contains_dot_first(first)
+        }
         [] => false,
+    }
+}
+
+/// Returns whether a group or a loop contains a list that begins so, as `(?:.\d+)?`.
+#[cycle(begins_with_dot)]
+fn contains_dot_first(node: &Node) -> bool
+    ensures { result ≡ contains_dot_first (tree node.now) }
+{
+    match node {
+        Node::Cat(parts) => begins_with_dot(parts),
+        Node::CaptureGroup { contents, .. } => contains_dot_first(contents),
+        Node::Loop { loopee, .. } => contains_dot_first(loopee),
+        Node::Loop1CharBody { loopee, .. } => contains_dot_first(loopee),
+        _ => false,
     }
 }
 

@@ -86,7 +86,8 @@ fn remarks(alloc: Global, found: &[Warning]) -> Result<Vec<Remark>, AllocError>
 /// - A class is listed if an interval of its set runs from an upper-case to a lower-case letter, also where it has a
 ///   range such as `[-\x60` beside `A-Z` and `a-z`; without v and escapes also if such a range is written in it.
 /// - A class with the flag v, or with an escape, is not searched for repeated members.
-/// - A `.` between digits has the span of the sequence that has it, and one warning for each sequence.
+/// - A `.` between digits has the span of the sequence that has it and the digits before it, and one warning for each
+///   sequence.
 ///
 /// # Preconditions
 /// Each element of `pattern` is a code point, at most U+10FFFF.
