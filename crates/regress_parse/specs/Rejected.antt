@@ -30,13 +30,13 @@ pub record MayExceed (source : Source) (kind : FaultKind) : Type 0 where
 module _ (dialect : Dialect) where
   -- The source has no accepted pattern.
   abbrev pub NoneIsAcceptedIn : Setting → Source → Type 0
-  NoneIsAcceptedIn setting source = (p : Pattern) → IsAcceptedIn setting source p → ⊥
+  NoneIsAcceptedIn setting source = (p : Pattern) → IsAcceptedIn dialect setting source p → ⊥
 
   -- What the syntax error states holds for every pattern that is derived from the source, unless the pattern has more
   -- groups than the limit.
   abbrev pub IsTrueIn : Setting → Source → FaultKind → Type 0
   IsTrueIn setting source kind =
-      (p : Pattern) → IsDerivedIn setting source p → Says kind p ⊎ (max_capture_groups < (counts p).groups)
+      (p : Pattern) → IsDerivedIn dialect setting source p → Says kind p ⊎ (max_capture_groups < (counts p).groups)
 
 -- ---- the same in the dialect of `try_parse`
 
