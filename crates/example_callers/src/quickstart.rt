@@ -10,8 +10,8 @@ use regress_front::parse::ParseFault;
 use regress_front::types::Flags;
 use regress_front::unicode::Tables;
 use regress_front::util::code_points;
-use regress_match::{CompileFault, Limits, Matcher, Outcome};
-use std::alloc::{AllocError, Global};
+use regress_match::{CompileFault, Limits, Matcher, MemoryFault, Outcome};
+use std::alloc::Global;
 use std::sync::Arc;
 
 /// The number of steps that a search may take if it does not take linear time.
@@ -47,13 +47,13 @@ pub fn prepare(alloc: Global, regex: Regex, tables: &Arc<Tables>) -> Result<Matc
 /// `None` if the search takes too many steps.
 ///
 /// # Errors
-/// Returns [`AllocError`] if an allocation fails.
+/// Returns [`MemoryFault`] if an allocation fails, or if the search needs more memory than the matcher's limit.
 pub fn find_matches(
     alloc: Global,
     matcher: &Matcher,
     text: &str,
     most: usize,
-) -> Result<Option<Vec<(usize, usize)>>, AllocError> {
+) -> Result<Option<Vec<(usize, usize)>>, MemoryFault> {
     let mut spans = Vec::new(alloc);
     let mut matches = matcher.find_iter(text, 0, STEPS);
     for _ in 0..most {

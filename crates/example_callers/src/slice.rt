@@ -5,8 +5,8 @@ ghost use Rattle.regress_found.specs.Results.{IsSearchResult};
 ghost use Rattle.regress_match.specs.Pattern.{matcher_outcomes, matcher_tree};
 ghost use Rattle.example_callers.specs.MatchedText.{IsMatchedText};
 
-use regress_match::{Found, Matcher, Outcome};
-use std::alloc::{AllocError, Global};
+use regress_match::{Found, Matcher, MemoryFault, Outcome};
+use std::alloc::Global;
 
 /// Why it is not known whether a text has a match.
 #[derive(Clone, Copy, Debug, PartialEq, Eq)]
@@ -15,11 +15,16 @@ pub enum SearchError {
     Memory,
     /// The step limit was reached.
     OutOfSteps,
+    /// The search needs too much memory.
+    TooMuchMemory,
 }
 
-impl From<AllocError> for SearchError {
-    fn from(_: AllocError) -> SearchError {
-        SearchError::Memory
+impl From<MemoryFault> for SearchError {
+    fn from(fault: MemoryFault) -> SearchError {
+        match fault {
+            MemoryFault::Memory => SearchError::Memory,
+            MemoryFault::TooMuchMemory => SearchError::TooMuchMemory,
+        }
     }
 }
 
@@ -30,7 +35,8 @@ impl From<AllocError> for SearchError {
 ///
 /// # Errors
 /// Returns [`SearchError::OutOfSteps`] if the search takes more than `steps` steps, and never if it takes linear time;
-/// and [`SearchError::Memory`] if an allocation fails.
+/// [`SearchError::TooMuchMemory`] if it needs more memory than the matcher's limit; and [`SearchError::Memory`] if an
+/// allocation fails.
 pub fn first_match<'a>(
     alloc: Global,
     matcher: &Matcher,

@@ -6,7 +6,7 @@ ghost use Rattle.regress.specs.declared.failure.SearchError.TheVariants.{Memory 
 
 use crate::letters::FlagsError;
 use regress_front::parse::{FaultKind, PlacedFault};
-use regress_match::CompileFault;
+use regress_match::{CompileFault, MemoryFault};
 use std::alloc::{AllocError, AllocFailed};
 
 /// Why a pattern was not compiled.
@@ -97,6 +97,15 @@ pub enum SearchError {
     /// The search takes more steps than [`Options`](crate::Options) allow.
     #[error("the search takes too many steps")]
     OutOfSteps,
+}
+
+/// The searches of a `Regex` have no limit of memory, so they need too much only where no memory could hold it.
+impl From<MemoryFault> for SearchError {
+    ghost from_gives = { λ _ error. error ≡ SearchMemory };
+
+    fn from(_: MemoryFault) -> SearchError {
+        SearchError::Memory
+    }
 }
 
 impl From<AllocError> for SearchError {

@@ -220,6 +220,7 @@ impl Regex {
         let limits = Limits {
             instructions: options.instructions,
             linear_instructions: options.linear_instructions,
+            memory: usize::MAX,
         };
         let matcher = Matcher::new(alloc, compiled, tables, limits)?;
         Ok(Regex {

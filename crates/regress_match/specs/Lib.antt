@@ -5,6 +5,7 @@ pub mod Iterated
 pub mod Kept
 pub mod Limits
 pub mod Matcher
+pub mod Memory
 pub mod Pattern
 pub mod Names
 pub mod Listing

@@ -15,6 +15,7 @@ ghost use Rattle.regress_code.specs.Code.{code_groups, code_routines, code_tidy}
 ghost use Rattle.regress_match.specs.Compiled.{IsCodeOf};
 ghost use Rattle.regress_match.specs.Costs.{HasCosts};
 ghost use Rattle.regress_match.specs.Matcher.{IsFactorOf, IsFindFactorOf, IsNonlinearOf, factor, factor_of, find_factor, find_factor_of, nonlinear_of};
+ghost use Rattle.regress_match.specs.Memory.{instructions_of, memory_of};
 ghost use Rattle.regress_match.specs.Pattern.{matcher_setting, matcher_tree};
 
 use crate::limits::Limits;
@@ -54,6 +55,8 @@ impl Matcher {
         ensures find_linear { IfOk result (λ m. IsFindFactorOf limits.linear_instructions (tree regex.node) (find_factor_of m)) }
         ensures nonlinear { IfOk result (λ m. IsNonlinearOf limits.linear_instructions (tree regex.node) (nonlinear_of m)) }
         ensures costs { IfOk result (λ m. (text : List ℕ) → HasCosts m text) }
+        ensures memory { IfOk result (λ m. memory_of m ≡ limits.memory) }
+        ensures instructions { IfOk result (λ m. instructions_of m ≡ program_size (tree regex.node)) }
         ensures within { IfOk result (λ _. program_size (tree regex.node) ≤ limits.instructions) }
         ensures too_long { result ≡ Err TooLong → length (captures (tree regex.node)) < usize.MAX → limits.instructions < program_size (tree regex.node) }
     {
@@ -68,6 +71,7 @@ impl Matcher {
             facts,
             code,
             within,
+            memory: limits.memory,
             required_byte,
         })
     }

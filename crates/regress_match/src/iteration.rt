@@ -1,5 +1,5 @@
 //! The next match of a matcher: by backtracking, and then by tables.
-ghost use Rattle.std.specs.Prelude.{◌≡◌, ◌<◌, ◌≤◌, ◌+◌, ◌-◌, ◌*◌, ℕ, IfNone, IfOk, IfSome, IsNone, IsSome, MatchOption, OnErr, Some, false, length, min, true};
+ghost use Rattle.std.specs.Prelude.{◌≡◌, ◌<◌, ◌≤◌, ◌+◌, ◌-◌, ◌*◌, ℕ, IfErr, IfNone, IfOk, IfSome, IsNone, IsSome, MatchOption, OnErr, Some, false, length, min, true};
 ghost use Rattle.regress_tree.specs.WellFormed.{IsWellFormed};
 ghost use Rattle.regress_program.specs.Cost.{Cost};
 ghost use Rattle.regress_program.specs.Program.{Out};
@@ -11,6 +11,8 @@ ghost use Rattle.regress_found.specs.Results.{IsSearchResult, IfMatched, IfOutOf
 ghost use Rattle.regress_found.specs.Found.{IsInside, start_of};
 ghost use Rattle.regress_match.specs.Matcher.{factor_of, outcome_if};
 ghost use Rattle.regress_match.specs.Pattern.{matcher_outcomes, matcher_tree};
+ghost use Rattle.regress_found.specs.declared.fault.MemoryFault.TheVariants.{TooMuchMemory};
+ghost use Rattle.regress_match.specs.Memory.{TablesNeedMore};
 ghost use Rattle.regress_found.specs.Repeated.{EndsHere, offset_after};
 ghost use Rattle.regress_found.specs.Tried.{positions_tried};
 ghost use Rattle.regress_prefilter.specs.Required.{NoneFrom};
@@ -19,7 +21,7 @@ use crate::matcher::Matcher;
 use crate::matcher_matches::MatcherMatches;
 use memchr::memchr;
 use regress_backtrack::Backtracker;
-use regress_found::{Match, Outcome};
+use regress_found::{Match, MemoryFault, Outcome};
 use regress_tables::Linear;
 use std::alloc::{AllocError, Global};
 
@@ -41,8 +43,10 @@ impl<'m> MatcherMatches<'m> {
     /// that remain.
     ///
     /// # Errors
-    /// Returns [`AllocError`] if an allocation fails. The position of the search stays as it is, so that the call may
-    /// be repeated.
+    /// The position of the search stays as it is, so that the call may be repeated.
+    /// - [`MemoryFault::TooMuchMemory`] if the search needs tables that take more memory than
+    ///   [`Limits`](crate::Limits) allow. They are not made then.
+    /// - [`MemoryFault::Memory`] if an allocation fails.
     ///
     /// # Examples
     /// ```
@@ -59,7 +63,7 @@ impl<'m> MatcherMatches<'m> {
     /// }
     /// assert_eq!(rt; ends.as_slice(), [2, 5].as_slice());
     /// ```
-    pub fn next(&mut self, alloc: Global) -> Result<Outcome, AllocError>
+    pub fn next(&mut self, alloc: Global) -> Result<Outcome, MemoryFault>
         ensures finds { IfOk result (IsSearchResult (iterated_text self.old) (matcher_outcomes (iterated_matcher self.old) (iterated_text self.old)) (iterated_from self.old)) }
         ensures inside { IfOk result (λ outcome. IsWellFormed (matcher_tree (iterated_matcher self.old)) → IfMatched outcome (IsInside (iterated_text self.old))) }
         ensures goes_on { IfOk result (λ outcome. iterated_from self.new ≡ offset_after (iterated_text self.old) (iterated_from self.old) outcome) }
@@ -70,6 +74,7 @@ impl<'m> MatcherMatches<'m> {
         ensures costs { IfOk result (λ _. IsWithinFindCost (iterated_matcher self.old) (iterated_text self.old) (iterated_from self.old) (steps_remaining self.old - steps_remaining self.new)) }
         ensures spent { Spends self.old self.new }
         ensures counted { IfOk result (λ outcome. IfMatched outcome (HasCounted self.old self.new)) }
+        ensures too_much { IfErr result (λ fault. fault ≡ TooMuchMemory → TablesNeedMore (iterated_matcher self.old) (iterated_text self.old)) }
     {
         if self.search.is_some() {
             return self.find_in_tables(alloc);
@@ -169,18 +174,19 @@ impl<'m> MatcherMatches<'m> {
     }
 
     /// Makes the tables of the text, if searches for all matches take linear time.
-    fn make_tables(&mut self, alloc: Global) -> Result<(), AllocError>
+    fn make_tables(&mut self, alloc: Global) -> Result<(), MemoryFault>
         requires { IsNone self.old.search }
         ensures from { iterated_from self.new ≡ iterated_from self.old }
         ensures same { IsSameIteration self.old self.new }
         ensures remaining { steps_remaining self.new ≡ steps_remaining self.old }
         ensures made { IfOk result (λ _. IfSome (factor_of (iterated_matcher self.old)) (λ _. IsSome self.new.search)) }
         ensures spent { Spends self.old self.new }
+        ensures too_much { IfErr result (λ fault. fault ≡ TooMuchMemory → TablesNeedMore (iterated_matcher self.old) (iterated_text self.old)) }
     {
         let matcher = self.matcher;
         if matcher.is_linear() {
             if let Some(linear) = Linear::new(&matcher.code, matcher.known()) {
-                let search = linear.search(alloc, self.text)?;
+                let search = linear.search(alloc, self.text, matcher.memory)?;
                 self.searched = search.steps();
                 self.search = Some(search);
             }
@@ -189,7 +195,7 @@ impl<'m> MatcherMatches<'m> {
     }
 
     /// Returns the next match by the tables, or [`Outcome::OutOfSteps`] if there are none.
-    fn find_in_tables(&mut self, alloc: Global) -> Result<Outcome, AllocError>
+    fn find_in_tables(&mut self, alloc: Global) -> Result<Outcome, MemoryFault>
         ensures finds { IfOk result (IsSearchResult (iterated_text self.old) (matcher_outcomes (iterated_matcher self.old) (iterated_text self.old)) (iterated_from self.old)) }
         ensures inside { IfOk result (λ outcome. IsWellFormed (matcher_tree (iterated_matcher self.old)) → IfMatched outcome (IsInside (iterated_text self.old))) }
         ensures goes_on { IfOk result (λ outcome. iterated_from self.new ≡ offset_after (iterated_text self.old) (iterated_from self.old) outcome) }
@@ -201,6 +207,7 @@ impl<'m> MatcherMatches<'m> {
         ensures tried { IfOk result (λ outcome. IfMatched outcome (λ m.
             min (self.old.searched
             + (captures_cost (iterated_matcher self.old).code + positions_tried (iterated_text self.old) (iterated_from self.old) (Some m))) u64.MAX ≤ self.new.searched)) }
+        ensures made_before { IfErr result (λ fault. fault ≡ TooMuchMemory → ⊥) }
     {
         let text = self.text();
         let Some(search) = &self.search else {

@@ -1,6 +1,6 @@
-//! Limits on the size of a program.
+//! Limits on the size of a program, and on the memory of its searches.
 
-/// How many instructions a program may have.
+/// How many instructions a program may have, and how much memory its searches may take.
 #[derive(Clone, Copy, Debug, PartialEq, Eq)]
 pub struct Limits {
     /// The number of instructions that a program may have, where the body of a loop `{n,m}` counts m times, or if it is one
@@ -9,6 +9,9 @@ pub struct Limits {
     /// The number of instructions up to which a program is searched by tables, in linear time. The tables take up to two
     /// bits for each instruction and byte of a text. A thousand by default, so at most 250 times the length of the text.
     pub linear_instructions: usize,
+    /// The memory in bytes that the tables of a search may take: a quarter of a byte for each instruction, and 8 bytes, for
+    /// each byte of the text, and once more. A search that needs larger tables is not made. 256 MiB by default.
+    pub memory: usize,
 }
 
 impl Default for Limits {
@@ -21,6 +24,7 @@ impl Default for Limits {
         Limits {
             instructions: 250_000,
             linear_instructions: 1_000,
+            memory: 256 << 20,
         }
     }
 }

@@ -25,6 +25,8 @@ pub struct Matcher {
     pub(crate) code: Code,
     /// Whether the program is within the limit on tables.
     pub(crate) within: bool,
+    /// The number of bytes that the tables of a search may take.
+    pub(crate) memory: usize,
     /// A byte that each match contains, if one is known.
     pub(crate) required_byte: Option<u8>,
     ghost compiled: { IsCodeOf (record { flags = regex.flags; table = table_of (arc_value tables) }) (tree regex.node) (arc_value tables) code } by { IsCodeOf-prop (record { flags = regex.flags; table = table_of (arc_value tables) }) (tree regex.node) (arc_value tables) code },

@@ -1,17 +1,19 @@
 //! One match in linear time, where lookarounds capture.
-ghost use Rattle.std.specs.Prelude.{◌≡◌, ◌+◌, ◌*◌, ◌≤◌, ◌&&◌, not, IfOk, IfSome, None, is_some, length};
+ghost use Rattle.std.specs.Prelude.{◌≡◌, ◌+◌, ◌*◌, ◌≤◌, ◌&&◌, not, IfErr, IfOk, IfSome, None, is_some, length};
 ghost use Rattle.regress_tree.specs.WellFormed.{IsWellFormed};
 ghost use Rattle.regress_found.specs.Results.{IsSearchResult, IfMatched, IfOutOfSteps};
 ghost use Rattle.regress_found.specs.Found.{IsInside};
+ghost use Rattle.regress_found.specs.declared.fault.MemoryFault.TheVariants.{TooMuchMemory};
+ghost use Rattle.regress_match.specs.Memory.{TablesNeedMore};
 ghost use Rattle.regress_match.specs.Matcher.{IsLinear, factor_of, find_factor_of};
 ghost use Rattle.regress_match.specs.Pattern.{matcher_outcomes, matcher_tree};
 
 use crate::iteration::outcome_of;
 use crate::matcher::Matcher;
 use crate::searches::steps_before_tables;
-use regress_found::{Found, Outcome};
+use regress_found::{Found, MemoryFault, Outcome};
 use regress_tables::Linear;
-use std::alloc::{AllocError, Global};
+use std::alloc::Global;
 
 impl Matcher {
     /// Returns whether a search for one match takes linear time, and one for all matches does not.
@@ -28,17 +30,18 @@ impl Matcher {
     /// Searches for all matches are not known to take linear time.
     ///
     /// # Errors
-    /// Returns [`AllocError`] if an allocation fails.
+    /// As for [`Matcher::find`].
     pub(crate) fn find_one(
         &self,
         alloc: Global,
         text: &str,
         from: usize,
-    ) -> Result<Found, AllocError>
+    ) -> Result<Found, MemoryFault>
         requires { factor_of self.now ≡ None }
         ensures finds { IfOk result (λ found. IsSearchResult text.now (matcher_outcomes self.now text.now) from found.outcome) }
         ensures inside { IfOk result (λ found. IsWellFormed (matcher_tree self.now) → IfMatched found.outcome (IsInside text.now)) }
         ensures bounded { IfOk result (λ found. IfSome (find_factor_of self.now) (λ n. IsLinear n text.now found.outcome found.steps)) }
+        ensures too_much { IfErr result (λ fault. fault ≡ TooMuchMemory → TablesNeedMore self.now text.now) }
     {
         let first = self.find_first(alloc, text, from, steps_before_tables(text))?;
         let steps = first.steps;
@@ -57,12 +60,13 @@ impl Matcher {
     /// Returns the leftmost match by tables, or [`Outcome::OutOfSteps`] if they do not lead to it.
     ///
     /// # Errors
-    /// Returns [`AllocError`] if an allocation fails.
-    fn find_by_tables(&self, alloc: Global, text: &str, from: usize) -> Result<Found, AllocError>
+    /// As for [`Matcher::find`].
+    fn find_by_tables(&self, alloc: Global, text: &str, from: usize) -> Result<Found, MemoryFault>
         ensures finds { IfOk result (λ found. IsSearchResult text.now (matcher_outcomes self.now text.now) from found.outcome) }
         ensures inside { IfOk result (λ found. IsWellFormed (matcher_tree self.now) → IfMatched found.outcome (IsInside text.now)) }
         ensures bounded { IfOk result (λ found. IfSome (find_factor_of self.now) (λ n.
             (found.steps + 64 * (length text.now + 1) ≤ n * (length text.now + 1)) × IfOutOfSteps found.outcome ⊥)) }
+        ensures too_much { IfErr result (λ fault. fault ≡ TooMuchMemory → TablesNeedMore self.now text.now) }
     {
         let Some(linear) = Linear::new(&self.code, self.known()) else {
             return Ok(Found {
@@ -70,7 +74,7 @@ impl Matcher {
                 steps: 0,
             });
         };
-        let search = linear.find(alloc, text, from)?;
+        let search = linear.find(alloc, text, from, self.memory)?;
         Ok(Found {
             outcome: outcome_of(search.found),
             steps: search.steps,

@@ -1,11 +1,13 @@
 //! Searches with a matcher, in linear time or within a step limit.
-ghost use Rattle.std.specs.Prelude.{◌≡◌, ◌+◌, ◌*◌, ◌≤◌, IfNone, IfOk, IfSome, IsNone, IsSome, length};
+ghost use Rattle.std.specs.Prelude.{◌≡◌, ◌+◌, ◌*◌, ◌≤◌, IfErr, IfNone, IfOk, IfSome, IsNone, IsSome, length};
 ghost use Rattle.regress_tree.specs.WellFormed.{IsWellFormed};
 ghost use Rattle.regress_match.specs.Costs.{IsWithinFindCost, IsWithinMatchCost};
 ghost use Rattle.regress_match.specs.AllCosts.{CostsOfMatches};
 ghost use Rattle.regress_match.specs.Iterated.{iterated_from, iterated_matcher, iterated_text, step_limit, steps_remaining, steps_taken};
 ghost use Rattle.regress_found.specs.Results.{IsSearchResult, IfMatched, IsMatchResult};
 ghost use Rattle.regress_found.specs.Found.{IsInside};
+ghost use Rattle.regress_found.specs.declared.fault.MemoryFault.TheVariants.{TooMuchMemory};
+ghost use Rattle.regress_match.specs.Memory.{TablesNeedMore};
 ghost use Rattle.regress_match.specs.Matcher.{IsLimited, IsLinear, factor_of, find_factor_of};
 ghost use Rattle.regress_match.specs.Pattern.{matcher_outcomes, matcher_tree};
 ghost use Rattle.regress_found.specs.Repeated.{AreAllMatches};
@@ -13,7 +15,7 @@ ghost use Rattle.regress_found.specs.Repeated.{AreAllMatches};
 use crate::matcher::Matcher;
 use crate::matcher_matches::MatcherMatches;
 use regress_backtrack::match_at;
-use regress_found::{Found, Match, Outcome};
+use regress_found::{Found, Match, MemoryFault, Outcome};
 use std::alloc::{AllocError, Global};
 
 /// The number of steps of backtracking for each byte of a text, and once more, after which tables are made.
@@ -38,7 +40,9 @@ impl Matcher {
     /// once more.
     ///
     /// # Errors
-    /// Returns [`AllocError`] if an allocation fails.
+    /// - [`MemoryFault::TooMuchMemory`] if the search needs tables that take more memory than
+    ///   [`Limits`](crate::Limits) allow. They are not made then.
+    /// - [`MemoryFault::Memory`] if an allocation fails.
     ///
     /// # Examples
     /// ```
@@ -62,13 +66,14 @@ impl Matcher {
         text: &str,
         from: usize,
         steps: u64,
-    ) -> Result<Found, AllocError>
+    ) -> Result<Found, MemoryFault>
         ensures finds { IfOk result (λ found. IsSearchResult text.now (matcher_outcomes self.now text.now) from found.outcome) }
         ensures inside { IfOk result (λ found. IsWellFormed (matcher_tree self.now) → IfMatched found.outcome (IsInside text.now)) }
         ensures linear { IfOk result (λ found. IfSome (factor_of self.now) (λ n. IsLinear n text.now found.outcome found.steps)) }
         ensures bounded { IfOk result (λ found. IfSome (find_factor_of self.now) (λ n. IsLinear n text.now found.outcome found.steps)) }
         ensures limited { IfOk result (λ found. IfNone (find_factor_of self.now) (IsLimited steps found.outcome found.steps)) }
         ensures costs { IfOk result (λ found. IfNone (find_factor_of self.now) (IsWithinFindCost self.now text.now from found.steps)) }
+        ensures too_much { IfErr result (λ fault. fault ≡ TooMuchMemory → TablesNeedMore self.now text.now) }
     {
         if self.is_linear_for_one() {
             self.find_one(alloc, text, from)
@@ -84,12 +89,13 @@ impl Matcher {
         text: &str,
         from: usize,
         steps: u64,
-    ) -> Result<Found, AllocError>
+    ) -> Result<Found, MemoryFault>
         ensures finds { IfOk result (λ found. IsSearchResult text.now (matcher_outcomes self.now text.now) from found.outcome) }
         ensures inside { IfOk result (λ found. IsWellFormed (matcher_tree self.now) → IfMatched found.outcome (IsInside text.now)) }
         ensures linear { IfOk result (λ found. IfSome (factor_of self.now) (λ n. IsLinear n text.now found.outcome found.steps)) }
         ensures limited { IfOk result (λ found. IfNone (factor_of self.now) (IsLimited steps found.outcome found.steps)) }
         ensures costs { IfOk result (λ found. IfNone (factor_of self.now) (IsWithinFindCost self.now text.now from found.steps)) }
+        ensures too_much { IfErr result (λ fault. fault ≡ TooMuchMemory → TablesNeedMore self.now text.now) }
     {
         let mut matches = self.find_iter(text, from, steps);
         let outcome = matches.next(alloc)?;
@@ -170,7 +176,7 @@ impl Matcher {
     /// searches for the matches up to there cost at least `steps`, each as [`MatcherMatches::next`] states.
     ///
     /// # Errors
-    /// Returns [`AllocError`] if an allocation fails.
+    /// As for [`Matcher::find`].
     ///
     /// # Examples
     /// ```
@@ -194,10 +200,11 @@ impl Matcher {
         alloc: Global,
         text: &str,
         steps: u64,
-    ) -> Result<Option<Vec<Match>>, AllocError>
+    ) -> Result<Option<Vec<Match>>, MemoryFault>
         ensures all { IfOk result (λ found. IfSome found (λ all. AreAllMatches text.now (matcher_outcomes self.now text.now) all.items)) }
         ensures linear { IfOk result (λ found. IfSome (factor_of self.now) (λ _. IsSome found)) }
         ensures costs { IfOk result (λ found. IsNone found → CostsOfMatches self.now text.now 0 steps) }
+        ensures too_much { IfErr result (λ fault. fault ≡ TooMuchMemory → TablesNeedMore self.now text.now) }
     {
         let mut all = Vec::new(alloc);
         let mut matches = self.find_iter(text, 0, steps);

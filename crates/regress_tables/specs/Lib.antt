@@ -2,6 +2,7 @@ pub mod Bits
 pub mod Evaluated
 pub mod Filled
 pub mod Memo
+pub mod Memory
 pub mod Probes
 pub mod Search
 pub mod Searchable

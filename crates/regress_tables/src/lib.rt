@@ -12,6 +12,7 @@ mod keys;
 mod leftmost;
 mod linear;
 mod memo;
+mod memory;
 mod probe;
 mod resolve;
 mod rows;

@@ -1,20 +1,23 @@
 //! Searching with a program, by tables.
-ghost use Rattle.std.specs.Prelude.{◌≡◌, ◌≤◌, ◌<◌, ◌+◌, ◌*◌, ℕ, IfOk, IfSome, Some, length, min};
+ghost use Rattle.std.specs.Prelude.{◌≡◌, ◌≤◌, ◌<◌, ◌+◌, ◌*◌, ℕ, IfErr, IfOk, IfSome, Some, length, min};
 ghost use Rattle.regress_tree.specs.Tree.{Tree};
 ghost use Rattle.regress_program.specs.Compiled.{IsPattern, total};
 ghost use Rattle.regress_found.specs.Found.{Finds};
 ghost use Rattle.regress_found.specs.Tried.{positions_tried};
+ghost use Rattle.regress_found.specs.declared.fault.MemoryFault.TheVariants.{TooMuchMemory};
 ghost use Rattle.regress_program.specs.Program.{IsSolution, Out};
 ghost use Rattle.regress_code.specs.Code.{captures_cost, code_routines, outcomes_from, setting_with, tree_outcomes_from};
+ghost use Rattle.regress_tables.specs.Memory.{table_bytes};
 ghost use Rattle.regress_tables.specs.Search.{per_byte};
-ghost use Rattle.regress_tables.specs.TextSearch.{searched_code, searched_tables, searched_text};
+ghost use Rattle.regress_tables.specs.TextSearch.{searched_code, searched_size, searched_tables, searched_text};
 
 use crate::found::Search;
 use crate::linear::Linear;
 use crate::text::TextSearch;
 use crate::text_search::find_filled;
+use regress_found::MemoryFault;
 use regress_program::blocks::blocks;
-use std::alloc::{AllocError, Global};
+use std::alloc::Global;
 
 impl Linear<'_, '_> {
     /// Returns an upper bound for the steps of a search for each byte of a text, counting its end as one more; at most
@@ -30,15 +33,17 @@ impl Linear<'_, '_> {
             .saturating_add(bits.saturating_mul(inner).saturating_mul(weight))
     }
 
-    /// Returns the leftmost match in `text` that starts at the byte offset `from` or later, on a character boundary.
+    /// Returns the leftmost match in `text` that starts at the byte offset `from` or later, on a character boundary, by
+    /// tables of at most `memory` bytes.
     ///
     /// # Complexity
     /// The steps are at most [`Linear::steps_per_byte`] for each byte of the text, and once more. A step takes
-    /// constant time, but for literals and sets. The memory is proportional to the number of instructions and the length of
-    /// the text.
+    /// constant time, but for literals and sets. The tables take a quarter of a byte for each instruction, and 8 bytes, for
+    /// each byte of the text, and once more.
     ///
     /// # Errors
-    /// Returns [`AllocError`] if an allocation fails.
+    /// - [`MemoryFault::TooMuchMemory`] if the tables take more than `memory` bytes. They are not made then.
+    /// - [`MemoryFault::Memory`] if an allocation fails.
     ///
     /// # Examples
     /// ```
@@ -48,7 +53,7 @@ impl Linear<'_, '_> {
     /// let code = Code::compile(alloc, &regex, 1000)?;
     /// let mut end = 0;
     /// if let Some(linear) = Linear::new(&code, Known::new(&tables, regex.flags)) {
-    ///     let search = linear.find(alloc, "xaaab", 0)?;
+    ///     let search = linear.find(alloc, "xaaab", 0, 1000)?;
     ///     if let Some(found) = &search.found {
     ///         assert_eq!(rt; found.start(), 1);
     ///         assert_eq!(rt; found.group(0), Some((1, 4)));
@@ -57,7 +62,13 @@ impl Linear<'_, '_> {
     /// }
     /// assert_eq!(rt; end, 5);
     /// ```
-    pub fn find(&self, alloc: Global, text: &str, from: usize) -> Result<Search, AllocError>
+    pub fn find(
+        &self,
+        alloc: Global,
+        text: &str,
+        from: usize,
+        memory: usize,
+    ) -> Result<Search, MemoryFault>
         ensures solved { IfOk result (λ search. (let code = self.now.code.now in let tables = self.now.known.tables.now in
             (outs : ℕ → Out) → IsSolution (setting_with code tables) text.now (code_routines code) outs →
             Finds text.now (outcomes_from code tables text.now outs) from search.found)) }
@@ -68,7 +79,10 @@ impl Linear<'_, '_> {
         ensures tried { IfOk result (λ search. positions_tried text.now from search.found ≤ search.steps) }
         ensures charged { IfOk result (λ search. IfSome search.found (λ m.
             captures_cost self.now.code.now + positions_tried text.now from (Some m) ≤ search.steps)) }
+        ensures fits { IfOk result (λ _. table_bytes (total (code_routines self.now.code.now)) text.now ≤ memory) }
+        ensures too_much { IfErr result (λ fault. fault ≡ TooMuchMemory → memory < table_bytes (total (code_routines self.now.code.now)) text.now) }
     {
+        self.test_memory(text, memory)?;
         let mut steps = 0;
         let tables = self.fill_all(alloc, text, &mut steps)?;
         let search = find_filled(alloc, self, text, &tables, from)?;
@@ -80,19 +94,28 @@ impl Linear<'_, '_> {
 }
 
 impl<'p> Linear<'p, 'p> {
-    /// Prepares the search of a text: one that is made once for many calls of [`TextSearch::find`].
+    /// Prepares the search of a text: one that is made once for many calls of [`TextSearch::find`], by tables of at most
+    /// `memory` bytes.
     ///
     /// # Complexity
-    /// The steps are at most twice the number of instructions for each byte of the text, and once more. The memory is
-    /// proportional to the number of instructions and the length of the text.
+    /// The steps are at most twice the number of instructions for each byte of the text, and once more. The memory is as
+    /// for [`Linear::find`].
     ///
     /// # Errors
-    /// Returns [`AllocError`] if an allocation fails.
-    pub fn search(self, alloc: Global, text: &'p str) -> Result<TextSearch<'p>, AllocError>
+    /// As for [`Linear::find`].
+    pub fn search(
+        self,
+        alloc: Global,
+        text: &'p str,
+        memory: usize,
+    ) -> Result<TextSearch<'p>, MemoryFault>
         ensures code { IfOk result (λ search. searched_code search ≡ self.entry.code.now) }
         ensures tables { IfOk result (λ search. searched_tables search ≡ self.entry.known.tables.now) }
         ensures text { IfOk result (λ search. searched_text search ≡ text.now) }
+        ensures fits { IfOk result (λ search. table_bytes (searched_size search) text.now ≤ memory) }
+        ensures too_much { IfErr result (λ fault. fault ≡ TooMuchMemory → memory < table_bytes (total (code_routines self.entry.code.now)) text.now) }
     {
+        self.test_memory(text, memory)?;
         let mut steps = 0;
         let tables = self.fill_all(alloc, text, &mut steps)?;
         Ok(TextSearch {

@@ -30,6 +30,7 @@ fn report_limit(call: &mut Call, regex: Regex, tables: &Arc<Tables>, instruction
     let limits = Limits {
         instructions,
         linear_instructions: 0,
+        ..Limits::default()
     };
     match Matcher::new(call.alloc(), regex, tables, limits) {
         Ok(matcher) => {

@@ -43,7 +43,7 @@ pub(crate) fn response_linear(
         return false;
     }
     match Linear::new(&code, Known::new(tables, regex.flags)) {
-        Some(linear) => match linear.search(alloc, text) {
+        Some(linear) => match linear.search(alloc, text, usize::MAX) {
             Ok(search) => report_matches(call, &search, text, most),
             Err(_) => call.fail(Fault::Memory),
         },

@@ -4,10 +4,9 @@ ghost use Rattle.regress_tree.specs.Tree.{tree};
 ghost use Rattle.regress_match.specs.Pattern.{matcher_tree};
 
 use crate::positions::{byte_position, characters_before};
-use regress_match::{CompileFault, Found, Limits, Match, Matcher, Outcome};
+use regress_match::{CompileFault, Found, Limits, Match, Matcher, MemoryFault, Outcome};
 use regress_tree::ir::Regex;
 use regress_unicode::Tables;
-use std::alloc::AllocError;
 use std::sync::Arc;
 use test_notation::{Call, Fault, Promise, parse_decimal};
 
@@ -63,6 +62,7 @@ pub(crate) fn matcher_of(
     let limits = Limits {
         instructions: INSTRUCTIONS,
         linear_instructions,
+        ..Limits::default()
     };
     match Matcher::new(call.alloc(), regex, tables, limits) {
         Ok(matcher) => Some(matcher),
@@ -94,14 +94,14 @@ pub(crate) fn response_question(
             let position = call.read(byte_position(text, characters), 0);
             let position = position.min(text.len());
             let found = matcher.match_at(call.alloc(), text, position, STEPS);
-            report_found(call, text, found, STEPS);
+            report_found(call, text, found.map_err(MemoryFault::from), STEPS);
         }
         Question::All => report_all(call, matcher, text),
     }
 }
 
 /// Appends what a search has found. If it is out of steps, all of them have to be used.
-fn report_found(call: &mut Call, text: &str, found: Result<Found, AllocError>, steps: u64) {
+fn report_found(call: &mut Call, text: &str, found: Result<Found, MemoryFault>, steps: u64) {
     match found {
         Ok(
             Found {
@@ -122,8 +122,10 @@ fn report_all(call: &mut Call, matcher: &Matcher, text: &str) {
     let steps = if matcher.is_linear() { 0 } else { STEPS };
     let mut matches = matcher.find_iter(text, 0, steps);
     for number in 0..MATCHES {
-        let outcome = matches.next(call.alloc());
-        let outcome = call.made(outcome, Outcome::NoMatch);
+        let Ok(outcome) = matches.next(call.alloc()) else {
+            call.fail(Fault::Memory);
+            return;
+        };
         let is_last = matches!(&outcome, Outcome::NoMatch);
         if is_last && number > 0 {
             return;

@@ -5,10 +5,10 @@ ghost use Rattle.regress_match.specs.Pattern.{matcher_tree};
 use crate::matching::{read_text, split_expected};
 use crate::outcome::{STEPS, matcher_of};
 use crate::parsing::parse_tree;
-use regress_match::{Matcher, groups};
+use regress_match::{Matcher, MemoryFault, groups};
 use regress_replace::{replace_matches, split_with_captures};
 use regress_unicode::Tables;
-use std::alloc::{AllocError, Global};
+use std::alloc::Global;
 use std::sync::Arc;
 use test_notation::{Call, Fault, parse_decimal};
 
@@ -51,9 +51,10 @@ fn report_replaced(call: &mut Call, matcher: &Matcher, text: &str, first: usize)
 {
     let alloc = call.alloc();
     let template = read_text(call);
-    let replaced = replaced(alloc, matcher, text, &template, first);
-    let replaced = call.made(replaced, String::new(alloc));
-    call.say(&replaced);
+    match replaced(alloc, matcher, text, &template, first) {
+        Ok(replaced) => call.say(&replaced),
+        Err(_) => call.fail(Fault::Memory),
+    }
 }
 
 fn replaced(
@@ -62,15 +63,15 @@ fn replaced(
     text: &str,
     template: &str,
     first: usize,
-) -> Result<String, AllocError>
+) -> Result<String, MemoryFault>
     requires { IsWellFormed (matcher_tree matcher.now) }
 {
     let groups = groups(alloc, matcher.regex())?;
     let Some(mut matches) = matcher.find_all(alloc, text, STEPS)? else {
-        return String::from_str(alloc, "out of steps");
+        return Ok(String::from_str(alloc, "out of steps")?);
     };
     matches.truncate(first);
-    replace_matches(alloc, text, &matches, template, &groups)
+    Ok(replace_matches(alloc, text, &matches, template, &groups)?)
 }
 
 /// Appends the parts of the text, separated by ` | `, within the limit that the next field states.
@@ -82,8 +83,11 @@ fn report_parts(call: &mut Call, matcher: &Matcher, text: &str)
         "-" => None,
         number => Some(call.read(parse_decimal(number), 0) as usize),
     };
-    let parts = parts(alloc, matcher, text, limit);
-    let Some(parts) = call.made(parts, None) else {
+    let Ok(parts) = parts(alloc, matcher, text, limit) else {
+        call.fail(Fault::Memory);
+        return;
+    };
+    let Some(parts) = parts else {
         call.say("out of steps");
         return;
     };
@@ -104,7 +108,7 @@ fn parts<'a>(
     matcher: &Matcher,
     text: &'a str,
     limit: Option<usize>,
-) -> Result<Option<Vec<Option<&'a str>>>, AllocError>
+) -> Result<Option<Vec<Option<&'a str>>>, MemoryFault>
     requires { IsWellFormed (matcher_tree matcher.now) }
 {
     match matcher.find_all(alloc, text, STEPS)? {

@@ -31,7 +31,7 @@ fn a_match_is_found(rt: HostRuntime) -> Result<(), Fail> {
     let code = Code::compile(alloc, &regex, 1000)?;
     let mut end = 0;
     if let Some(linear) = Linear::new(&code, Known::new(&tables, regex.flags)) {
-        let search = linear.find(alloc, "xaaab", 0)?;
+        let search = linear.find(alloc, "xaaab", 0, 1000)?;
         if let Some(found) = &search.found {
             expect_eq!(rt; found.start(), 1);
             expect_eq!(rt; found.group(0), Some((1, 4)));

@@ -42,6 +42,7 @@ returns-in-NoMatch c = record {
   all = all_found _ _ c.loop-matches.matches c.loop-matches.all.items c.loop-matches.invariant.has.found (rw c.in-NoMatch.is at c.in_ok-found.ensures.finds);
   linear = if_some (factor_of c.args.self.now) (IsSome (Some c.loop-matches.all)) refl;
   costs = λ none. absurd (cc);
+  too_much = tt;
 }
 
 pub returns-in-OutOfSteps-clause-linear : goal.returns-in-OutOfSteps-clause-linear

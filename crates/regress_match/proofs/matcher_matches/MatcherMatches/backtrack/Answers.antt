@@ -21,6 +21,7 @@ invariant_of-self-in-Break-branch-2 c =
     record {
       within = s.within;
       short = s.short;
+      fits = s.fits;
       runs = subst (λ b. IfSome b (IsRunOf s.matcher.now s.text.now)) (sym c.take-kept.ensures.after) tt;
       kept = s.kept;
     }
@@ -31,6 +32,7 @@ invariant_of-self c =
     record {
       within = s.within;
       short = s.short;
+      fits = s.fits;
       runs = subst (λ b. IfSome b (IsRunOf s.matcher.now s.text.now)) (sym c.take-kept.ensures.after) tt;
       kept = s.kept;
     }
@@ -41,6 +43,7 @@ invariant_of-self-2 c =
     record {
       within = omega (arith, c.in_ok-outcome.ensures.remaining, s.within);
       short = s.short;
+      fits = s.fits;
       runs = runs_on s.matcher.now s.text.now c.in_ok-backtracker.backtracker c.find.new.self c.in_ok-backtracker.ensures c.in_ok-outcome.ensures.same;
       kept = kept_none s.matcher.now s.text.now s.from c.offset_after-from.result s.searched s.search c.requires s.kept;
     }

@@ -12,6 +12,7 @@ invariant_of-self c =
     record {
       within = s.within;
       short = s.short;
+      fits = made.fits;
       runs = s.runs;
       kept = tables_kept s.matcher.now s.text.now s.from c.steps-self.result c.in_ok-search.search (sym c.is_linear.ensures ∙ c.if-is_linear.true)
           s.matcher.now.compiled (made.code ∙ rw c.in-Some.is at c.new.ensures.code)

@@ -37,6 +37,7 @@ returns-in_default c =
           (λ m ran. runs_counted c.args.self.now c.skip_to_end.new.self c.backtrack.new.self m c.args.self.now.within looked.same
           c.in_ok-outcome.ensures.same (looked.stays c.if-skip_to_end.false) looked.spent looked.searched c.in_ok-outcome.ensures.searched ran)
           c.in_ok-outcome.ensures.tried;
+      too_much = tt;
     }
 
 pub returns-in_ok-make_tables-in-OutOfSteps-clause-spent : goal.returns-in_ok-make_tables-in-OutOfSteps-clause-spent
