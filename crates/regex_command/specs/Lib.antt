@@ -1,3 +1,4 @@
+pub mod Joined
 pub mod Patterns
 pub mod Remarks
 pub mod Printed

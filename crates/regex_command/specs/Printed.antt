@@ -1,8 +1,9 @@
 -- What the program writes for a request, and where its pattern is.
-use Rattle.std.specs.Prelude.{◌≡◌, ⊤, ℕ, List, Bool, true, false, ◌⊎◌, ◌||◌, ◌++◌, Option, chars, codes}
+use Rattle.std.specs.Prelude.{◌≡◌, ⊤, ℕ, List, [], ◌∷◌, Bool, true, false, ◌⊎◌, ◌||◌, ◌++◌, Option, chars, codes}
 use Rattle.std.specs.Io.KnownBytes.{Appends}
+use Rattle.std.specs.List.{Any, FoldsTo}
 use Rattle.regex_options.specs.Plain.{Job, matching, replacing, Source, in_argument, in_file}
-use Rattle.regex_options.specs.Request.{Action, Ask, apply, escape, explain, help, lint, search, show}
+use Rattle.regex_options.specs.Request.{Action, Ask, Request, apply, escape, explain, help, lint, search, show}
 use Rattle.regex_options.specs.declared.request.View.{View}
 use Rattle.regress.specs.Compiled.{IsCompiled}
 use Rattle.regress.specs.Failures.{IsTooLarge}
@@ -18,24 +19,32 @@ use Rattle.regress_escape.specs.Escape.{escaped}
 use Rattle.regress_front.specs.Rejected.{NoneIsAccepted}
 use Rattle.regress_tree.specs.Steps.{Setting}
 use Rattle.regex_lines.specs.Ending.{IsCostlyPattern, IsLate, IsSearchFailure, MayFailToRead}
+use Rattle.regex_command.specs.Joined.{AreJoinable, are_parts, are_several, joined, refers, takes_several}
 use Rattle.regex_command.specs.Patterns.{IsExplanationIn, MayFailToExplain, IsReport, IsTreeOutput, IsQuietFor, IsShowFailure}
 use Rattle.regex_lines.specs.Searched.{WritesInputs, WritesSomeOf, inputs_of}
 use Rattle.regex_lines.specs.declared.failure.Failure.TheVariants.{Argument, Memory, Output, Closed, Syntax, TooLarge, OutOfSteps, Unreadable, PatternNotUtf8, TooLong}
 use Rattle.regex_lines.specs.declared.failure.Failure.{Failure}
 
--- The bytes are the text of the pattern. Nothing is known of the bytes of a file.
-abbrev pub IsTextOf : Source → List ℕ → Type 0
-IsTextOf (in_argument text) bytes = bytes ≡ text
-IsTextOf (in_file name) bytes = ⊤
+-- The patterns of one more source. Nothing is known of the lines of a file.
+abbrev pub AreWith : (before : List (List ℕ)) → Source → (after : List (List ℕ)) → Type 0
+AreWith before (in_argument text) after = after ≡ before ++ text ∷ []
+AreWith before (in_file name) after = (lines : List (List ℕ)) × (after ≡ before ++ lines)
 
--- P holds of the text of the pattern.
-abbrev pub OfText : Source → (P : List ℕ → Type 0) → Type 0
-OfText source P = (text : List ℕ) × IsTextOf source text × P text
+-- The patterns of all sources, in order.
+abbrev pub ArePatternsOf : List Source → (patterns : List (List ℕ)) → Type 0
+ArePatternsOf = FoldsTo AreWith []
 
--- The text of the pattern is not known: memory is short, or its file cannot be read or is not UTF-8.
-abbrev pub LacksText : Source → Failure → Type 0
-LacksText (in_argument text) failure = failure ≡ Memory
-LacksText (in_file name) failure = MayFailToRead failure
+-- P holds of the patterns of these sources.
+abbrev pub OfPatterns : List Source → (P : List (List ℕ) → Type 0) → Type 0
+OfPatterns sources P = (patterns : List (List ℕ)) × ArePatternsOf sources patterns × P patterns
+
+-- Patterns are not known: memory is short, or a file cannot be read or is not UTF-8.
+abbrev pub IsUnread : Source → Failure → Type 0
+IsUnread (in_argument text) failure = failure ≡ Memory
+IsUnread (in_file name) failure = MayFailToRead failure
+
+abbrev pub AreUnread : List Source → Failure → Type 0
+AreUnread sources failure = Any (λ source. IsUnread source failure) sources
 
 -- No pattern is accepted, or it is too large, or memory is short.
 abbrev pub IsRejected : Setting → (text : List ℕ) → Failure → Type 0
@@ -49,6 +58,34 @@ IsRejected setting text OutOfSteps = ⊥
 IsRejected setting text (Unreadable name) = ⊥
 IsRejected setting text (PatternNotUtf8 name offset) = ⊥
 IsRejected setting text (TooLong name) = ⊥
+
+abbrev pub IsSyntaxError : Failure → Type 0
+IsSyntaxError (Syntax pattern message position) = ⊤
+IsSyntaxError failure = ⊥
+
+module _ (request : Request) (patterns : List (List ℕ)) (failure : Failure) where
+  -- A pattern that becomes a part of another one is rejected.
+  abbrev pub HasRejectedPart : Type 0
+  HasRejectedPart = (are_parts request.form patterns ≡ true) × Any (λ pattern. IsRejected (unicode_setting request.flags) pattern failure) patterns
+
+  -- There are several patterns where one is taken, or one of them refers to a group.
+  abbrev pub AreBadSeveral : Type 0
+  AreBadSeveral =
+      (are_several patterns ≡ true)
+      × ((takes_several request.action ≡ false) ⊎ Any (λ pattern. refers false (chars pattern) ≡ true) patterns) × IsSyntaxError failure
+
+  -- The patterns cannot be joined, or memory is short.
+  abbrev pub AreUnjoinable : Type 0
+  AreUnjoinable = (failure ≡ Memory) ⊎ HasRejectedPart ⊎ AreBadSeveral
+
+-- P holds of the pattern that is searched for.
+abbrev pub OfPattern : Request → (P : List ℕ → Type 0) → Type 0
+OfPattern request P = OfPatterns request.patterns (λ patterns. AreJoinable request patterns × P (joined request.form patterns))
+
+-- There is no pattern that is searched for: those that are given cannot be read, or not be joined.
+abbrev pub LacksPattern : Request → Failure → Type 0
+LacksPattern request failure =
+    AreUnread request.patterns failure ⊎ OfPatterns request.patterns (λ patterns. AreUnjoinable request patterns failure)
 
 -- A failure of a search: a syntax error is due only if no pattern is accepted, and too many steps only if it is costly.
 abbrev pub IsDue : Setting → (text : List ℕ) → Failure → Type 0
@@ -111,7 +148,7 @@ abbrev pub Prints : (input old new : Option (List ℕ)) → (found : Bool) → A
 Prints input old new found (help text) = (found ≡ true) × Appends old new text
 Prints input old new found (escape string) = (found ≡ true) × PrintsEscaped old new string
 Prints input old new found (apply request) =
-    OfText request.pattern (λ pattern. Does request.flags pattern request.action input old new found)
+    OfPattern request (λ pattern. Does request.flags pattern request.action input old new found)
 
 -- Nothing is written to standard error, unless a pattern is rejected that is not searched for: then its syntax error is.
 abbrev pub IsQuietAt : (quiet : Type 0) → Action → Type 0
@@ -130,14 +167,14 @@ abbrev pub PrintsSome : (input old new : Option (List ℕ)) → (nothing : Type 
 PrintsSome input old new nothing (help text) = nothing
 PrintsSome input old new nothing (escape string) = nothing
 PrintsSome input old new nothing (apply request) =
-    nothing ⊎ OfText request.pattern (λ pattern. Begins request.flags pattern request.action input old new)
+    nothing ⊎ OfPattern request (λ pattern. Begins request.flags pattern request.action input old new)
 
 -- A failure is due.
 abbrev pub MayFail : Ask → Failure → Type 0
 MayFail (help text) failure = IsLate failure
 MayFail (escape string) failure = IsLate failure
 MayFail (apply request) failure =
-    LacksText request.pattern failure ⊎ OfText request.pattern (λ pattern. MayFailAt request.flags pattern request.action failure)
+    LacksPattern request failure ⊎ OfPattern request (λ pattern. MayFailAt request.flags pattern request.action failure)
 
 -- the exit status if nothing is found: 2 if that means that the pattern is rejected
 abbrev pub status_of_none : Action → ℕ

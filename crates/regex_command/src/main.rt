@@ -8,14 +8,16 @@ ghost use Rattle.std.specs.Prelude.{◌≡◌, ◌≢◌, ◌≤◌, ◌⊎◌, 
 ghost use Rattle.std.specs.Io.KnownBytes.{Appends};
 ghost use Rattle.regress_display.specs.Request.{requested};
 ghost use Rattle.regex_options.specs.Table.{topic_text};
-ghost use Rattle.regex_options.specs.Request.{action, ask, asked_by};
+ghost use Rattle.regex_options.specs.Request.{action, ask, asked_by, requested as request_asked};
 ghost use Rattle.regex_lines.specs.Ending.{IsLate, OrOutput};
-ghost use Rattle.regex_options.specs.Plain.{job, source};
-ghost use Rattle.regex_command.specs.Printed.{Begins, Does, IsDue, IsQuiet, IsQuietAt, MayFail, MayFailAt, Prints, PrintsAll, PrintsEscaped, PrintsFirst, PrintsSome, changes, status_if_none, view_of, LacksText, OfText};
+ghost use Rattle.regex_options.specs.Plain.{job};
+ghost use Rattle.regex_command.specs.Printed.{Begins, Does, IsDue, IsQuiet, IsQuietAt, LacksPattern, MayFail, MayFailAt, Prints, PrintsAll, PrintsEscaped, PrintsFirst, PrintsSome, changes, status_if_none, view_of, OfPattern};
 ghost use Rattle.regress.specs.Unicode.{unicode_setting};
 
+mod checking;
 mod compiling;
 mod explaining;
+mod joining;
 mod linting;
 mod pattern;
 mod showing;
@@ -218,16 +220,16 @@ fn apply<'a, R: Files + AllocGlobal, I: Read + Drop, W: Write, E: Write>(
     out: &mut W,
     err: &mut E,
 ) -> Result<bool, Failure<'a>>
-    ensures found { IfOk result (λ found. OfText (source request.entry.pattern) (λ text. Does request.entry.flags text
+    ensures found { IfOk result (λ found. OfPattern (request_asked request.entry) (λ pattern. Does request.entry.flags pattern
         (action request.entry.action) (I.remaining input) (W.contents out.old) (W.contents out.new) found)) }
-    ensures first { IfErr result (OrOutput ((out.new ≡ out.old) ⊎ OfText (source request.entry.pattern)
-        (λ text. Begins request.entry.flags text (action request.entry.action) (I.remaining input) (W.contents out.old) (W.contents out.new)))) }
-    ensures due { IfErr result (λ failure. LacksText (source request.entry.pattern) failure
-        ⊎ OfText (source request.entry.pattern) (λ text. MayFailAt request.entry.flags text (action request.entry.action) failure)) }
+    ensures first { IfErr result (OrOutput ((out.new ≡ out.old) ⊎ OfPattern (request_asked request.entry)
+        (λ pattern. Begins request.entry.flags pattern (action request.entry.action) (I.remaining input) (W.contents out.old) (W.contents out.new)))) }
+    ensures due { IfErr result (λ failure. LacksPattern (request_asked request.entry) failure
+        ⊎ OfPattern (request_asked request.entry) (λ pattern. MayFailAt request.entry.flags pattern (action request.entry.action) failure)) }
     ensures quiet { result ≡ Ok true → err.new ≡ err.old }
     ensures quiet_none { IsQuietAt (err.new ≡ err.old) (action request.entry.action) }
 {
-    let text = pattern_text(rt, request.pattern)?;
+    let text = pattern_text(rt, request)?;
     let pattern = Pattern {
         text: &text,
         flags: request.flags,

@@ -1,13 +1,16 @@
 //! Patterns, and where they are.
-ghost use Rattle.std.specs.Prelude.{◌≡◌, IfOk, IfErr, string_bytes};
-ghost use Rattle.regex_command.specs.Printed.{IsTextOf, LacksText};
+ghost use Rattle.std.specs.Prelude.{◌≡◌, ◌<◌, IfOk, IfErr, OnOk, length, map, string_bytes};
+ghost use Rattle.regex_command.specs.Printed.{ArePatternsOf, AreUnread, AreWith, IsUnread, LacksPattern, OfPattern};
 ghost use Rattle.regex_lines.specs.Ending.{MayFailToRead};
-ghost use Rattle.regex_lines.specs.Searched.{without_line_feed};
-ghost use Rattle.regex_options.specs.Plain.{source};
+ghost use Rattle.regex_options.specs.Plain.{source, sources};
+ghost use Rattle.regex_options.specs.Request.{requested};
 
-use regex_lines::{Failure, read_failure, remove_line_feed};
-use regex_options::PatternSource;
+use crate::checking::check_patterns;
+use crate::joining::joined;
+use regex_lines::{Failure, read_failure};
+use regex_options::{PatternSource, Patterns, Request};
 use regress_base::types::Flags;
+use std::alloc::{AllocError, Global};
 use std::fs::{File, Files};
 use std::io::Read;
 
@@ -18,17 +21,88 @@ pub(crate) struct Pattern<'p> {
     pub(crate) flags: Flags,
 }
 
-/// Returns the text of a pattern.
+/// Returns the pattern that is searched for.
 pub(crate) fn pattern_text<'a, R: Files + AllocGlobal>(
     rt: &R,
-    from: PatternSource<'a>,
+    request: Request<'a>,
 ) -> Result<String, Failure<'a>>
-    ensures text { IfOk result (λ text. IsTextOf (source from.entry) (string_bytes text)) }
-    ensures failed { IfErr result (LacksText (source from.entry)) }
+    ensures text { IfOk result (λ text. OfPattern (requested request.entry) (λ pattern. string_bytes text ≡ pattern)) }
+    ensures failed { IfErr result (LacksPattern (requested request.entry)) }
+{
+    let patterns = read_patterns(rt, request.patterns)?;
+    check_patterns(rt.alloc(), request, &patterns)?;
+    Ok(joined(rt.alloc(), request.form, &patterns)?)
+}
+
+/// Returns the patterns that are given.
+fn read_patterns<'a, R: Files + AllocGlobal>(
+    rt: &R,
+    from: Patterns<'a>,
+) -> Result<Vec<String>, Failure<'a>>
+    ensures read { IfOk result (λ patterns. ArePatternsOf (sources from.entry) (map string_bytes patterns.items)) }
+    ensures failed { IfErr result (AreUnread (sources from.entry)) }
 {
     match from {
-        PatternSource::Text(text) => Ok(String::from_str(rt.alloc(), text)?),
-        PatternSource::File(name) => pattern_of(name, read_file(rt, name)?),
+        Patterns::Operand(text) => read_all(rt, &[PatternSource::Text(text)]),
+        Patterns::Options(sources) => read_all(rt, sources),
+    }
+}
+
+/// Returns the patterns of all these sources.
+fn read_all<'a, R: Files + AllocGlobal>(
+    rt: &R,
+    sources: &[PatternSource<'a>],
+) -> Result<Vec<String>, Failure<'a>>
+    ensures read { IfOk result (λ patterns. ArePatternsOf (map source sources.now) (map string_bytes patterns.items)) }
+    ensures failed { IfErr result (AreUnread (map source sources.now)) }
+{
+    let mut patterns = Vec::new(rt.alloc());
+    for from in sources {
+        add_patterns(rt, from, &mut patterns)?;
+    }
+    Ok(patterns)
+}
+
+/// Adds the patterns of a source.
+fn add_patterns<'a, R: Files + AllocGlobal>(
+    rt: &R,
+    from: &PatternSource<'a>,
+    to: &mut Vec<String>,
+) -> Result<(), Failure<'a>>
+    ensures with { OnOk result (AreWith (map string_bytes to.old.items) (source from.now) (map string_bytes to.new.items)) }
+    ensures failed { IfErr result (IsUnread (source from.now)) }
+{
+    match *from {
+        PatternSource::Text(text) => to.push(String::from_str(rt.alloc(), text)?)?,
+        PatternSource::File(name) => {
+            let text = text_of(name, read_file(rt, name)?)?;
+            let mut lines = lines_of(rt.alloc(), text.as_str())?;
+            to.append(&mut lines)?;
+        }
+    }
+    Ok(())
+}
+
+/// Returns the lines of a text. A line feed at its end is followed by no other line.
+fn lines_of(alloc: Global, text: &str) -> Result<Vec<String>, AllocError> {
+    let mut lines = Vec::new(alloc);
+    let mut rest = text;
+    while !rest.is_empty() {
+        let (line, after) = first_line(rest);
+        lines.push(String::from_str(alloc, line)?)?;
+        rest = after;
+    }
+    Ok(lines)
+}
+
+/// Returns the first line, without its line feed, and what is after it.
+fn first_line(text: &str) -> (&str, &str)
+    requires { 0 < length text.now }
+    ensures { length result.1.now < length text.now }
+{
+    match text.split_once('\n') {
+        Some((line, after)) => (line, after),
+        None => (text, ""),
     }
 }
 
@@ -46,12 +120,11 @@ fn read_file<'a, R: Files + AllocGlobal>(rt: &R, name: &'a str) -> Result<Vec<u8
     }
 }
 
-/// Returns the pattern that a file with these bytes has. A line feed at the end is not part of it.
-fn pattern_of<'a>(name: &'a str, mut bytes: Vec<u8>) -> Result<String, Failure<'a>>
-    ensures text { IfOk result (λ text. string_bytes text ≡ without_line_feed bytes.items) }
+/// Returns the text of a file with these bytes.
+fn text_of<'a>(name: &'a str, bytes: Vec<u8>) -> Result<String, Failure<'a>>
+    ensures text { IfOk result (λ text. string_bytes text ≡ bytes.items) }
     ensures failed { IfErr result MayFailToRead }
 {
-    remove_line_feed(&mut bytes);
     match String::from_utf8(bytes) {
         Ok(text) => Ok(text),
         Err(error) => Err(Failure::PatternNotUtf8 {

@@ -1,5 +1,5 @@
 -- What the options specify.
-use Rattle.std.specs.Prelude.{ℕ, true, false, not, ◌||◌, ◌&&◌, ◌^◌, nat_lt, List, Option, Some, None, option_and_then, option_map, if◌then◌else◌, ◌==◌, bytes_eq, codes, is_none, length}
+use Rattle.std.specs.Prelude.{ℕ, true, false, not, ◌||◌, ◌&&◌, ◌^◌, nat_lt, List, Option, Some, None, option_and_then, option_map, if◌then◌else◌, ◌==◌, bytes_eq, codes, length}
 use Rattle.std.specs.Str.{all_ascii_digits}
 use Rattle.std.specs.Str.Parse.{digits_value}
 use Rattle.regress_arguments.specs.Letters.{no_flags, with_letters}
@@ -10,12 +10,12 @@ use Rattle.regex_options.specs.declared.given.Color.TheVariants.{Always, Never, 
 use Rattle.regex_options.specs.declared.given.Given as code
 use Rattle.regex_options.specs.declared.given.Options.{Options}
 use Rattle.regex_options.specs.declared.table.Switch.{Switch}
-use Rattle.regex_options.specs.declared.table.Switch.TheVariants.{Help, Version, IgnoreCase, Multiline, LineBuffered, Binary, Invert, Numbers, Shown, Json, Stage, Small, Html}
+use Rattle.regex_options.specs.declared.table.Switch.TheVariants.{Help, Version, IgnoreCase, Fixed, WholeLines, WholeWords, Multiline, LineBuffered, Binary, Invert, Numbers, Shown, Json, Stage, Small, Html}
 use Rattle.regex_options.specs.declared.table.Value.{Value}
 use Rattle.regex_options.specs.declared.table.Value.TheVariants.{Pattern, File, Flags as FlagLetters, Count, Color as When, Text}
 use Rattle.regex_options.specs.declared.task.Shown.TheVariants.{Lines}
 
--- the options, and the texts that they have: the pattern, and the text of a page
+-- the options, and the texts that they have: the pattern of the last option, and the text of a page
 pub record Given : Type 0 where
   pub options : Options
   pub pattern : Option Source
@@ -26,6 +26,7 @@ no_options = record {
   help = false;
   version = false;
   flags = no_flags;
+  form = record { fixed = false; lines = false; words = false };
   selection = record { invert = false; numbers = false; shown = Lines; max_count = None; paints = false };
   multiline = false;
   line_buffered = false;
@@ -52,6 +53,9 @@ abbrev pub switched : Switch → Options → Options
 switched Help o = record o { help = true }
 switched Version o = record o { version = true }
 switched IgnoreCase o = record o { flags = record o.flags { icase = true } }
+switched Fixed o = record o { form = record o.form { fixed = true } }
+switched WholeLines o = record o { form = record o.form { lines = true } }
+switched WholeWords o = record o { form = record o.form { words = true } }
 switched Multiline o = record o { multiline = true }
 switched LineBuffered o = record o { line_buffered = true }
 switched Binary o = o
@@ -93,14 +97,14 @@ color_of when =
 abbrev pub with_color : (when : List ℕ) → Options → Option Options
 with_color when o = option_map (λ color. record o { color = Some color }) (color_of when)
 
--- what is given with this pattern, if there is none yet
-abbrev pub with_pattern : Source → Given → Option Given
-with_pattern pattern given = if is_none given.pattern then Some (record given { pattern = Some pattern }) else None
+-- what is given with this pattern
+abbrev pub with_pattern : Source → Given → Given
+with_pattern pattern given = record given { pattern = Some pattern }
 
 -- what is given with one more option, unless its argument is invalid
 abbrev pub valued : Value → (text : List ℕ) → Given → Option Given
-valued Pattern text given = with_pattern (in_argument text) given
-valued File text given = with_pattern (in_file text) given
+valued Pattern text given = Some (with_pattern (in_argument text) given)
+valued File text given = Some (with_pattern (in_file text) given)
 valued FlagLetters text given = option_map (λ options. record given { options = options }) (with_flags text given.options)
 valued Count text given = option_map (λ options. record given { options = options }) (with_count text given.options)
 valued When text given = option_map (λ options. record given { options = options }) (with_color text given.options)

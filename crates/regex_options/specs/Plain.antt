@@ -1,11 +1,13 @@
 -- Plain data: what is done with each line, where the pattern is, and why arguments are invalid.
-use Rattle.std.specs.Prelude.{◌≡◌, ⊤, ℕ, List, Option, Some, None, Result, Ok, Err}
+use Rattle.std.specs.Prelude.{◌≡◌, ⊤, ℕ, List, [], ◌∷◌, map, Option, Some, None, Result, Ok, Err}
 use Rattle.regex_options.specs.declared.error.ParseError.{ParseError}
 use Rattle.regex_options.specs.declared.error.ParseError.TheVariants.{Usage, Memory}
 use Rattle.regex_options.specs.declared.error.UsageError as code
 use Rattle.regex_options.specs.declared.error.UsageError.TheVariants.{Missing, UnknownCommand, UnknownOption, Invalid, OnlyOfMatch, ExcludedByJson, TextWithoutPage, Unexpected}
 use Rattle.regex_options.specs.declared.source.PatternSource.TheVariants.{Text, File}
 use Rattle.regex_options.specs.declared.source.PatternSource.{PatternSource}
+use Rattle.regex_options.specs.declared.source.Patterns.TheVariants.{Operand, Options}
+use Rattle.regex_options.specs.declared.source.Patterns.{Patterns}
 use Rattle.regex_options.specs.declared.task.Selection.{Selection}
 use Rattle.regex_options.specs.declared.task.Task.TheVariants.{Match, Replace}
 use Rattle.regex_options.specs.declared.task.Task.{Task}
@@ -20,7 +22,7 @@ abbrev pub job : Task → Job
 job (Match s) = matching s
 job (Replace template) = replacing template.now
 
--- a pattern, or the name of the file that has it
+-- a pattern, or the name of the file that has patterns
 pub data Source : Type 0 where
   in_argument : (text : List ℕ) → Source
   in_file : (name : List ℕ) → Source
@@ -29,6 +31,11 @@ pub data Source : Type 0 where
 abbrev pub source : PatternSource → Source
 source (Text text) = in_argument text.now
 source (File name) = in_file name.now
+
+-- the patterns of a request, as the code represents them
+abbrev pub sources : Patterns → List Source
+sources (Operand text) = in_argument text.now ∷ []
+sources (Options given) = map source given.now
 
 -- a missing argument, by its name; an argument that is wrong; or options that exclude or need others
 pub data UsageError : Type 0 where

@@ -5,9 +5,10 @@ use Rattle.std.specs.List.{after_first, before_first, position_or_len, starts_wi
 use Rattle.std.specs.declared.alloc.Global.{Global}
 use Rattle.regex_options.specs.Given.{Given, given_by, nothing_given, switched, valued}
 use Rattle.regex_options.specs.Table.{has, has_letter, has_long, is_of_match_only, is_valued}
-use Rattle.regex_options.specs.Plain.{UsageError, first_error, invalid, missing, on_ok, only_of_match, or_error, unknown_option, usage_error}
+use Rattle.regex_options.specs.Plain.{Source, UsageError, first_error, invalid, missing, on_ok, only_of_match, or_error, source, unknown_option, usage_error}
 use Rattle.regex_options.specs.declared.command.Command.{Command}
 use Rattle.regex_options.specs.declared.reading.Reading as code
+use Rattle.regex_options.specs.declared.reading.Words as code_words
 use Rattle.regex_options.specs.declared.table.Argument.{Argument}
 use Rattle.regex_options.specs.declared.table.OptionEntry.{OptionEntry}
 use Rattle.regex_options.specs.declared.table.Scope.{Scope}
@@ -15,19 +16,46 @@ use Rattle.regex_options.specs.declared.table.Sets.{Sets}
 use Rattle.regex_options.specs.declared.table.Sets.TheVariants as sets
 use Rattle.regex_options.specs.declared.table.Switch.{Switch}
 
--- What the arguments up to some point specify, the error of the first option that the command lacks, and what the next
+-- What the options up to some point specify, the error of the first one that the command lacks, and what the next
 -- argument is if it belongs to the last option.
 pub record Reading : Type 0 where
   pub given : Given
   pub denied : Option UsageError
   pub awaits : Option Argument
 
-abbrev pub start : Reading
-start = record { given = nothing_given; denied = None; awaits = None }
-
 -- the same, as the code represents it
 abbrev pub reading_of : code.Reading → Reading
 reading_of r = record { given = given_by r.given; denied = option_map usage_error r.denied; awaits = r.awaits }
+
+-- What the arguments up to some point are: what the options specify, the patterns that options have, and the operands,
+-- which are the arguments that are neither options nor belong to one.
+pub record Words : Type 0 where
+  pub reading : Reading
+  pub patterns : List Source
+  pub operands : List (List ℕ)
+
+abbrev pub start : Words
+start = record { reading = record { given = nothing_given; denied = None; awaits = None }; patterns = []; operands = [] }
+
+-- the same, as the code represents it
+abbrev pub words_of : code_words.Words → Words
+words_of w = record { reading = reading_of w.reading; patterns = map source w.patterns.items; operands = map string_bytes w.operands.items }
+
+-- the pattern, if there is one
+abbrev pub listed : Option Source → List Source
+listed None = []
+listed (Some pattern) = pattern ∷ []
+
+-- the pattern of the last option is forgotten
+abbrev pub without_pattern : Reading → Reading
+without_pattern r = record r { given = record r.given { pattern = None } }
+
+abbrev pub with_operands : List (List ℕ) → Words → Words
+with_operands operands w = record w { operands = w.operands ++ operands }
+
+-- the words with this reading, and the pattern of its last option
+abbrev pub with_reading : Words → Reading → Words
+with_reading w r = record { reading = without_pattern r; patterns = w.patterns ++ listed r.given.pattern; operands = w.operands }
 
 -- the error of an option of this argument that the command lacks
 abbrev pub lacked : Scope → (word : List ℕ) → UsageError
@@ -113,16 +141,15 @@ or_denied denied (Ok r) = Ok r
 or_denied denied (Err error) = Err (first_error denied error)
 
 -- the end of the arguments
-abbrev pub ended : Reading → (operands : List (List ℕ)) → Option Argument → Result (Reading × List (List ℕ)) UsageError
-ended r operands None = Ok (r, operands)
-ended r operands (Some argument) = Err (first_error r.denied (missing argument.name.now))
+abbrev pub ended : Words → Option Argument → Result Words UsageError
+ended w None = Ok w
+ended w (Some argument) = Err (first_error w.reading.denied (missing argument.name.now))
 
 module _ (options : List OptionEntry) (command : Command) where
-  -- What the options specify, and the operands: the arguments that are neither options nor belong to one. `--` ends the
-  -- options.
-  abbrev pub options_of : Reading → (operands : List (List ℕ)) → List (String Global) → Result (Reading × List (List ℕ)) UsageError
-  options_of r operands [] = ended r operands r.awaits
-  options_of r operands (first ∷ rest) =
-      if is_none r.awaits && bytes_eq (string_bytes first) (codes "--") then Ok (r, operands ++ map string_bytes rest)
-      else if is_none r.awaits && not (is_option (string_bytes first)) then options_of r (operands ++ (string_bytes first ∷ [])) rest
-      else on_ok (λ more. options_of more operands rest) (or_denied r.denied (with_word options command (string_bytes first) r))
+  -- What the arguments are. `--` ends the options.
+  abbrev pub options_of : Words → List (String Global) → Result Words UsageError
+  options_of w [] = ended w w.reading.awaits
+  options_of w (first ∷ rest) =
+      if is_none w.reading.awaits && bytes_eq (string_bytes first) (codes "--") then Ok (with_operands (map string_bytes rest) w)
+      else if is_none w.reading.awaits && not (is_option (string_bytes first)) then options_of (with_operands (string_bytes first ∷ []) w) rest
+      else on_ok (λ r. options_of (with_reading w r) rest) (or_denied w.reading.denied (with_word options command (string_bytes first) w.reading))

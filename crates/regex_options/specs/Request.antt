@@ -9,8 +9,8 @@ use Rattle.regress_display.specs.declared.request.Stage.{Stage}
 use Rattle.regress_display.specs.declared.request.Stage.TheVariants as stages
 use Rattle.regex_options.specs.Table.{command_help, is_named, program_help, topic_text}
 use Rattle.regex_options.specs.Given.{Given}
-use Rattle.regex_options.specs.Plain.{Job, job, matching, replacing, Source, in_argument, source, UsageError, excluded_by_json, missing, on_ok, or_error, text_without_page, unexpected, unknown_command, unknown_option, unless_error}
-use Rattle.regex_options.specs.Reading.{Reading, options_of, reading_of, start}
+use Rattle.regex_options.specs.Plain.{Job, job, matching, replacing, Source, in_argument, sources, UsageError, excluded_by_json, missing, on_ok, or_error, text_without_page, unexpected, unknown_command, unknown_option, unless_error}
+use Rattle.regex_options.specs.Reading.{Words, options_of, start, words_of}
 use Rattle.regex_options.specs.declared.command.Command.{Command}
 use Rattle.regex_options.specs.declared.command.Command.TheVariants as commands
 use Rattle.regex_options.specs.declared.command.CommandEntry.{CommandEntry}
@@ -31,7 +31,8 @@ use Rattle.regex_options.specs.declared.request.Parsed as code_parsed
 use Rattle.regex_options.specs.declared.request.Parsed.TheVariants.{Topic, Line}
 use Rattle.regex_options.specs.declared.request.Request as code
 use Rattle.regex_options.specs.declared.request.View.{View}
-use Rattle.regex_options.specs.declared.source.PatternSource.{PatternSource}
+use Rattle.regex_options.specs.declared.source.PatternForm.{PatternForm}
+use Rattle.regex_options.specs.declared.source.Patterns.{Patterns}
 use Rattle.regex_options.specs.declared.table.OptionEntry.{OptionEntry}
 use Rattle.regex_options.specs.declared.task.Selection.{Selection}
 use Rattle.regex_options.specs.declared.task.Shown.{Shown}
@@ -55,10 +56,11 @@ pub data Action : Type 0 where
   lint : Action
   explain : Form → Action
 
--- a pattern, its flags, and what to do with it
+-- patterns, their flags, how they are read, and what to do with them
 pub record Request : Type 0 where
-  pub pattern : Source
+  pub patterns : List Source
   pub flags : Flags
+  pub form : PatternForm
   pub action : Action
 
 -- a text about the program to write, a text to escape, or something to do with a pattern
@@ -67,16 +69,15 @@ pub data Ask : Type 0 where
   escape : List ℕ → Ask
   apply : Request → Ask
 
--- The arguments, parsed one by one: a text about the program, or a command with what its options specify, and with its
--- operands, which are the arguments that are neither options nor belong to one.
+-- the arguments, parsed one by one: a text about the program, or a command and its arguments
 pub data Parsed : Type 0 where
   about : (text : List ℕ) → Parsed
-  line : CommandEntry → Reading → (operands : List (List ℕ)) → Parsed
+  line : CommandEntry → Words → Parsed
 
 -- the same, as the code represents it
 abbrev pub parsed_as : code_parsed.Parsed → Parsed
 parsed_as (Topic topic) = about (topic_text topic)
-parsed_as (Line l) = line l.entry (reading_of l.reading) (map string_bytes l.operands.items)
+parsed_as (Line l) = line l.entry (words_of l.words)
 
 -- what to do with a pattern, as the code represents it
 abbrev pub action : code_action.Action → Action
@@ -87,7 +88,7 @@ action (Explain form) = explain (asked_form form)
 
 -- a request as the code represents it
 abbrev pub requested : code.Request → Request
-requested r = record { pattern = source r.pattern; flags = r.flags; action = action r.action }
+requested r = record { patterns = sources r.patterns; flags = r.flags; form = r.form; action = action r.action }
 
 -- what the arguments ask for, as the code represents it
 abbrev pub ask : Asked → Ask
@@ -151,21 +152,25 @@ action_of terminal operations.Draw given args = alone (show (view_in given.optio
 action_of terminal operations.Lint given args = alone lint args
 action_of terminal operations.Explain given args = alone (explain (form_of given)) args
 
--- the pattern, and the operands after it, as the code represents them
-abbrev pub after_pattern : PatternSource × Bor (List (String Global)) → Source × List (List ℕ)
-after_pattern taken = (source taken.0, map string_bytes taken.1.now)
+-- the patterns, and the operands after them, as the code represents them
+abbrev pub after_patterns : Patterns × Bor (List (String Global)) → List Source × List (List ℕ)
+after_patterns taken = (sources taken.0, map string_bytes taken.1.now)
 
--- the pattern, and the operands after it: it is the first one, if no option has it
-abbrev pub taken_pattern : Option Source → List (List ℕ) → Option (Source × List (List ℕ))
-taken_pattern (Some pattern) args = Some (pattern, args)
-taken_pattern None [] = None
-taken_pattern None (pattern ∷ args) = Some (in_argument pattern, args)
+-- the patterns, and the operands after them: without an option that has one it is the first operand
+abbrev pub taken_patterns : List Source → List (List ℕ) → Option (List Source × List (List ℕ))
+taken_patterns (pattern ∷ patterns) args = Some (pattern ∷ patterns, args)
+taken_patterns [] [] = None
+taken_patterns [] (pattern ∷ args) = Some (in_argument pattern ∷ [], args)
 
--- the request of an operation, with the operands
-abbrev pub request_of : (terminal : Bool) → Operation → Given → List (List ℕ) → Result Ask UsageError
-request_of terminal operation given args =
-    on_ok (λ taken. on_ok (λ action. Ok (apply (record { pattern = taken.0; flags = given.options.flags; action = action })))
-    (action_of terminal operation given taken.1)) (or_error (missing (codes "PATTERN")) (taken_pattern given.pattern args))
+-- the request with these options and patterns, for this action
+abbrev pub request_for : Options → (patterns : List Source) → Action → Ask
+request_for options patterns action = apply (record { patterns = patterns; flags = options.flags; form = options.form; action = action })
+
+-- the request of an operation, with its arguments
+abbrev pub request_of : (terminal : Bool) → Operation → Words → Result Ask UsageError
+request_of terminal operation w =
+    on_ok (λ taken. on_ok (λ action. Ok (request_for w.reading.given.options taken.0 action))
+    (action_of terminal operation w.reading.given taken.1)) (or_error (missing (codes "PATTERN")) (taken_patterns w.patterns w.operands))
 
 abbrev pub is_lines : Shown → Bool
 is_lines shows.Lines = true
@@ -188,10 +193,10 @@ escape_of [] = Err (missing (codes "TEXT"))
 escape_of (text ∷ []) = Ok (escape text)
 escape_of (text ∷ (more ∷ others)) = Err (unexpected more)
 
--- what a command asks for with its operands
-abbrev pub command_of : (terminal : Bool) → Command → Given → List (List ℕ) → Result Ask UsageError
-command_of terminal commands.Escape given args = escape_of args
-command_of terminal (commands.Pattern operation) given args = request_of terminal operation given args
+-- what a command asks for with its arguments
+abbrev pub command_of : (terminal : Bool) → Command → Words → Result Ask UsageError
+command_of terminal commands.Escape w = escape_of w.operands
+command_of terminal (commands.Pattern operation) w = request_of terminal operation w
 
 -- the error of a word that is no command
 abbrev pub unknown : (word : List ℕ) → UsageError
@@ -199,20 +204,20 @@ unknown word = if slice_index word 0 == 45 then unknown_option word else unknown
 
 module _ (options : List OptionEntry) (terminal : Bool) where
   -- The help, the version, or what the command asks for, if it has all options and they go together.
-  abbrev pub line_interpreted : CommandEntry → Reading → (operands : List (List ℕ)) → Result Ask UsageError
-  line_interpreted entry r operands =
-      if r.given.options.help then Ok (help (command_help entry options))
-      else if r.given.options.version then Ok (help VERSION.now)
-      else unless_error r.denied (unless_error (conflict r.given) (command_of terminal entry.command r.given operands))
+  abbrev pub line_interpreted : CommandEntry → Words → Result Ask UsageError
+  line_interpreted entry w =
+      if w.reading.given.options.help then Ok (help (command_help entry options))
+      else if w.reading.given.options.version then Ok (help VERSION.now)
+      else unless_error w.reading.denied (unless_error (conflict w.reading.given) (command_of terminal entry.command w))
 
   -- what parsed arguments ask for
   abbrev pub interpreted : Parsed → Result Ask UsageError
   interpreted (about text) = Ok (help text)
-  interpreted (line entry r operands) = line_interpreted entry r operands
+  interpreted (line entry w) = line_interpreted entry w
 
 -- `[OPTION..] OPERAND..`, where options and operands may be in any order
 abbrev pub line_of : List OptionEntry → CommandEntry → List (String Global) → Result Parsed UsageError
-line_of options entry args = on_ok (λ found. Ok (line entry found.0 found.1)) (options_of options entry.command start [] args)
+line_of options entry args = on_ok (λ w. Ok (line entry w)) (options_of options entry.command start args)
 
 module _ (commands : List CommandEntry) (options : List OptionEntry) where
   -- the help of the command that was found by this name

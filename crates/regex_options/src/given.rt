@@ -2,7 +2,7 @@
 ghost use Rattle.std.specs.Prelude.{◌≡◌};
 ghost use Rattle.regex_options.specs.Given.{given_by, nothing_given};
 
-use crate::source::PatternSource;
+use crate::source::{PatternForm, PatternSource};
 use crate::task::{Selection, Shown};
 use regress_base::types::Flags;
 use regress_display::Stage;
@@ -22,6 +22,7 @@ pub(crate) struct Options {
     pub(crate) help: bool,
     pub(crate) version: bool,
     pub(crate) flags: Flags,
+    pub(crate) form: PatternForm,
     pub(crate) selection: Selection,
     /// Whether a text is searched as one, and not line by line.
     pub(crate) multiline: bool,
@@ -41,7 +42,7 @@ pub(crate) struct Options {
 #[derive(Clone, Copy)]
 pub(crate) struct Given<'a> {
     pub(crate) options: Options,
-    /// The pattern, if an option has it.
+    /// The pattern of the last option, if that has one.
     pub(crate) pattern: Option<PatternSource<'a>>,
     /// The text of the page.
     pub(crate) text: Option<&'a str>,
@@ -56,6 +57,11 @@ pub(crate) fn nothing_given() -> Given<'static>
             help: false,
             version: false,
             flags: Flags::default(),
+            form: PatternForm {
+                fixed: false,
+                lines: false,
+                words: false,
+            },
             selection: Selection {
                 invert: false,
                 numbers: false,

@@ -23,6 +23,6 @@ pub use request::{
     Action, Arguments, Asked, CommandLine, Form, Output, Parsed, Request, Search, View, interpret,
     parse_arguments,
 };
-pub use source::PatternSource;
+pub use source::{PatternForm, PatternSource, Patterns};
 pub use table::{Argument, OPTIONS, OptionEntry, Scope, Sets, Switch, Value};
 pub use task::{Selection, Shown, Task};

@@ -1,13 +1,14 @@
 //! Parses options.
 ghost use Rattle.std.specs.Prelude.{◌≡◌, ◌<◌, ◌++◌, ◌∷◌, [], OnOk, drop, find, length, map, option_map, slice_index, string_bytes};
 ghost use Rattle.regex_options.specs.Given.{given_by};
-ghost use Rattle.regex_options.specs.Reading.{is_option, lacked, letters_of, long_parts, noted, options_of, parts_of, reading_of, start, unless_empty, used, with_letters, with_long, with_switch, with_value, with_word, without_value};
+ghost use Rattle.regex_options.specs.Reading.{is_option, lacked, listed, letters_of, long_parts, noted, options_of, parts_of, reading_of, start, unless_empty, without_pattern, words_of, used, with_letters, with_long, with_switch, with_value, with_word, without_value};
 ghost use Rattle.regex_options.specs.Table.{has_letter, has_long};
-ghost use Rattle.regex_options.specs.Plain.{IsParsed, first_error, plain_result, usage_error};
+ghost use Rattle.regex_options.specs.Plain.{IsParsed, first_error, plain_result, source, usage_error};
 
 use crate::command::Command;
 use crate::error::{ParseError, UsageError};
 use crate::given::{Given, nothing_given};
+use crate::source::PatternSource;
 use crate::switches::switched;
 use crate::table::{Argument, OptionEntry, Scope, Sets, Switch};
 use crate::values::valued;
@@ -23,8 +24,18 @@ pub(crate) struct Reading<'a> {
     pub(crate) awaits: Option<Argument>,
 }
 
-/// Parses the options, and returns what they specify, and the operands: the arguments that are neither options nor
-/// arguments of options.
+/// What the arguments of a command are.
+#[derive(Drop)]
+pub(crate) struct Words<'a> {
+    /// What the options specify.
+    pub(crate) reading: Reading<'a>,
+    /// The patterns of options, in order.
+    pub(crate) patterns: Vec<PatternSource<'a>>,
+    /// The arguments that are neither options nor arguments of options.
+    pub(crate) operands: Vec<String>,
+}
+
+/// Parses the arguments of a command.
 ///
 /// # Errors
 /// Returns the first error, or [`ParseError::Memory`] if an allocation fails.
@@ -33,21 +44,26 @@ pub(crate) fn read_options<'a>(
     options: &[OptionEntry],
     command: Command,
     args: &'a [String],
-) -> Result<(Reading<'a>, Vec<String>), ParseError<'a>>
-    ensures { IsParsed (λ found. (reading_of found.0, map string_bytes found.1.items)) result (options_of options.now command start [] args.now) }
+) -> Result<Words<'a>, ParseError<'a>>
+    ensures { IsParsed words_of result (options_of options.now command start args.now) }
 {
     let mut reading = Reading {
         given: nothing_given(),
         denied: None,
         awaits: None,
     };
+    let mut patterns = Vec::new(alloc);
     let mut operands = Vec::new(alloc);
     let mut rest = args;
     while let [first, after @ ..] = rest {
         let word = first.as_str();
         if reading.awaits.is_none() && word == "--" {
             add_operands(alloc, after, &mut operands)?;
-            return Ok((reading, operands));
+            return Ok(Words {
+                reading,
+                patterns,
+                operands,
+            });
         }
         if reading.awaits.is_none() && !is_option(word) {
             add_operand(alloc, word, &mut operands)?;
@@ -56,6 +72,8 @@ pub(crate) fn read_options<'a>(
                 Ok(next) => next,
                 Err(error) => return Err(ParseError::Usage(first_error(reading.denied, error))),
             };
+            add_pattern(reading.given.pattern, &mut patterns)?;
+            reading = without_pattern(reading);
         }
         rest = after;
     }
@@ -64,7 +82,37 @@ pub(crate) fn read_options<'a>(
             let error = UsageError::Missing(argument.name);
             Err(ParseError::Usage(first_error(reading.denied, error)))
         }
-        None => Ok((reading, operands)),
+        None => Ok(Words {
+            reading,
+            patterns,
+            operands,
+        }),
+    }
+}
+
+/// Adds the pattern of the last option.
+fn add_pattern<'a>(
+    pattern: Option<PatternSource<'a>>,
+    to: &mut Vec<PatternSource<'a>>,
+) -> Result<(), AllocError>
+    ensures { OnOk result (map source to.new.items ≡ map source to.old.items ++ listed (option_map source pattern.entry)) }
+{
+    if let Some(pattern) = pattern {
+        to.push(pattern)?;
+    }
+    Ok(())
+}
+
+/// Forgets the pattern of the last option.
+fn without_pattern<'a>(reading: Reading<'a>) -> Reading<'a>
+    ensures { reading_of result ≡ without_pattern (reading_of reading.entry) }
+{
+    Reading {
+        given: Given {
+            pattern: None,
+            ..reading.given
+        },
+        ..reading
     }
 }
 

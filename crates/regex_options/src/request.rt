@@ -2,16 +2,16 @@
 ghost use Rattle.std.specs.Prelude.{◌≡◌, map, option_map, string_bytes};
 ghost use Rattle.regex_options.specs.Given.{given_by};
 ghost use Rattle.regex_options.specs.Plain.{IsParsed, job, source, plain_result, usage_error};
-ghost use Rattle.regex_options.specs.Reading.{reading_of};
-ghost use Rattle.regex_options.specs.Request.{action, action_of, after_pattern, alone, ask, asked_form, conflict, escape_of, form_of, help_of, interpreted, is_lines, line_interpreted, line_of, no_more, paints, parsed_as, parsed_by, printed_format, replace_of, request_of, search, selection_of, stage_of, taken_pattern, topic_of, unknown, view_in};
+ghost use Rattle.regex_options.specs.Reading.{words_of};
+ghost use Rattle.regex_options.specs.Request.{action, action_of, after_patterns, alone, ask, asked_form, conflict, escape_of, form_of, help_of, interpreted, is_lines, line_interpreted, line_of, no_more, paints, parsed_as, parsed_by, printed_format, replace_of, request_of, search, selection_of, stage_of, taken_patterns, topic_of, unknown, view_in};
 ghost use Rattle.regex_options.specs.Table.{topic_text};
 
 use crate::command::{Command, CommandEntry, Operation, find_command};
 use crate::error::{ParseError, UsageError};
 use crate::given::{Color, Given, Options};
 use crate::help::Topic;
-use crate::reading::{Reading, read_options};
-use crate::source::PatternSource;
+use crate::reading::{Reading, Words, read_options};
+use crate::source::{PatternForm, PatternSource, Patterns};
 use crate::table::OptionEntry;
 use crate::task::{Selection, Shown, Task};
 use regress_base::types::Flags;
@@ -29,14 +29,16 @@ pub enum Asked<'a> {
     Apply(Request<'a>),
 }
 
-/// A pattern, its flags, and what to do with it.
+/// Patterns, their flags, and what to do with them.
 #[derive(Clone, Copy)]
 pub struct Request<'a> {
-    /// The pattern.
-    pub pattern: PatternSource<'a>,
-    /// Its flags.
+    /// The patterns.
+    pub patterns: Patterns<'a>,
+    /// Their flags.
     pub flags: Flags,
-    /// What to do with it.
+    /// How they are read, and what a match has to be.
+    pub form: PatternForm,
+    /// What to do with them.
     pub action: Action<'a>,
 }
 
@@ -117,12 +119,11 @@ pub enum Parsed<'a> {
     Line(CommandLine<'a>),
 }
 
-/// A command with its options and its operands: the arguments that are neither options nor arguments of options.
+/// A command and its arguments.
 #[derive(Drop)]
 pub struct CommandLine<'a> {
     pub(crate) entry: CommandEntry,
-    pub(crate) reading: Reading<'a>,
-    pub(crate) operands: Vec<String>,
+    pub(crate) words: Words<'a>,
 }
 
 /// Parses the arguments of the program one by one.
@@ -155,11 +156,7 @@ fn parse_line<'a>(
     ensures { IsParsed parsed_as result (line_of options.now entry args.now) }
 {
     match read_options(alloc, options, entry.command, args) {
-        Ok((reading, operands)) => Ok(Parsed::Line(CommandLine {
-            entry,
-            reading,
-            operands,
-        })),
+        Ok(words) => Ok(Parsed::Line(CommandLine { entry, words })),
         Err(error) => Err(error),
     }
 }
@@ -225,9 +222,9 @@ fn no_more(args: &[String]) -> Result<(), UsageError<'_>>
 /// # Errors
 /// Returns why the arguments are invalid: an option that the command lacks; otherwise which options exclude or need
 /// others, or which operand is missing, or one too many.
-pub fn interpret<'p>(
+pub fn interpret<'p, 'a: 'p>(
     arguments: Arguments<'p>,
-    parsed: &'p Parsed<'p>,
+    parsed: &'p Parsed<'a>,
 ) -> Result<Asked<'p>, UsageError<'p>>
     ensures { plain_result ask result ≡ interpreted arguments.entry.options.now arguments.entry.output.colors (parsed_as parsed.now) }
 {
@@ -238,14 +235,15 @@ pub fn interpret<'p>(
 }
 
 /// Returns what a command with its options and operands asks for.
-fn interpret_line<'p>(
+fn interpret_line<'p, 'a: 'p>(
     arguments: Arguments<'p>,
-    line: &'p CommandLine<'p>,
+    line: &'p CommandLine<'a>,
 ) -> Result<Asked<'p>, UsageError<'p>>
     ensures { plain_result ask result ≡ line_interpreted arguments.entry.options.now arguments.entry.output.colors
-        line.now.entry (reading_of line.now.reading) (map string_bytes line.now.operands.items) }
+        line.now.entry (words_of line.now.words) }
 {
-    let Reading { given, denied, .. } = line.reading;
+    let words = &line.words;
+    let Reading { given, denied, .. } = words.reading;
     if given.options.help {
         return Ok(Asked::Help(Topic::Command(line.entry, arguments.options)));
     }
@@ -259,10 +257,8 @@ fn interpret_line<'p>(
         return Err(error);
     }
     match line.entry.command {
-        Command::Escape => read_escape(&line.operands),
-        Command::Pattern(operation) => {
-            read_request(operation, given, &line.operands, arguments.output)
-        }
+        Command::Escape => read_escape(&words.operands),
+        Command::Pattern(operation) => read_request(operation, words, arguments.output),
     }
 }
 
@@ -295,36 +291,37 @@ fn is_lines(shown: Shown) -> bool
     matches!(shown, Shown::Lines)
 }
 
-/// Parses the pattern, and what follows it.
-fn read_request<'a>(
+/// Parses the patterns, and what follows them.
+fn read_request<'p, 'a: 'p>(
     operation: Operation,
-    given: Given<'a>,
-    args: &'a [String],
+    words: &'p Words<'a>,
     output: Output,
-) -> Result<Asked<'a>, UsageError<'a>>
-    ensures { plain_result ask result ≡ request_of output.colors operation (given_by given.entry) (map string_bytes args.now) }
+) -> Result<Asked<'p>, UsageError<'p>>
+    ensures { plain_result ask result ≡ request_of output.colors operation (words_of words.now) }
 {
-    let Some((pattern, rest)) = take_pattern(given.pattern, args) else {
+    let given = words.reading.given;
+    let Some((patterns, rest)) = take_patterns(&words.patterns, &words.operands) else {
         return Err(UsageError::Missing("PATTERN"));
     };
     Ok(Asked::Apply(Request {
-        pattern,
+        patterns,
         flags: given.options.flags,
+        form: given.options.form,
         action: read_action(operation, given, rest, output)?,
     }))
 }
 
-/// Returns the pattern, and the arguments after it: it is the first one, if no option has it.
-fn take_pattern<'a>(
-    given: Option<PatternSource<'a>>,
-    args: &'a [String],
-) -> Option<(PatternSource<'a>, &'a [String])>
-    ensures { option_map after_pattern result ≡ taken_pattern (option_map source given.entry) (map string_bytes args.now) }
+/// Returns the patterns, and the operands after them: without an option that has one it is the first operand.
+fn take_patterns<'p, 'a: 'p>(
+    given: &'p [PatternSource<'a>],
+    args: &'p [String],
+) -> Option<(Patterns<'p>, &'p [String])>
+    ensures { option_map after_patterns result ≡ taken_patterns (map source given.now) (map string_bytes args.now) }
 {
     match (given, args) {
-        (Some(pattern), _) => Some((pattern, args)),
-        (None, [pattern, rest @ ..]) => Some((PatternSource::Text(pattern.as_str()), rest)),
-        (None, []) => None,
+        ([_, ..], _) => Some((Patterns::Options(given), args)),
+        ([], [pattern, rest @ ..]) => Some((Patterns::Operand(pattern.as_str()), rest)),
+        ([], []) => None,
     }
 }
 

@@ -3,6 +3,7 @@ ghost use Rattle.std.specs.Prelude.{◌≡◌};
 ghost use Rattle.regex_options.specs.Given.{switched};
 
 use crate::given::Options;
+use crate::source::PatternForm;
 use crate::table::Switch;
 use crate::task::Selection;
 use regress_base::types::Flags;
@@ -11,6 +12,7 @@ use regress_base::types::Flags;
 pub(crate) fn switched(switch: Switch, options: Options) -> Options
     ensures { result ≡ switched switch options }
 {
+    let form = options.form;
     let selection = options.selection;
     match switch {
         Switch::Help => Options {
@@ -25,6 +27,27 @@ pub(crate) fn switched(switch: Switch, options: Options) -> Options
             flags: Flags {
                 icase: true,
                 ..options.flags
+            },
+            ..options
+        },
+        Switch::Fixed => Options {
+            form: PatternForm {
+                fixed: true,
+                ..form
+            },
+            ..options
+        },
+        Switch::WholeLines => Options {
+            form: PatternForm {
+                lines: true,
+                ..form
+            },
+            ..options
+        },
+        Switch::WholeWords => Options {
+            form: PatternForm {
+                words: true,
+                ..form
             },
             ..options
         },

@@ -37,6 +37,12 @@ pub enum Switch {
     Version,
     /// The flag i.
     IgnoreCase,
+    /// Patterns are texts.
+    Fixed,
+    /// Only whole lines match.
+    WholeLines,
+    /// No word character may be beside a match.
+    WholeWords,
     /// A text is one line.
     Multiline,
     /// Each line is written at once.
@@ -75,9 +81,9 @@ pub struct Argument {
 /// What an option with an argument sets.
 #[derive(Clone, Copy)]
 pub enum Value {
-    /// The pattern.
+    /// A pattern.
     Pattern,
-    /// The file that has the pattern.
+    /// A file that has patterns.
     File,
     /// The flags.
     Flags,
@@ -240,7 +246,7 @@ const OF_EXPLAIN: Scope = Scope {
 };
 
 /// The options, in the order of the help.
-pub const OPTIONS: [OptionEntry; 24] = [
+pub const OPTIONS: [OptionEntry; 27] = [
     OptionEntry {
         short: Some("-e"),
         long: Some("regexp"),
@@ -248,10 +254,10 @@ pub const OPTIONS: [OptionEntry; 24] = [
             value: Value::Pattern,
             name: "PATTERN",
             default: None,
-            kind: "PATTERN (one -e or -f only; A|B matches both)",
+            kind: "PATTERN",
         }),
         scope: OF_PATTERNS,
-        line: "  -e, --regexp PATTERN      the pattern, which may begin with a hyphen; no other\n                            argument is the pattern then\n",
+        line: "  -e, --regexp PATTERN      a pattern, which may begin with a hyphen; no other\n                            argument is the pattern then. With several -e and -f\n                            match finds what one of the patterns matches\n",
     },
     OptionEntry {
         short: Some("-f"),
@@ -260,10 +266,10 @@ pub const OPTIONS: [OptionEntry; 24] = [
             value: Value::File,
             name: "FILE",
             default: None,
-            kind: "FILE (one -e or -f only)",
+            kind: "FILE",
         }),
         scope: OF_PATTERNS,
-        line: "  -f, --file FILE           the pattern is in FILE, without a line feed at its\n                            end; no other argument is the pattern then\n",
+        line: "  -f, --file FILE           each line of FILE is a pattern; no other argument is\n                            the pattern then\n",
     },
     OptionEntry {
         short: Some("-i"),
@@ -283,6 +289,27 @@ pub const OPTIONS: [OptionEntry; 24] = [
         }),
         scope: OF_PATTERNS,
         line: "      --flags LETTERS       flags of JavaScript, letters of imsuv, each at most\n                            once; v includes u; none by default\n",
+    },
+    OptionEntry {
+        short: Some("-F"),
+        long: Some("fixed-strings"),
+        sets: Sets::Switch(Switch::Fixed),
+        scope: OF_LINES,
+        line: "  -F, --fixed-strings       PATTERN is a text, in which no character is special\n",
+    },
+    OptionEntry {
+        short: Some("-w"),
+        long: Some("word-regexp"),
+        sets: Sets::Switch(Switch::WholeWords),
+        scope: OF_LINES,
+        line: "  -w, --word-regexp         match only where no word character (\\w) is before or\n                            after\n",
+    },
+    OptionEntry {
+        short: Some("-x"),
+        long: Some("line-regexp"),
+        sets: Sets::Switch(Switch::WholeLines),
+        scope: OF_LINES,
+        line: "  -x, --line-regexp         match only whole lines; -w has no effect then\n",
     },
     OptionEntry {
         short: Some("-M"),

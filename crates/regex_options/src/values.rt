@@ -15,8 +15,8 @@ pub(crate) fn valued<'a>(value: Value, text: &'a str, given: Given<'a>) -> Optio
     ensures { option_map given_by result ≡ valued value text.now (given_by given.entry) }
 {
     match value {
-        Value::Pattern => with_pattern(PatternSource::Text(text), given),
-        Value::File => with_pattern(PatternSource::File(text), given),
+        Value::Pattern => Some(with_pattern(PatternSource::Text(text), given)),
+        Value::File => Some(with_pattern(PatternSource::File(text), given)),
         Value::Text => Some(Given {
             text: Some(text),
             ..given
@@ -36,16 +36,13 @@ pub(crate) fn valued<'a>(value: Value, text: &'a str, given: Given<'a>) -> Optio
     }
 }
 
-/// Sets the pattern; `None` if there is one already.
-fn with_pattern<'a>(pattern: PatternSource<'a>, given: Given<'a>) -> Option<Given<'a>>
-    ensures { option_map given_by result ≡ with_pattern (source pattern.entry) (given_by given.entry) }
+/// Sets the pattern of the last option.
+fn with_pattern<'a>(pattern: PatternSource<'a>, given: Given<'a>) -> Given<'a>
+    ensures { given_by result ≡ with_pattern (source pattern.entry) (given_by given.entry) }
 {
-    match given.pattern {
-        Some(_) => None,
-        None => Some(Given {
-            pattern: Some(pattern),
-            ..given
-        }),
+    Given {
+        pattern: Some(pattern),
+        ..given
     }
 }
 
