@@ -7,3 +7,4 @@ pub mod Printed
 pub mod Reading
 pub mod Reply
 pub mod Searched
+pub mod Size

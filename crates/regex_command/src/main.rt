@@ -31,6 +31,7 @@ mod runs;
 mod searcher;
 mod searching;
 mod showing;
+mod size;
 
 use compiling::compiled;
 use explaining::print_explanation;
@@ -121,7 +122,7 @@ fn run_buffered<R: Files + AllocGlobal, I: Read + Drop, W: Write + Drop, E: Writ
 ///
 /// - 0: a line is selected; the output of `replace`, `split`, `escape`, `parse`, `draw` or `explain`, the help or the
 ///   version is written to `out`; or `lint` reports nothing;
-/// - 1: no line is selected, or `lint` reports something or rejects the pattern, and writes why to `err`;
+/// - 1: no line is selected, or `lint` reports something;
 /// - 2: the arguments are invalid, `run_regex` fails, or `parse`, `draw` or `explain` rejects the pattern; a message is
 ///   written to `err`, whose failure is ignored.
 fn run_arguments<R: Files + AllocGlobal, I: Read + Drop, W: Write, E: Write>(
@@ -197,8 +198,8 @@ fn status_if_none(asked: Asked<'_>) -> u8
     }
 }
 
-/// Writes what is asked for, and returns whether it is found. Why a pattern is rejected that is not searched for is
-/// written to `err`.
+/// Writes what is asked for, and returns whether it is found. Why a pattern is rejected that is to be shown or explained
+/// is written to `err`.
 ///
 /// # Errors
 /// Returns a failure that is due, as `MayFail` states. The output for the first lines, or the first of two trees, may
@@ -281,7 +282,7 @@ fn apply_to<'a, R: Files + AllocGlobal, I: Read + Drop, W: Write, E: Write>(
     match wanted.action {
         Action::Search(search) => print_search(rt, pattern, search, input, out),
         Action::Show(view) => print_tree(rt.alloc(), view_of(view, pattern), out, err),
-        Action::Lint => print_lint(rt.alloc(), pattern, out, err),
+        Action::Lint => print_lint(rt.alloc(), pattern, out),
         Action::Explain(form) => print_explanation(rt.alloc(), pattern, form, out, err),
     }
 }
