@@ -156,7 +156,7 @@ all_of_ascii = refl
 letters : warned false (codes "[A-Za-z]") [] ((set (range 65 90 ∷ range 97 122 ∷ []), to 0 8) ∷ []) ≡ []
 letters = refl
 
--- `1.5`, `(\d*).1`, and `1.a`
+-- `1.5`, `(\d*).1`, `1(.5)`, and `1.a`
 point : warned false (codes "1.5") [] ((cat (list (leaf (char 49) ∷ dot ∷ leaf (char 53) ∷ [])), to 0 3) ∷ []) ≡ warning DotBetweenDigits (to 0 3) ∷ []
 point = refl
 
@@ -164,6 +164,11 @@ point_after_group : warned false (codes "(\\d*).1") []
     ((cat (list (group_1 (any_number (set (range 48 57 ∷ []))) ∷ dot ∷ leaf (char 49) ∷ [])), to 0 7) ∷ [])
     ≡ warning DotBetweenDigits (to 0 7) ∷ []
 point_after_group = refl
+
+point_in_group : warned false (codes "1(.5)") []
+    ((cat (list (leaf (char 49) ∷ group_1 (cat (list (dot ∷ leaf (char 53) ∷ []))) ∷ [])), to 0 5) ∷ [])
+    ≡ warning DotBetweenDigits (to 0 5) ∷ []
+point_in_group = refl
 
 other : warned false (codes "1.a") [] ((cat (list (leaf (char 49) ∷ dot ∷ a ∷ [])), to 0 3) ∷ []) ≡ []
 other = refl

@@ -4,4 +4,5 @@ pub mod ExplainLemmas
 pub mod LintLemmas
 pub mod PatternLemmas
 pub mod SettingLemmas
+pub mod SizeLemmas
 pub mod TreeLemmas

@@ -1,6 +1,6 @@
 -- What a report is.
-use Rattle.std.proofs.Common.{◌≡◌, ◌==◌, ◌∙◌, ◌+◌, ◌<◌, ◌≤◌, ℕ, Bool, List, [], ◌∷◌, ◌++◌, map, Option, Some, None, length, take, get_or, inl, inr, refl, ap, ap₂, subst, sym, append-nil, append_assoc}
-use Rattle.std.specs.Prelude.{Result, Ok, Err, IfOk, codes}
+use Rattle.std.proofs.Common.{◌≡◌, ◌≢◌, ◌==◌, ◌∙◌, ◌+◌, ◌<◌, ◌≤◌, ℕ, Bool, List, [], ◌∷◌, ◌++◌, map, Option, Some, None, length, take, get_or, refl, ap, ap₂, subst, sym, append-nil, append_assoc}
+use Rattle.std.specs.Prelude.{Result, Ok, Err, IfOk, chars, codes}
 use Rattle.std.specs.Fmt.{decimal}
 use Rattle.std.specs.Io.KnownBytes.{Appends}
 use Rattle.std.specs.List.{FoldsTo, zip}
@@ -12,11 +12,8 @@ use Rattle.regress_base.specs.Table.{Table}
 use Rattle.regress_differences.specs.CaseMode.{widest_flags}
 use Rattle.regress_differences.specs.Kinds as differences
 use Rattle.regress_parse.specs.Accepted.{IsAccepted}
-use Rattle.regress_parse.specs.Rejected.{NoneIsAccepted}
 use Rattle.regress_parse.specs.declared.span.Span.{Span}
 use Rattle.regress_ucd.specs.UnicodeTable.{unicode_table}
-use Rattle.regress_parse.specs.declared.fault.PlacedFault.{PlacedFault}
-use Rattle.regress_parse.specs.declared.fault.PlacedFault.TheVariants as placed
 use Rattle.regress_spans.specs.Paired.{postorder, spanned_of}
 use Rattle.regress_spans.specs.Remarks.{Said, said, said_by}
 use Rattle.regress_spans.specs.declared.remark.Remark.{Remark}
@@ -24,11 +21,16 @@ use Rattle.regress_syntax.specs.Syntax.{Pattern}
 use Rattle.regress_tree.specs.Tree.{Tree}
 use Rattle.regress_warnings.specs.Warned as warnings
 use Rattle.regex_command.specs.Remarks.{AreRemarks}
-use Rattle.regex_lines.specs.Ending.{unaccepted}
-use Rattle.regex_command.specs.Patterns.{HasDifferences, HasWarnings, IsListed, IsListedNext, IsReport, line_of}
+use Rattle.regress_tree.specs.Steps.{Setting}
+use Rattle.regex_lines.specs.Ending.{IsLate}
+use Rattle.regex_command.specs.Patterns.{HasDifferences, HasWarnings, IsAcceptedPattern, IsListed, IsListedNext, IsReport, MayFailToLint, line_of}
+use Rattle.regex_command.specs.Printed.{IsRejected}
+use Rattle.regex_command.specs.Size.{IsSizeWarning, said_of_size}
+use Rattle.regex_command.specs.declared.size.SizeWarning.{SizeWarning}
+use Rattle.regex_lines.specs.declared.failure.Failure.TheVariants.{Argument, Memory, Output, Closed, Syntax, TooLarge, OutOfSteps, Unreadable, PatternNotUtf8, TooLong}
 use Rattle.regress.specs.Unicode.{unicode_setting}
 use Rattle.regex_lines.specs.declared.failure.Failure.{Failure}
-use Rattle.regex_command.proofs.SettingLemmas.{OnSyntax, under_unicode}
+use Rattle.regex_command.proofs.SettingLemmas.{under_unicode}
 
 pub appends_nothing : (known : Option (List ℕ)) → Appends known known []
 appends_nothing None = tt
@@ -46,8 +48,8 @@ joined a b c d e f g h =
 
 -- the line of a remark
 pub line_of_texts : (span : Span) (name text : List ℕ) →
-    decimal span.start ++ (codes "-" ++ (decimal span.end ++ (codes ": " ++ (name ++ (codes ": " ++ (text ++ codes "\n")))))) ≡ line_of (span, name, text)
-line_of_texts span name text = joined (decimal span.start) (codes "-") (decimal span.end) (codes ": ") name (codes ": ") text (codes "\n")
+    decimal span.start ++ (codes ".." ++ (decimal span.end ++ (codes ": " ++ (name ++ (codes ": " ++ (text ++ codes "\n")))))) ≡ line_of (span, name, text)
+line_of_texts span name text = joined (decimal span.start) (codes "..") (decimal span.end) (codes ": ") name (codes ": ") text (codes "\n")
 
 -- the line of a remark, and what is shown below it
 pub line_and_shown : (before line shown mid after is : List ℕ) → mid ≡ before ++ line → after ≡ mid ++ shown → line ≡ is → IsListedNext before is after
@@ -72,51 +74,70 @@ pub all_listed : (remarks : List Remark) (i : ℕ) (first bytes : List ℕ) → 
 all_listed remarks i first bytes all steps =
     subst (λ (some : List Remark). FoldsTo IsListedNext first (map line_of (said_by some)) bytes) (take_all i remarks all) steps
 
-module _ (flags : Flags) (points source : List ℕ) (table : Table) (characters : points ≡ source) (same : table ≡ unicode_table) where
-  -- the remarks on the pattern
-  pub reports : (remarks : List Said) (parsed : Flags) (t : Tree) (spans : List Span) (r : Result Bool Failure) (old new : Option (List ℕ)) →
-      AreRemarks points parsed t spans remarks → parsed ≡ flags →
+module _ (flags : Flags) (points text : List ℕ) (table : Table) (characters : points ≡ chars text) (same : table ≡ unicode_table) where
+  -- the remarks on the pattern, and that on its size
+  pub reports : (before remarks : List Said) (parsed : Flags) (t : Tree) (spans : List Span) (r : Result Bool Failure) (old new : Option (List ℕ)) →
+      AreRemarks points parsed t spans before → parsed ≡ flags →
       (p : Pattern) × (accepted : IsAccepted (record { flags = flags; table = table }) points p)
       × (zip (postorder t) spans ≡ spanned_of (record { flags = flags; table = table }) points p accepted.derived) →
+      (n : ℕ) → n ≡ length points →
+      (size : Option SizeWarning) × IsSizeWarning (unicode_setting flags) text size × (remarks ≡ before ++ said_of_size n size) →
       IfOk r (λ _. Took old new (IsListed remarks)) → IfOk r (λ clean. clean ≡ (length remarks == 0)) →
-      IfOk r (λ clean. Took old new (IsReport clean (unicode_setting flags) source))
-  reports remarks parsed t spans (Ok clean) old new are same_flags (p, accepted, paired) (bytes, listed, appends) is_clean =
+      IfOk r (λ clean. Took old new (IsReport clean (unicode_setting flags) text))
+  reports before remarks parsed t spans (Ok clean) old new are same_flags (p, accepted, paired) n count (size, sized, is) (bytes, listed, appends) is_clean =
       let nodes = spanned_of (record { flags = flags; table = table }) points p accepted.derived in
       let found = differences.all_said (widest_flags flags points) points nodes in
       let warned = warnings.all_said flags.unicode_sets points nodes in
-      let all : remarks ≡ found ++ warned =
+      let first : before ≡ found ++ warned =
       are
       ∙ ap₂ (λ (f : Flags) (xs : List (Tree × Span)).
-      differences.all_said (widest_flags f points) points xs ++ warnings.all_said f.unicode_sets points xs) same_flags paired in (
+      differences.all_said (widest_flags f points) points xs ++ warnings.all_said f.unicode_sets points xs) same_flags paired in
+      let all : remarks ≡ found ++ warned ++ said_of_size (length (chars text)) size =
+      is ∙ ap₂ (λ (xs : List Said) (n : ℕ). xs ++ said_of_size n size) first (count ∙ ap length characters) in (
         bytes,
-        inl (record {
+        record {
           found = found;
           warned = warned;
-          differ = under_unicode flags points source table characters same (λ setting text. HasDifferences setting text found) (p, accepted, refl);
-          warns = under_unicode flags points source table characters same (λ setting text. HasWarnings setting text warned) (p, accepted, refl);
+          size = size;
+          differ = under_unicode flags points (chars text) table characters same (λ setting source. HasDifferences setting source found) (p, accepted, refl);
+          warns = under_unicode flags points (chars text) table characters same (λ setting source. HasWarnings setting source warned) (p, accepted, refl);
+          sized = sized;
           listed = subst (λ (some : List Said). IsListed some bytes) all listed;
           is_clean = is_clean ∙ ap (λ (some : List Said). length some == 0) all;
-        }),
+        },
         appends,
       )
-  reports remarks parsed t spans (Err failure) old new are same_flags accepted took is_clean = tt
+  reports before remarks parsed t spans (Err failure) old new are same_flags accepted n count sized took is_clean = tt
 
-  -- a rejected pattern
-  pub rejects : (known : Option (List ℕ)) (fault : PlacedFault) (r : Result Bool Failure) → r ≡ unaccepted fault →
-      OnSyntax fault (NoneIsAccepted (record { flags = flags; table = table }) points) →
-      IfOk r (λ clean. Took known known (IsReport clean (unicode_setting flags) source))
-  rejects known fault r is none = subst (λ (r : Result Bool Failure). IfOk r (λ clean. Took known known (IsReport clean (unicode_setting flags) source)))
-      (sym is) (by fault none)
-    where
-      by : (fault : PlacedFault) → OnSyntax fault (NoneIsAccepted (record { flags = flags; table = table }) points) →
-          IfOk (unaccepted fault) (λ clean. Took known known (IsReport clean (unicode_setting flags) source))
-      by (placed.Syntax kind error position) none = (
-        [],
-        inr (record {
-          none = under_unicode flags points source table characters same NoneIsAccepted none;
-          nothing = refl;
-          unclean = refl;
-        }),
-        appends_nothing known,
-      )
-      by (placed.Memory error) none = tt
+-- a failure that may occur for any pattern
+pub lint_late : (setting : Setting) (source : List ℕ) (failure : Failure) → IsLate failure → MayFailToLint setting source failure
+lint_late setting source Argument h = absurd h
+lint_late setting source Memory h = tt
+lint_late setting source Output h = tt
+lint_late setting source Closed h = tt
+lint_late setting source (Syntax pattern text position) h = absurd h
+lint_late setting source TooLarge h = absurd h
+lint_late setting source OutOfSteps h = absurd h
+lint_late setting source (Unreadable name) h = absurd h
+lint_late setting source (PatternNotUtf8 name offset) h = absurd h
+lint_late setting source (TooLong name) h = absurd h
+
+-- the same of a pattern over all of Unicode
+pub lint_under_unicode : (flags : Flags) (points source : List ℕ) (table : Table) → points ≡ source → table ≡ unicode_table → (failure : Failure) →
+    MayFailToLint (record { flags = flags; table = table }) points failure → MayFailToLint (unicode_setting flags) source failure
+lint_under_unicode flags points source table characters same failure h =
+    under_unicode flags points source table characters same (λ setting source. MayFailToLint setting source failure) h
+
+-- An accepted pattern is not rejected, and one that is not too large is compiled, unless memory is short.
+pub accepted_late : (setting : Setting) (text : List ℕ) → IsAcceptedPattern setting (chars text) → (failure : Failure) → IsRejected setting text failure →
+    (failure ≢ TooLarge) → IsLate failure
+accepted_late setting text accepted Argument h other = absurd h
+accepted_late setting text accepted Memory h other = tt
+accepted_late setting text accepted Output h other = absurd h
+accepted_late setting text accepted Closed h other = absurd h
+accepted_late setting text accepted (Syntax pattern message position) h other = absurd (h accepted.0 accepted.1)
+accepted_late setting text accepted TooLarge h other = absurd (other refl)
+accepted_late setting text accepted OutOfSteps h other = absurd h
+accepted_late setting text accepted (Unreadable name) h other = absurd h
+accepted_late setting text accepted (PatternNotUtf8 name offset) h other = absurd h
+accepted_late setting text accepted (TooLong name) h other = absurd h

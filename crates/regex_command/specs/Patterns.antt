@@ -31,6 +31,8 @@ use Rattle.regress_warnings.specs.Warned as warnings
 use Rattle.regex_lines.specs.Ending.{IsCostlyPattern, IsLate}
 use Rattle.regex_lines.specs.declared.failure.Failure.TheVariants.{Argument, Memory, Output, Closed, Syntax, TooLarge, OutOfSteps, Unreadable, PatternNotUtf8, TooLong}
 use Rattle.regex_lines.specs.declared.failure.Failure.{Failure}
+use Rattle.regex_command.specs.Size.{IsSizeWarning, said_of_size}
+use Rattle.regex_command.specs.declared.size.SizeWarning.{SizeWarning}
 
 -- What is written to standard output for a rejected pattern: its syntax error as JSON, and nothing in the other formats.
 abbrev pub IsFaultWritten : Format → Request → List ℕ → Type 0
@@ -78,9 +80,9 @@ abbrev pub HasWarnings : Setting → (source : List ℕ) → List Said → Type 
 HasWarnings setting source found = (p : Pattern) × (accepted : IsAccepted setting source p)
     × (found ≡ warnings.all_said setting.flags.unicode_sets source (spanned_of setting source p accepted.derived))
 
--- `1-4: case-closure: ` and a text, for the code points from 1 on before 4
+-- `1..4: case-closure: ` and a text, for the code points from 1 on before 4
 abbrev pub line_of : Said → List ℕ
-line_of (span, name, text) = decimal span.start ++ codes "-" ++ decimal span.end ++ codes ": " ++ name ++ codes ": " ++ text ++ codes "\n"
+line_of (span, name, text) = decimal span.start ++ codes ".." ++ decimal span.end ++ codes ": " ++ name ++ codes ": " ++ text ++ codes "\n"
 
 -- one line further, and what shows the position in the pattern
 abbrev pub IsListedNext : (before line after : List ℕ) → Type 0
@@ -90,24 +92,30 @@ IsListedNext before line after = (shown : List ℕ) × (after ≡ before ++ (lin
 abbrev pub IsListed : List Said → List ℕ → Type 0
 IsListed remarks bytes = FoldsTo IsListedNext [] (map line_of remarks) bytes
 
--- What is written for an accepted pattern: all differences in order, and then all warnings in order. The pattern is clean
--- if there are none.
-pub record IsReportOfAccepted (clean : Bool) (setting : Setting) (source : List ℕ) (bytes : List ℕ) : Type 0 where
+-- What is written for an accepted pattern: all differences in order, then all warnings in order, and then the warning of its
+-- size. The pattern is clean if there are none.
+pub record IsReport (clean : Bool) (setting : Setting) (text : List ℕ) (bytes : List ℕ) : Type 0 where
   pub found : List Said
   pub warned : List Said
-  pub differ : HasDifferences setting source found
-  pub warns : HasWarnings setting source warned
-  pub listed : IsListed (found ++ warned) bytes
-  pub is_clean : clean ≡ (length (found ++ warned) == 0)
+  pub size : Option SizeWarning
+  pub differ : HasDifferences setting (chars text) found
+  pub warns : HasWarnings setting (chars text) warned
+  pub sized : IsSizeWarning setting text size
+  pub listed : IsListed (found ++ warned ++ said_of_size (length (chars text)) size) bytes
+  pub is_clean : clean ≡ (length (found ++ warned ++ said_of_size (length (chars text)) size) == 0)
 
--- Nothing is written to standard output for a rejected pattern.
-pub record IsReportOfRejected (clean : Bool) (setting : Setting) (source : List ℕ) (bytes : List ℕ) : Type 0 where
-  pub none : NoneIsAccepted setting source
-  pub nothing : bytes ≡ []
-  pub unclean : clean ≡ false
-
-abbrev pub IsReport : (clean : Bool) → Setting → (source : List ℕ) → List ℕ → Type 0
-IsReport clean setting source bytes = IsReportOfAccepted clean setting source bytes ⊎ IsReportOfRejected clean setting source bytes
+-- A failure that may occur for a report: memory is short, the output cannot be written, or no pattern is accepted.
+abbrev pub MayFailToLint : Setting → (source : List ℕ) → Failure → Type 0
+MayFailToLint setting source Argument = ⊥
+MayFailToLint setting source Memory = ⊤
+MayFailToLint setting source Output = ⊤
+MayFailToLint setting source Closed = ⊤
+MayFailToLint setting source (Syntax pattern text position) = NoneIsAccepted setting source
+MayFailToLint setting source TooLarge = ⊥
+MayFailToLint setting source OutOfSteps = ⊥
+MayFailToLint setting source (Unreadable name) = ⊥
+MayFailToLint setting source (PatternNotUtf8 name offset) = ⊥
+MayFailToLint setting source (TooLong name) = ⊥
 
 -- Some pattern is accepted.
 abbrev pub IsAcceptedPattern : Setting → (source : List ℕ) → Type 0

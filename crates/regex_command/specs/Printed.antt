@@ -20,7 +20,7 @@ use Rattle.regress_front.specs.Rejected.{NoneIsAccepted}
 use Rattle.regress_tree.specs.Steps.{Setting}
 use Rattle.regex_lines.specs.Ending.{IsCostlyPattern, IsLate, IsSearchFailure, MayFailToRead}
 use Rattle.regex_command.specs.Joined.{AreJoinable, are_parts, are_several, joined, refers, takes_several}
-use Rattle.regex_command.specs.Patterns.{IsExplanationIn, MayFailToExplain, IsReport, IsTreeOutput, IsQuietFor, IsShowFailure}
+use Rattle.regex_command.specs.Patterns.{IsExplanationIn, MayFailToExplain, MayFailToLint, IsReport, IsTreeOutput, IsQuietFor, IsShowFailure}
 use Rattle.regex_lines.specs.Searched.{WritesInputs, WritesSomeOf, inputs_of}
 use Rattle.regex_lines.specs.declared.failure.Failure.TheVariants.{Argument, Memory, Output, Closed, Syntax, TooLarge, OutOfSteps, Unreadable, PatternNotUtf8, TooLong}
 use Rattle.regex_lines.specs.declared.failure.Failure.{Failure}
@@ -122,11 +122,11 @@ view_of view flags text = record {
 
 module _ (flags : Flags) (text : List ℕ) where
   -- What is written for a pattern: the output of a search, a tree, a report, or an explanation. `found` states whether
-  -- something is found, or the pattern is accepted and, for a report, without differences.
+  -- something is found, the pattern is accepted, or for a report, there is nothing to report.
   abbrev pub Does : Action → (input old new : Option (List ℕ)) → (found : Bool) → Type 0
   Does (search job multiline files) input old new found = PrintsAll (unicode_setting flags) text job multiline files input old new found
   Does (show view) input old new found = Took old new (IsTreeOutput found (view_of view flags text))
-  Does lint input old new found = Took old new (IsReport found (unicode_setting flags) (chars text))
+  Does lint input old new found = Took old new (IsReport found (unicode_setting flags) text)
   Does (explain form) input old new found = Took old new (IsExplanationIn form found (unicode_setting flags) text)
 
   -- What may be written before a failure: what a search writes for its first lines, or the first of two trees.
@@ -136,11 +136,11 @@ module _ (flags : Flags) (text : List ℕ) where
   Begins lint input old new = ⊥
   Begins (explain form) input old new = ⊥
 
-  -- A failure is due: a syntax error only for a search whose pattern is rejected.
+  -- A failure is due: a syntax error only for a search or a report whose pattern is rejected.
   abbrev pub MayFailAt : Action → Failure → Type 0
   MayFailAt (search job multiline files) failure = IsDue (unicode_setting flags) text failure
   MayFailAt (show view) failure = IsShowFailure (view_of view flags text) failure
-  MayFailAt lint failure = IsLate failure
+  MayFailAt lint failure = MayFailToLint (unicode_setting flags) (chars text) failure
   MayFailAt (explain form) failure = MayFailToExplain form (unicode_setting flags) text failure
 
 -- What is written: a text about the program, an escaped text, or the output for a pattern.
@@ -150,11 +150,12 @@ Prints input old new found (escape string) = (found ≡ true) × PrintsEscaped o
 Prints input old new found (apply request) =
     OfPattern request (λ pattern. Does request.flags pattern request.action input old new found)
 
--- Nothing is written to standard error, unless a pattern is rejected that is not searched for: then its syntax error is.
+-- Nothing is written to standard error, unless a pattern is rejected that is to be shown or explained: then its syntax
+-- error is.
 abbrev pub IsQuietAt : (quiet : Type 0) → Action → Type 0
 IsQuietAt quiet (search job multiline files) = quiet
 IsQuietAt quiet (show view) = IsQuietFor view.format quiet
-IsQuietAt quiet lint = ⊤
+IsQuietAt quiet lint = quiet
 IsQuietAt quiet (explain form) = ⊤
 
 abbrev pub IsQuiet : (quiet : Type 0) → Ask → Type 0

@@ -1,19 +1,25 @@
 //! `lint`.
-ghost use Rattle.std.specs.Prelude.{◌≡◌, ◌==◌, true, Ok, IfOk, IfErr, OnOk, chars, length, string_bytes, map};
+ghost use Rattle.std.specs.Prelude.{◌≡◌, ◌==◌, ◌++◌, ℕ, List, IfOk, IfErr, OnOk, Option, chars, length, string_bytes, map};
 ghost use Rattle.std.specs.List.{FoldsTo};
 ghost use Rattle.regress.specs.Unicode.{unicode_setting};
 ghost use Rattle.regress_arguments.specs.Output.{Took};
 ghost use Rattle.regress_spans.specs.Remarks.{said, said_by};
 ghost use Rattle.regress_tree.specs.Tree.{tree};
 ghost use Rattle.regex_lines.specs.Ending.{IsLate, OrOutput};
-ghost use Rattle.regex_command.specs.Patterns.{IsListed, IsListedNext, IsReport, line_of};
+ghost use Rattle.regress_parse.specs.Settled.{IsFaultOf};
+ghost use Rattle.regress_tree.specs.Steps.{Setting};
+ghost use Rattle.regex_command.specs.Patterns.{IsAcceptedPattern, IsListed, IsListedNext, IsReport, MayFailToLint, line_of};
 ghost use Rattle.regex_command.specs.Remarks.{AreRemarks};
+ghost use Rattle.regex_command.specs.Size.{IsSizeWarning, said_of_size};
+ghost use Rattle.regex_command.specs.declared.size.SizeWarning.{SizeWarning};
 
 use crate::pattern::Pattern;
-use regex_lines::{Failure, print, reject};
-use regress_arguments::write_with_caret;
+use crate::size::size_remark;
+use regex_lines::{Failure, print};
+use regress_arguments::write_with_carets;
 use regress_base::util::code_points;
 use regress_differences::remarks_of as differences;
+use regress_parse::PlacedFault;
 use regress_spans::{Remark, Span, SpannedRegex, try_parse_with_spans};
 use regress_ucd::unicode_tables;
 use regress_warnings::remarks_of as warnings;
@@ -23,29 +29,68 @@ use std::io::Write;
 /// How many code points of the pattern are shown at most before a position, and after it. A line has room for fewer.
 const REACH: usize = 200;
 
-/// Writes what may match otherwise than in ECMA-262, and then what is warned of, or to `err` why the pattern is
-/// rejected. Returns whether it is accepted and nothing is written.
-pub(crate) fn print_lint<'f, W: Write, E: Write>(
+/// Writes what may match otherwise than in ECMA-262, then what is warned of in the parts of a pattern, and then what in its
+/// size. Returns whether nothing is written.
+pub(crate) fn print_lint<'f, W: Write>(
     alloc: Global,
     pattern: Pattern<'_>,
     out: &mut W,
-    err: &mut E,
 ) -> Result<bool, Failure<'f>>
     ensures reported { IfOk result (λ clean. Took (W.contents out.old) (W.contents out.new)
-        (IsReport clean (unicode_setting pattern.entry.flags) (chars pattern.entry.text.now))) }
-    ensures quiet { result ≡ Ok true → err.new ≡ err.old }
+        (IsReport clean (unicode_setting pattern.entry.flags) pattern.entry.text.now)) }
     ensures first { IfErr result (OrOutput (out.new ≡ out.old)) }
-    ensures late { IfErr result IsLate }
+    ensures due { IfErr result (MayFailToLint (unicode_setting pattern.entry.flags) (chars pattern.entry.text.now)) }
 {
     let points = code_points(alloc, pattern.text)?;
     let tables = unicode_tables(alloc)?;
     match try_parse_with_spans(alloc, &points, pattern.flags, &tables) {
         Ok(parsed) => {
-            let remarks = remarks_on(alloc, &points, &parsed)?;
+            let mut remarks = remarks_on(alloc, &points, &parsed)?;
+            add_size_remark(alloc, pattern, points.len(), &mut remarks)?;
             print_remarks(alloc, &points, &remarks, out)
         }
-        Err(fault) => reject(fault, pattern.text, err),
+        Err(fault) => Err(rejection(alloc, fault, pattern.text)),
     }
+}
+
+/// Returns why a pattern is rejected.
+fn rejection<'f>(alloc: Global, fault: PlacedFault, pattern: &str) -> Failure<'f>
+    ensures { (setting : Setting) (source : List ℕ) → IsFaultOf setting source fault → MayFailToLint setting source result }
+{
+    match fault {
+        PlacedFault::Syntax {
+            error,
+            position,
+            ..
+        } => match String::from_str(alloc, pattern) {
+            Ok(pattern) => Failure::Syntax {
+                pattern,
+                text: error.text,
+                position,
+            },
+            Err(_) => Failure::Memory,
+        },
+        PlacedFault::Memory(_) => Failure::Memory,
+    }
+}
+
+/// Adds what is said of the size of an accepted pattern.
+fn add_size_remark<'f>(
+    alloc: Global,
+    pattern: Pattern<'_>,
+    length: usize,
+    remarks: &mut Vec<Remark>,
+) -> Result<(), Failure<'f>>
+    requires { IsAcceptedPattern (unicode_setting pattern.flags) (chars pattern.text.now) }
+    ensures added { OnOk result ((warning : Option SizeWarning)
+        × IsSizeWarning (unicode_setting pattern.entry.flags) pattern.entry.text.now warning
+        × (said_by remarks.new.items ≡ said_by remarks.old.items ++ said_of_size length warning)) }
+    ensures late { IfErr result IsLate }
+{
+    if let Some(remark) = size_remark(alloc, pattern, length)? {
+        remarks.push(remark)?;
+    }
+    Ok(())
 }
 
 /// Returns what is said of the differences of a parsed pattern, and then of what is warned of.
@@ -95,7 +140,7 @@ fn add_remarks(
     Ok(())
 }
 
-/// Adds the line of a remark, and below it the pattern with a caret at the start of its span.
+/// Adds the line of a remark, and below it the pattern with carets below its span.
 fn add_remark(
     alloc: Global,
     pattern: &[u32],
@@ -107,21 +152,22 @@ fn add_remark(
     let line = line_of(alloc, remark)?;
     to.extend_from_slice(line.as_bytes())?;
     let mut shown = Vec::new(alloc);
-    show(alloc, pattern, remark.span.start, &mut shown)?;
+    show(alloc, pattern, remark.span, &mut shown)?;
     to.extend_from_slice(&shown)?;
     Ok(())
 }
 
-/// Writes the pattern with a caret below a code point. Only what is near it is looked at, so that the time for all
-/// remarks together is linear in the length of the pattern.
-fn show(alloc: Global, pattern: &[u32], index: usize, to: &mut Vec<u8>) -> Result<(), AllocError> {
-    let start = index.saturating_sub(REACH);
-    let end = index.saturating_add(REACH).min(pattern.len());
+/// Writes the pattern with carets below a span. Only what is near its start is looked at, so that the time for all remarks
+/// together is linear in the length of the pattern.
+fn show(alloc: Global, pattern: &[u32], span: Span, to: &mut Vec<u8>) -> Result<(), AllocError> {
+    let start = span.start.saturating_sub(REACH);
+    let end = span.start.saturating_add(REACH).min(pattern.len());
     let mut text = String::new(alloc);
     for c in pattern.get(start..end).unwrap_or(&[]) {
         text.push(char::from_u32(*c).unwrap_or(char::REPLACEMENT_CHARACTER))?;
     }
-    write_with_caret(&text, index.saturating_sub(start), to).map_err(|_| AllocError)
+    let marked = span.start.saturating_sub(start)..span.end.saturating_sub(start);
+    write_with_carets(&text, marked, to).map_err(|_| AllocError)
 }
 
 /// Returns a line with the span of a remark in code points, its name and its text.
@@ -131,5 +177,5 @@ fn line_of(alloc: Global, remark: &Remark) -> Result<String, AllocError>
     let Span { start, end } = remark.span;
     let name = remark.name;
     let text = remark.text.as_str();
-    Ok(format!(in alloc; "{start}-{end}: {name}: {text}\n")?)
+    Ok(format!(in alloc; "{start}..{end}: {name}: {text}\n")?)
 }

@@ -21,6 +21,7 @@ mod joining;
 mod linting;
 mod pattern;
 mod showing;
+mod size;
 
 use compiling::compiled;
 use explaining::print_explanation;
@@ -108,7 +109,7 @@ fn run_buffered<R: Files + AllocGlobal, I: Read + Drop, W: Write + Drop, E: Writ
 ///
 /// - 0: a line is selected; the output of `replace`, `split`, `escape`, `parse`, `draw` or `explain`, the help or the
 ///   version is written to `out`; or `lint` reports nothing;
-/// - 1: no line is selected, or `lint` reports something or rejects the pattern, and writes why to `err`;
+/// - 1: no line is selected, or `lint` reports something;
 /// - 2: the arguments are invalid, `run_regex` fails, or `parse`, `draw` or `explain` rejects the pattern; a message is
 ///   written to `err`, whose failure is ignored.
 fn run_arguments<R: Files + AllocGlobal, I: Read + Drop, W: Write, E: Write>(
@@ -184,8 +185,8 @@ fn status_if_none(asked: Asked<'_>) -> u8
     }
 }
 
-/// Writes what is asked for, and returns whether it is found. Why a pattern is rejected that is not searched for is
-/// written to `err`.
+/// Writes what is asked for, and returns whether it is found. Why a pattern is rejected that is to be shown or explained
+/// is written to `err`.
 ///
 /// # Errors
 /// Returns a failure that is due, as `MayFail` states. The output for the first lines, or the first of two trees, may
@@ -268,7 +269,7 @@ fn apply_to<'a, R: Files + AllocGlobal, I: Read + Drop, W: Write, E: Write>(
     match wanted.action {
         Action::Search(search) => print_search(rt, pattern, search, input, out),
         Action::Show(view) => print_tree(rt.alloc(), view_of(view, pattern), out, err),
-        Action::Lint => print_lint(rt.alloc(), pattern, out, err),
+        Action::Lint => print_lint(rt.alloc(), pattern, out),
         Action::Explain(form) => print_explanation(rt.alloc(), pattern, form, out, err),
     }
 }

@@ -208,8 +208,8 @@ be a mistake, and why.
 ",
         examples: "\
 \n\
-exit status: 0 if nothing is reported, 1 if something is or PATTERN is rejected,
-or 2 after any other error
+exit status: 0 if nothing is reported, 1 if something is, or 2 if PATTERN is
+rejected or after another error
 
 examples:
   regex lint -i '[k]'

@@ -102,7 +102,7 @@ regex COMMAND --help, or regex help COMMAND, writes the options of a command.
 exit status:
   0  a line is selected, or the output of another command is written, or lint
      reports nothing
-  1  no line is selected, or lint reports something or rejects PATTERN
+  1  no line is selected, or lint reports something
   2  PATTERN is rejected, or another error; its message is on standard error
 
 examples:

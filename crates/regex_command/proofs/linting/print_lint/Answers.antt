@@ -1,23 +1,25 @@
-use Rattle.std.proofs.Common.{◌∙◌}
+use Rattle.std.proofs.Common.{◌∙◌, ap, length, sym}
+use Rattle.regress.specs.Unicode.{unicode_setting}
 use Rattle.regress_spans.specs.Remarks.{said_by}
 use Rattle.regress_tree.specs.Tree.{tree}
 use Rattle.regress_unicode.specs.TableOf.{table_of}
-use Rattle.regex_command.proofs.LintLemmas.{rejects, reports}
-use Rattle.regex_command.proofs.SettingLemmas.{rejected_by}
+use Rattle.regex_command.proofs.LintLemmas.{lint_under_unicode, reports}
 use Rattle.regex_command.proofs.linting.print_lint.Goals as goal
 
 pub returns-in-Ok-clause-reported : goal.returns-in-Ok-clause-reported
 returns-in-Ok-clause-reported g c =
     let parsed = c.in-Ok.parsed in
-    reports c.args.pattern.flags c.deref.result.now _ (table_of c.in_ok-tables.tables) (c.deref.ensures.value ∙ c.in_ok-points.ensures.characters)
-    c.in_ok-tables.ensures (said_by c.deref-in-Ok-3.result.now) parsed.regex.flags (tree parsed.regex.node) parsed.spans.items c.print_remarks.result
+    reports c.args.pattern.flags c.deref.result.now c.args.pattern.text.now (table_of c.in_ok-tables.tables) (c.deref.ensures.value ∙ c.in_ok-points.ensures.characters)
+    c.in_ok-tables.ensures (said_by c.in_ok-remarks-in-Ok.remarks.items) (said_by c.deref-in-Ok-3.result.now) parsed.regex.flags (tree parsed.regex.node) parsed.spans.items c.print_remarks.result
     (g.W.Write.contents c.args.out.now) (g.W.Write.contents c.print_remarks.new.out)
-    (rw (c.deref-in-Ok-3.ensures.value, c.deref.ensures.value) (rw c.deref-in-Ok.ensures.value at c.in_ok-remarks-in-Ok.ensures))
-    c.in-Ok.ensures.flags c.in-Ok.ensures.paired c.print_remarks.ensures.written c.print_remarks.ensures.clean
+    (rw c.deref.ensures.value (rw c.deref-in-Ok.ensures.value at c.in_ok-remarks-in-Ok.ensures))
+    c.in-Ok.ensures.flags c.in-Ok.ensures.paired
+    c.len.result (c.len.ensures ∙ ap length (sym c.deref.ensures.value))
+    (rw c.deref-in-Ok-3.ensures.value c.in_ok-add_size_remark-in-Ok.ensures.added)
+    c.print_remarks.ensures.written c.print_remarks.ensures.clean
 
-pub returns-clause-reported : goal.returns-clause-reported
-returns-clause-reported g c =
-    rejects c.args.pattern.flags c.deref.result.now _ (table_of c.in_ok-tables.tables) (c.deref.ensures.value ∙ c.in_ok-points.ensures.characters)
-    c.in_ok-tables.ensures (g.W.Write.contents c.args.out.now) _ c.reject.result c.reject.ensures
-    (rejected_by (record { flags = c.args.pattern.flags; table = table_of c.in_ok-tables.tables }) c.deref.result.now c.in-Err.fault
-    c.in-Err.ensures.rejected)
+pub returns-clause-due : goal.returns-clause-due
+returns-clause-due g c =
+    lint_under_unicode c.args.pattern.flags c.deref.result.now _ (table_of c.in_ok-tables.tables) (c.deref.ensures.value ∙ c.in_ok-points.ensures.characters)
+    c.in_ok-tables.ensures c.rejection.result
+    (c.rejection.ensures (record { flags = c.args.pattern.flags; table = table_of c.in_ok-tables.tables }) c.deref.result.now c.in-Err.ensures.rejected)
