@@ -5,6 +5,7 @@ use Rattle.std.specs.Io.KnownBytes.{Keeps, append_known}
 use Rattle.regress_arguments.proofs.lemmas.Output.{appends_through, took_through}
 use Rattle.regress_base.specs.declared.types.Flags.{Flags}
 use Rattle.regex_options.specs.Request.{Action, Ask, apply, escape, explain, help, lint, search, show}
+use Rattle.regex_command.specs.Joined.{joined}
 use Rattle.regex_command.specs.Printed.{Does, Prints}
 
 pub IfOk_then : {X E : Type 0} (r : Result X E) {P Q : X → Type 0} → IfOk r P → ((x : X) → P x → Q x) → IfOk r Q
@@ -23,4 +24,5 @@ module _ (input old start between new : Option (List ℕ)) (empty : start ≡ ap
   pub through : (found : Bool) (ask : Ask) → Prints input start between found ask → Prints input old new found ask
   through found (help text) h = (h.0, appends_through old start between new empty kept _ h.1)
   through found (escape string) h = (h.0, took_through old start between new empty kept _ h.1)
-  through found (apply request) h = (h.0, h.1, does_through request.flags h.0 request.action found h.2)
+  through found (apply request) h =
+      (h.0, h.1, (h.2.0, does_through request.flags (joined request.form h.0) request.action found h.2.1))

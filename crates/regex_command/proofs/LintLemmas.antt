@@ -109,35 +109,8 @@ module _ (flags : Flags) (points text : List ℕ) (table : Table) (characters : 
       )
   reports before remarks parsed t spans (Err failure) old new are same_flags accepted n count sized took is_clean = tt
 
--- a failure that may occur for any pattern
-pub lint_late : (setting : Setting) (source : List ℕ) (failure : Failure) → IsLate failure → MayFailToLint setting source failure
-lint_late setting source Argument h = absurd h
-lint_late setting source Memory h = tt
-lint_late setting source Output h = tt
-lint_late setting source Closed h = tt
-lint_late setting source (Syntax pattern text position) h = absurd h
-lint_late setting source TooLarge h = absurd h
-lint_late setting source OutOfSteps h = absurd h
-lint_late setting source (Unreadable name) h = absurd h
-lint_late setting source (PatternNotUtf8 name offset) h = absurd h
-lint_late setting source (TooLong name) h = absurd h
-
--- the same of a pattern over all of Unicode
+-- A failure that may occur for a pattern under the setting may do so over all of Unicode.
 pub lint_under_unicode : (flags : Flags) (points source : List ℕ) (table : Table) → points ≡ source → table ≡ unicode_table → (failure : Failure) →
     MayFailToLint (record { flags = flags; table = table }) points failure → MayFailToLint (unicode_setting flags) source failure
 lint_under_unicode flags points source table characters same failure h =
     under_unicode flags points source table characters same (λ setting source. MayFailToLint setting source failure) h
-
--- An accepted pattern is not rejected, and one that is not too large is compiled, unless memory is short.
-pub accepted_late : (setting : Setting) (text : List ℕ) → IsAcceptedPattern setting (chars text) → (failure : Failure) → IsRejected setting text failure →
-    (failure ≢ TooLarge) → IsLate failure
-accepted_late setting text accepted Argument h other = absurd h
-accepted_late setting text accepted Memory h other = tt
-accepted_late setting text accepted Output h other = absurd h
-accepted_late setting text accepted Closed h other = absurd h
-accepted_late setting text accepted (Syntax pattern message position) h other = absurd (h accepted.0 accepted.1)
-accepted_late setting text accepted TooLarge h other = absurd (other refl)
-accepted_late setting text accepted OutOfSteps h other = absurd h
-accepted_late setting text accepted (Unreadable name) h other = absurd h
-accepted_late setting text accepted (PatternNotUtf8 name offset) h other = absurd h
-accepted_late setting text accepted (TooLong name) h other = absurd h
