@@ -7,8 +7,8 @@ ghost use Rattle.regex_command.specs.Patterns.{IsAcceptedPattern};
 ghost use Rattle.regex_command.specs.Size.{IsSizeWarning, instructions_warning, name_of, said_of, text_of};
 
 use crate::compiling::compiled;
-use regex_lines::Failure;
 use crate::pattern::Pattern;
+use regex_lines::Failure;
 use regress::Nonlinear;
 use regress_spans::{Remark, Span};
 use std::alloc::{AllocError, Global};
