@@ -6,7 +6,7 @@ use crate::subjects::subject;
 use regress_base::types::AnchorType;
 use regress_labels::{Character, is_seen, quoted};
 use regress_tree::ir::Node;
-use regress_words::{character_words, text_words};
+use regress_words::{TextEnd, character_words, text_words};
 use std::alloc::{AllocError, Global};
 use std::mem;
 
@@ -23,7 +23,7 @@ pub(crate) fn summary(alloc: Global, root: &Node) -> Result<String, AllocError> 
     add_elements(alloc, root, false, &mut elements)?;
     let mut sentence = String::from_str(alloc, "Matches ")?;
     if let Some(text) = whole_text(alloc, &elements)? {
-        sentence.push_str(&text_words(alloc, &text)?)?;
+        sentence.push_str(&text_words(alloc, &text.characters)?)?;
     } else if let Some(subject) = subject(alloc, &elements)? {
         let length = length_words(alloc, length)?;
         sentence.push_str(&format!(in alloc; "{subject}: {length}")?)?;
@@ -50,23 +50,51 @@ fn length_words(alloc: Global, length: Length) -> Result<String, AllocError> {
     }
 }
 
-/// A text in a pattern.
-type Text = Vec<Character>;
+/// A text in a pattern: characters that can be shown as one text.
+#[derive(Drop)]
+struct Text {
+    characters: Vec<Character>,
+    end: TextEnd,
+}
+
+impl Text {
+    fn new(alloc: Global) -> Text {
+        Text {
+            characters: Vec::new(alloc),
+            end: TextEnd::new(),
+        }
+    }
+
+    /// Returns whether the text with one more character can be shown as one text.
+    fn joins(&self, next: Character) -> bool {
+        self.characters.is_empty() || self.end.joins(next)
+    }
+
+    fn push(&mut self, next: Character) -> Result<(), AllocError> {
+        self.characters.push(next)?;
+        self.end = self.end.with(next);
+        Ok(())
+    }
+}
 
 /// Returns the text that the pattern is, if it is one.
 fn whole_text(alloc: Global, elements: &[Element<'_>]) -> Result<Option<Text>, AllocError> {
-    let mut text = Vec::new(alloc);
+    let mut text = Text::new(alloc);
     for element in elements {
         match element {
             Element::Character {
                 character,
                 optional: false,
-            } => text.push(*character)?,
+            } if text.joins(*character) => text.push(*character)?,
             Element::Anchor { .. } | Element::Position => {}
             _ => return Ok(None),
         }
     }
-    Ok(if text.is_empty() { None } else { Some(text) })
+    Ok(if text.characters.is_empty() {
+        None
+    } else {
+        Some(text)
+    })
 }
 
 /// Returns that each match has the longest text outside of alternatives and loops; nothing if there is none.
@@ -75,31 +103,41 @@ fn required_words(
     elements: &[Element<'_>],
     length: Length,
 ) -> Result<String, AllocError> {
-    let text = required_text(alloc, elements)?;
+    let text = required_text(alloc, elements)?.characters;
     if text.is_empty() {
         return Ok(String::new(alloc));
     }
-    let text = quoted_text(alloc, &text)?;
+    let words = quoted_text(alloc, &text)?;
     let them = if length.min == 1 && length.max.unwrap_or(1) == 1 {
         "it"
     } else {
         "them"
     };
-    Ok(format!(in alloc; ", with {text} in {them}")?)
+    let case = if text.iter().any(|one| one.either_case) {
+        ", in either case"
+    } else {
+        ""
+    };
+    Ok(format!(in alloc; ", with {words} in {them}{case}")?)
 }
 
 /// Returns the longest text that each match has, the first one if several are as long.
 fn required_text(alloc: Global, elements: &[Element<'_>]) -> Result<Text, AllocError> {
-    let mut longest = Vec::new(alloc);
-    let mut text = Vec::new(alloc);
+    let mut longest = Text::new(alloc);
+    let mut text = Text::new(alloc);
     for element in elements {
         match element {
             Element::Character {
                 character,
                 optional: false,
-            } => text.push(*character)?,
+            } => {
+                if !text.joins(*character) {
+                    longest = longer(longest, mem::replace(&mut text, Text::new(alloc)));
+                }
+                text.push(*character)?;
+            }
             Element::Other | Element::Character { .. } => {
-                longest = longer(longest, mem::replace(&mut text, Vec::new(alloc)));
+                longest = longer(longest, mem::replace(&mut text, Text::new(alloc)));
             }
             _ => {}
         }
@@ -108,7 +146,7 @@ fn required_text(alloc: Global, elements: &[Element<'_>]) -> Result<Text, AllocE
 }
 
 fn longer(first: Text, second: Text) -> Text {
-    if second.len() > first.len() {
+    if second.characters.len() > first.characters.len() {
         second
     } else {
         first
