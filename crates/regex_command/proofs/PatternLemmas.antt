@@ -40,10 +40,6 @@ one_more sources i d before after within steps next =
     subst (λ (some : List Source). FoldsTo AreWith [] some after) (sym (mapped_next source sources i d within))
     (FoldsTo-push AreWith [] (map source (take i sources)) before (source (get_or sources i d)) after steps next)
 
-pub all_read : (sources : List PatternSource) (i : ℕ) (patterns : List (List ℕ)) → length sources ≤ i →
-    ArePatternsOf (map source (take i sources)) patterns → ArePatternsOf (map source sources) patterns
-all_read sources i patterns all steps = subst (λ (some : List PatternSource). ArePatternsOf (map source some) patterns) (take_all i sources all) steps
-
 -- an escaped text is the part that it becomes
 pub escaped_part : {E : Type 0} (fixed : Bool) (pattern : List ℕ) (r : Result (String Global) E) → fixed ≡ true →
     IfOk r (λ text. chars (string_bytes text) ≡ escaped (chars pattern)) → IfOk r (λ text. string_bytes text ≡ part fixed pattern)
