@@ -49,6 +49,7 @@ pub use Rattle.regress_tree.specs.SmallSets
 pub use Rattle.regress_literal.specs.Literal
 -- Patterns.
 pub use Rattle.regress_lexer.specs.Source
+pub use Rattle.regress_lexer.specs.Dialects
 pub use Rattle.regress_lexer.specs.FaultKinds
 pub use Rattle.regress_syntax.specs.Syntax
 pub use Rattle.regress_syntax.specs.Grammar

@@ -22,14 +22,15 @@ pub mod literal {
 /// Parsing: from the text of a pattern to its tree.
 pub mod parse {
     pub use regress_parse::{
-        Error, FaultKind, ParseFault, PlacedFault, node_bound, try_parse, try_parse_with_position,
+        Dialect, Error, FaultKind, ParseFault, PlacedFault, node_bound, try_parse, try_parse_in,
+        try_parse_with_position,
     };
     pub use regress_spans::{Span, SpannedRegex, try_parse_with_spans};
 }
 
 /// Optimization and rewriting of trees.
 pub mod optimizer {
-    pub use crate::pipeline::parse_and_optimize;
+    pub use crate::pipeline::{parse_and_optimize, parse_and_optimize_in};
     pub use regress_normalize::optimize;
     pub use regress_passes::{Rewrite, run_pass};
     pub use regress_rewrite::PassAction;

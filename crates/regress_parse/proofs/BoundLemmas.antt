@@ -8,15 +8,16 @@ use Rattle.regress_tree.specs.Steps.{Setting}
 use Rattle.regress_lexer.specs.Source.{Source, bar, is_at}
 use Rattle.regress_syntax.specs.Syntax.{Name, Pattern, names, groups_named}
 use Rattle.regress_parse.specs.TreeOf.{tree_of}
-use Rattle.regress_parse.specs.Accepted.{own_context, IsDerived}
+use Rattle.regress_lexer.specs.declared.dialect.Dialect.{Dialect}
+use Rattle.regress_parse.specs.Accepted.{own_context_in, IsDerivedIn}
 use Rattle.regress_parse.specs.Bound.{total, positions, opens_name, is_reference, nodes_at, node_bound, HasAtMost}
 use Rattle.regress_parse.proofs.BoundOfNames.{groups_named-few, names-pattern}
 use Rattle.regress_parse.proofs.BoundOfNodes.{pattern-nodes}
 
-tree-nodes : (setting : Setting) (t : Source) (p : Pattern) → IsDerived setting t p →
+tree-nodes : (dialect : Dialect) (setting : Setting) (t : Source) (p : Pattern) → IsDerivedIn dialect setting t p →
     nodes (tree_of setting.table p) ≤ node_bound setting.flags.unicode_sets t
-tree-nodes setting t p derived =
-    let ctx = own_context setting p in
+tree-nodes dialect setting t p derived =
+    let ctx = own_context_in dialect setting p in
     let most = positions opens_name t in
     let all = names-pattern ctx p t [] derived in
     let few : (name : Name) → length (groups_named name 1 (names p)) ≤ most = λ name. omega (arith, groups_named-few name 1 (names p), all) in
@@ -26,7 +27,7 @@ tree-nodes setting t p derived =
     )
 
 pub bounded : (flags : Flags) (t : Source) → HasAtMost flags t (node_bound flags.unicode_sets t)
-bounded flags t table p derived = tree-nodes (record { flags = flags; table = table }) t p derived
+bounded flags t dialect table p derived = tree-nodes dialect (record { flags = flags; table = table }) t p derived
 
 -- ---- the bound by three counts
 

@@ -6,7 +6,8 @@ use Rattle.regress_tree.specs.Visits.{nodes}
 use Rattle.regress_lexer.specs.Source.{Source, char, opening, question_mark, bar, is_at}
 use Rattle.regress_syntax.specs.Syntax.{Pattern}
 use Rattle.regress_parse.specs.TreeOf.{tree_of}
-use Rattle.regress_parse.specs.Accepted.{IsDerived}
+use Rattle.regress_lexer.specs.declared.dialect.Dialect.{Dialect}
+use Rattle.regress_parse.specs.Accepted.{IsDerivedIn}
 
 -- the sum over all positions of a source, where each is counted by the source from there on
 abbrev pub total : (Source → ℕ) → Source → ℕ
@@ -41,7 +42,9 @@ nodes_at sets named t =
 abbrev pub node_bound : (sets : Bool) → Source → ℕ
 node_bound sets t = 3 + total (nodes_at sets (positions opens_name t)) t
 
--- Whatever the table, the tree of a pattern that the grammar derives from the source has at most `most` nodes.
+-- Whatever the dialect and the table, the tree of a pattern that the grammar derives from the source has at most `most`
+-- nodes.
 abbrev pub HasAtMost : Flags → Source → ℕ → Type 0
 HasAtMost flags source most =
-    (table : Table) (p : Pattern) → IsDerived (record { flags = flags; table = table }) source p → nodes (tree_of table p) ≤ most
+    (dialect : Dialect) (table : Table) (p : Pattern) → IsDerivedIn dialect (record { flags = flags; table = table }) source p →
+    nodes (tree_of table p) ≤ most

@@ -5,7 +5,8 @@ ghost use Rattle.regress_parse.specs.Bound.{HasAtMost, opens_name, is_reference,
 use crate::positions::{is_reference, nodes_at, opens_name};
 use regress_base::types::Flags;
 
-/// Returns an upper bound on the number of nodes of the tree that `try_parse` makes of `pattern`, whatever the table.
+/// Returns an upper bound on the number of nodes of the tree that `try_parse` makes of `pattern`, and `try_parse_in` in
+/// any dialect, whatever the table.
 ///
 /// The bound is 3, plus 1 for each code point, plus 1 more for each `|`, plus 4 more for each `[` with the flag v,
 /// plus, for each `\k`, 2 more for each `(?<` that begins no lookbehind. Without references by name it is at most 5

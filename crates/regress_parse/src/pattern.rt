@@ -234,7 +234,49 @@ pub fn parse_with_spans(
     ensures well_formed { IfOk result (λ r. IsWellFormed (tree r.regex.node)) }
     ensures flags { IfOk result (λ r. r.regex.flags ≡ flags) }
 {
-    match parse::<true>(alloc, pattern, flags, tables, Dialect::Regress) {
+    parse_with_spans_in(alloc, pattern, flags, tables, Dialect::Regress)
+}
+
+/// Parses a pattern of a dialect as [`try_parse_in`] does, and returns a span for each node of the tree too.
+///
+/// # Preconditions
+/// Each element of `pattern` is a code point, at most U+10FFFF.
+///
+/// # Errors
+/// As for [`try_parse_with_position`].
+///
+/// # Complexity
+/// As for [`parse_with_spans`].
+pub fn parse_with_spans_in(
+    alloc: Global,
+    pattern: &[u32],
+    flags: Flags,
+    tables: &Tables,
+    dialect: Dialect,
+) -> Result<SpannedRegex, PlacedFault>
+    requires { All IsCodePoint pattern.now }
+
+    // The tree of the pattern that the grammar derives, and the spans of its nodes.
+    ensures spanned { let setting = setting_of (flags_in_force dialect flags) tables.now in
+        IfOk result (λ r. (p : Pattern) × (accepted : IsAcceptedIn dialect setting pattern.now p)
+        × (tree r.regex.node ≡ tree_of (table_of tables.now) p)
+        × (r.spans.items ≡ spans_in dialect setting pattern.now p accepted.derived)) }
+
+    // The contract of `try_parse_in`.
+    ensures rejected { IfErr result (IsFaultIn dialect (setting_of (flags_in_force dialect flags) tables.now) pattern.now) }
+    ensures only { OneIsDerivedIn dialect (setting_of (flags_in_force dialect flags) tables.now) pattern.now }
+    ensures meaning { let setting = setting_of (flags_in_force dialect flags) tables.now in
+        IfOk result (λ r. OfAcceptedIn dialect setting pattern.now (Means setting (tree r.regex.node))) }
+    ensures well_formed { IfOk result (λ r. IsWellFormed (tree r.regex.node)) }
+    ensures flags { IfOk result (λ r. r.regex.flags ≡ flags_in_force dialect flags) }
+{
+    match parse::<true>(
+        alloc,
+        pattern,
+        dialect.flags_in_force(flags),
+        tables,
+        dialect,
+    ) {
         Ok(parsed) => Ok(parsed),
         Err(fault) => Err(position(alloc, fault, pattern.len())),
     }

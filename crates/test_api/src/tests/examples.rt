@@ -9,14 +9,17 @@ use regress_front::bytesearch::{ByteSearcher, Needle};
 use regress_front::codepointset::{CodePointSet, Interval};
 use regress_front::ir::{Node, Regex, Walk, walk, walk_mut};
 use regress_front::literal::lower_code_point_sequence;
-use regress_front::optimizer::{PassAction, Rewrite, optimize, parse_and_optimize, run_pass};
-use regress_front::parse::{Span, node_bound, try_parse, try_parse_with_spans};
+use regress_front::optimizer::{
+    PassAction, Rewrite, optimize, parse_and_optimize, parse_and_optimize_in, run_pass,
+};
+use regress_front::parse::{
+    Dialect, Span, node_bound, try_parse, try_parse_in, try_parse_with_spans,
+};
 use regress_front::types::Flags;
 use regress_front::unicode::{
     FoldRange, Tables, add_icase_code_points, expand_code_point, fold, unfold_char, uppercase,
 };
 use regress_front::util::code_points;
-use regress_parse::{Dialect, try_parse_in};
 use regress_properties::general_category;
 use regress_ucd::unicode_tables;
 use regress_warnings::{WarningKind, warnings};
@@ -336,6 +339,17 @@ fn a_pattern_is_parsed_in_a_dialect(rt: HostRuntime) -> Result<(), Fail> {
     let points = code_points(alloc, "\\b+")?;
     let parsed = try_parse_in(alloc, &points, Flags::default(), &tables, Dialect::Ecma);
     assert!(rt; parsed.is_err());
+    Ok(())
+}
+
+#[test]
+fn a_pattern_is_optimized_in_a_dialect(rt: HostRuntime) -> Result<(), Fail> {
+    let alloc = rt.alloc();
+    let tables = Tables::small(alloc)?;
+    let points = code_points(alloc, "\\b+")?;
+    let flags = Flags::default();
+    assert!(rt; parse_and_optimize_in(alloc, &points, flags, &tables, Dialect::Ecma).is_err());
+    assert!(rt; parse_and_optimize_in(alloc, &points, flags, &tables, Dialect::Regress).is_ok());
     Ok(())
 }
 

@@ -18,7 +18,7 @@ returns c =
       capped 18446744073709551615 counts.result.named counts.result.references c.saturating_mul.result doubled,
     ) in
     record {
-      nodes = λ small table p derived. omega (arith, value, small, bounded c.args.flags c.args.pattern.now table p derived);
+      nodes = λ small dialect table p derived. omega (arith, value, small, bounded c.args.flags c.args.pattern.now dialect table p derived);
       value = value;
       near = omega (arith, value, bound-near sets c.args.pattern.now);
     }
