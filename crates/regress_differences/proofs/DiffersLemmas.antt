@@ -17,7 +17,9 @@ use Rattle.regress_classes.specs.ClassSets.{has_strings}
 use Rattle.regress_syntax.specs.Grammar.{IsPattern, AreTerms, IsItem}
 use Rattle.regress_syntax.specs.Meaning.{is_in_class, longest_first}
 use Rattle.regress_syntax.specs.Productions.{Context, context_inside, single, opens, head_of_item, allows, has_name, head_at}
-use Rattle.regress_syntax.specs.Syntax.{Name, is_named, by_number, by_name, Atom, literal, dot, anchor, boundary, class_escape, class, class_set, string_property, back_reference, Group, grouping, modified, capture, look, Pattern, Terms, Item, one, either, no_terms, more_terms, atom, group, opened_by, counts_of_item, counts_of_terms, counts_of_term, names, direction_of_group, groups_named}
+use Rattle.regress_lexer.specs.Dialects.{tries_references}
+use Rattle.regress_lexer.specs.declared.dialect.Dialect.TheVariants.{Regress}
+use Rattle.regress_syntax.specs.Syntax.{Name, is_named, by_number, by_name, by_name_if_set, Atom, literal, dot, anchor, boundary, class_escape, class, class_set, string_property, back_reference, Group, grouping, modified, capture, look, Pattern, Terms, Item, one, either, no_terms, more_terms, atom, group, opened_by, counts_of_item, counts_of_terms, counts_of_term, names, direction_of_group, groups_named}
 use Rattle.regress_syntax.proofs.lemmas.Productions.{head_at-ends, head_at-shortens, optional_quantifier_at-ends}
 use Rattle.regress_parse.specs.Accepted.{own_context, IsDerived}
 use Rattle.regress_parse.specs.TreeOf.{concatenation, tree_of_quantified, tree_of_atom, trees_of_terms, tree_of_item}
@@ -103,6 +105,7 @@ module _ (all : List (Option Name)) (widest : Flags) (source : Source) where
 
   -- What is known of the context, and of the source from there on.
   record IsCovered (ctx : Context) (t : Source) : Type 0 where
+    dialect : ctx.dialect ≡ Regress
     same_names : ctx.names ≡ all
     suffix : IsSuffix source t
     here : ctx.setting.flags.icase ≡ true → widest.icase ≡ true
@@ -112,6 +115,7 @@ module _ (all : List (Option Name)) (widest : Flags) (source : Source) where
 
   covered-after : (ctx : Context) (t rest : Source) → IsSuffix t rest → IsCovered ctx t → IsCovered ctx rest
   covered-after ctx t rest h w = record {
+    dialect = w.dialect;
     same_names = w.same_names;
     suffix = after_after source t rest w.suffix h;
     here = w.here;
@@ -126,6 +130,7 @@ module _ (all : List (Option Name)) (widest : Flags) (source : Source) where
   covered-inside (modified change) ctx t mid w head =
       let after = covered-after ctx t mid ((head_at-ends ctx t).each (opens (modified change), mid) head) w in
       record {
+        dialect = after.dialect;
         same_names = after.same_names;
         suffix = after.suffix;
         here = by change.icase ((head_fits ctx t).each (opens (modified change), mid) head);
@@ -202,6 +207,8 @@ module _ (all : List (Option Name)) (widest : Flags) (source : Source) where
   atom_same ctx (back_reference flags (by_name name)) t w fits none =
       subst (λ (names : List (Option Name)). not (length (groups_named name 1 names) == 1) ≡ false) w.same_names
       (one_reference widest t fits.0 flags.icase (groups_named name 1 ctx.names) (some_named name 1 ctx.names fits.1) none)
+  atom_same ctx (back_reference flags (by_name_if_set name)) t w fits none =
+      absurd (false≢true (sym fits ∙ ap tries_references w.dialect))
 
   mutual
     -- Nothing is reported of the nodes with their spans.
@@ -259,6 +266,7 @@ none_differs setting source p derived none =
     let inner = spanned_of_pattern (length source) (own_context setting p) forwards 0 p source [] derived in
     pattern_same (names p) widest source (own_context setting p) forwards 0 p source []
     (record {
+      dialect = refl;
       same_names = refl;
       suffix = after_same source;
       here = or_left setting.flags.icase (is_somewhere switches_on source);

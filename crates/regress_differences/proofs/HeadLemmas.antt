@@ -14,12 +14,12 @@ use Rattle.regress_lexer.proofs.lemmas.Sources.{EachProduction, no_more, ◌also
 use Rattle.regress_classes.specs.Properties.{Property, of_points, of_strings, property_at}
 use Rattle.regress_classes.specs.ClassProductions.{complement, class_letter, class_at}
 use Rattle.regress_lexer.specs.declared.dialect.Dialect.{Dialect}
-use Rattle.regress_lexer.specs.Dialects.{judges_contents}
+use Rattle.regress_lexer.specs.Dialects.{judges_contents, tries_references}
 use Rattle.regress_classes.specs.declared.parameters.Parameters.{Parameters}
 use Rattle.regress_classes.proofs.lemmas.ClassSets.{no_strings}
 use Rattle.regress_classes.specs.ClassSets.{Value, has_strings, is_not_negatable, unless_negated_strings, contents_at, class_set_by, class_set_at}
 use Rattle.regress_base.specs.Limits.{max_nesting_depth}
-use Rattle.regress_syntax.specs.Syntax.{Atom, literal, dot, anchor, boundary, class_escape, class, class_set, string_property, back_reference, by_number, by_name, grouping, modified, capture, look}
+use Rattle.regress_syntax.specs.Syntax.{Name, Atom, literal, dot, anchor, boundary, class_escape, class, class_set, string_property, back_reference, by_number, by_name, by_name_if_set, grouping, modified, capture, look}
 use Rattle.regress_syntax.specs.Names.{group_name_at}
 use Rattle.regress_syntax.specs.Productions.{class_parameters, Context, Head, single, opens, angle_at, after_question_mark_at, has_names, has_name, character_at, property_atom, property_atom_at, number_reference_at, name_reference_at, escape_productions, escaped_by, escaped_at, brackets_at, atom_productions, atom_by, head_at}
 use Rattle.regress_differences.specs.CaseMode.{has_icase, switches_on}
@@ -66,6 +66,7 @@ module _ (ctx : Context) where
   AtomFits s (string_property flags written) = is_at 92 s ≡ true
   AtomFits s (back_reference flags (by_number n)) = Unit {0}
   AtomFits s (back_reference flags (by_name name)) = (is_at 107 (drop 1 s) ≡ true) × (has_name name ctx.names ≡ true)
+  AtomFits s (back_reference flags (by_name_if_set name)) = tries_references ctx.dialect ≡ false
 
   module _ (s : Source) where
     character_fits : (c : ℕ) (t : Source) → Finds (AtomFits s) (character_at ctx c t)
@@ -96,7 +97,13 @@ module _ (ctx : Context) where
     name_fits : is_at 107 (drop 1 s) ≡ true → (t : Source) → Finds (AtomFits s) (name_reference_at ctx t)
     name_fits letter t =
         finds_then (λ _. Unit {0}) (AtomFits s) (group_name_at ctx.setting.table t) _ (any_found _)
-        (λ x _. finds_cond (AtomFits s) (has_name x.0 ctx.names) _ _ (λ e. finds_some (AtomFits s) _ (letter, e)) (λ _. finds_none (AtomFits s)))
+        (λ x _. finds_cond (AtomFits s) (has_name x.0 ctx.names) _ _
+        (λ e. finds_some (AtomFits s) _ (by x.0 (letter, e) (tries_references ctx.dialect) refl)) (λ _. finds_none (AtomFits s)))
+      where
+        by : (name : Name) → (is_at 107 (drop 1 s) ≡ true) × (has_name name ctx.names ≡ true) → (b : Bool) → tries_references ctx.dialect ≡ b →
+            AtomFits s (back_reference ctx.setting.flags (cond b (by_name name) (by_name_if_set name)))
+        by name fits true e = fits
+        by name fits false e = e
 
   -- an escape after the code point b, which is a backslash
   escapes_fit : (b : ℕ) → (b == 92) ≡ true → (c : ℕ) (t : Source) → class_escape_at (b ∷ c ∷ t) ≡ None →

@@ -22,8 +22,8 @@ use Rattle.regress_classes.specs.Properties.{Property, of_points, of_strings, pr
 use Rattle.regress_syntax.specs.Grammar.{IsPattern, AreTerms, IsItem}
 use Rattle.regress_syntax.specs.Meaning.{is_in_class, meaning}
 use Rattle.regress_syntax.specs.Names.{group_name_at}
-use Rattle.regress_syntax.specs.Productions.{class_parameters, Context, context_inside, Head, single, opens, head_at, character_at, point_property, property_atom, number_reference_at, name_reference_at, has_name, escape_productions, escaped_by, escaped_at, brackets_at, atom_productions, atom_by, angle_at, after_question_mark_at}
-use Rattle.regress_syntax.specs.Syntax.{Name, names, Atom, literal, dot, anchor, boundary, class_escape, class, class_set, string_property, back_reference, by_number, by_name, Group, grouping, modified, capture, look, Pattern, Terms, Item, one, either, no_terms, more_terms, atom, group}
+use Rattle.regress_syntax.specs.Productions.{named_target, class_parameters, Context, context_inside, Head, single, opens, head_at, character_at, point_property, property_atom, number_reference_at, name_reference_at, has_name, escape_productions, escaped_by, escaped_at, brackets_at, atom_productions, atom_by, angle_at, after_question_mark_at}
+use Rattle.regress_syntax.specs.Syntax.{Name, names, Atom, literal, dot, anchor, boundary, class_escape, class, class_set, string_property, back_reference, by_number, Group, grouping, modified, capture, look, Pattern, Terms, Item, one, either, no_terms, more_terms, atom, group}
 use Rattle.regress_ecma.specs.Notation.{CharSet}
 use Rattle.regress_ecma.specs.Assertions.{accept}
 use Rattle.regress_ecma.specs.CharacterMatchers.{is_found}
@@ -252,7 +252,7 @@ module _ (setting : Setting) (maps : HasCaseDataOfUnicode setting.table) (with_u
       name_good t =
           holds_then (IsGood s) (group_name_at ctx.setting.table t) _
           (λ x. holds_if (IsGood s) (has_name x.0 ctx.names) _ _
-          (holds_some (IsGood s) (back_reference flags' (by_name x.0)) x.1 (alike (back_reference flags' (by_name x.0))))
+          (holds_some (IsGood s) (back_reference flags' (named_target ctx.dialect x.0)) x.1 (alike (back_reference flags' (named_target ctx.dialect x.0))))
           (holds_none (IsGood s)))
 
     escapes_good : (c k : ℕ) (t : Source) → (c == char "\\") ≡ true → EachProduction (Holds (IsGood (c ∷ k ∷ t))) (escape_productions ctx k t)

@@ -21,7 +21,7 @@ use Rattle.regress_base.proofs.lemmas.Literals.{scalar_in_range}
 use Rattle.regress_classes.specs.ClassProductions.{members_of}
 use Rattle.regress_classes.specs.ClassSets.{Value, has_strings}
 use Rattle.regress_syntax.specs.Meaning.{is_in_class, along, any_reference, is_literal, is_any, is_in_word, atom_steps, pattern_steps, terms_steps, item_steps, quantified_steps, meaning}
-use Rattle.regress_syntax.specs.Syntax.{Name, names, Atom, literal, dot, anchor, boundary, class_escape, class, class_set, string_property, back_reference, by_number, by_name, Group, grouping, modified, capture, look, Pattern, Terms, Item, one, either, no_terms, more_terms, atom, group, Counts, counts, counts_of_group, counts_of_quantifier, counts_of_item, counts_of_term, counts_of_terms, added, names_of_group, names_of_terms, names_of_item, groups_named}
+use Rattle.regress_syntax.specs.Syntax.{Name, names, Atom, literal, dot, anchor, boundary, class_escape, class, class_set, string_property, back_reference, by_number, by_name, by_name_if_set, Group, grouping, modified, capture, look, Pattern, Terms, Item, one, either, no_terms, more_terms, atom, group, Counts, counts, counts_of_group, counts_of_quantifier, counts_of_item, counts_of_term, counts_of_terms, added, names_of_group, names_of_terms, names_of_item, groups_named}
 use Rattle.regress_ecma.specs.Notation.{CharSet, failure, Matcher}
 use Rattle.regress_ecma.specs.Characters.{character_class_escape, character_complement, word_characters}
 use Rattle.regress_ecma.specs.Repetition.{match_two_alternatives, match_sequence}
@@ -175,6 +175,7 @@ module _ (setting : Setting) (maps : HasCaseDataOfUnicode setting.table) (with_u
   atom_agrees d (string_property rer written) flags none = absurd (false≢true (sym none))
   atom_agrees d (back_reference rer (by_number n)) flags none = reference_agrees rer flags d n
   atom_agrees d (back_reference rer (by_name name)) flags none = named_agrees rer flags d name (groups_named name 1 all) refl none
+  atom_agrees d (back_reference rer (by_name_if_set name)) flags none = absurd (false≢true (sym none))
 
   quantified_agrees : (d : Direction) (q : Option Quantifier) → IsInOrder q → (n count : ℕ) (f : Steps.Matcher) (m : Matcher) → Agrees text d f m →
       Agrees text d (quantified_steps (length text) q n (n + count) f) (quantified fuel n count q m)

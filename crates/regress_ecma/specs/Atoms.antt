@@ -7,7 +7,7 @@ use Rattle.regress_base.specs.Intervals.{code_point_max, is_member, intervals_of
 use Rattle.regress_base.specs.Table.{Table}
 use Rattle.regress_base.specs.declared.types.Flags.{Flags}
 use Rattle.regress_tree.specs.Reading.{Direction}
-use Rattle.regress_syntax.specs.Syntax.{Name, by_number, by_name, Atom, literal, dot, anchor, boundary, class_escape, class, class_set, string_property, back_reference, groups_named}
+use Rattle.regress_syntax.specs.Syntax.{Name, by_number, by_name, by_name_if_set, Atom, literal, dot, anchor, boundary, class_escape, class, class_set, string_property, back_reference, groups_named}
 use Rattle.regress_ecma.specs.Notation.{CharSet, Matcher}
 use Rattle.regress_ecma.specs.Characters.{all_characters, character_class_escape, character_complement}
 use Rattle.regress_ecma.specs.Repetition.{empty_matcher, match_two_alternatives, match_sequence}
@@ -92,3 +92,4 @@ module _ (table : Table) where
   compile_atom names rer d (back_reference flags (by_number n)) = backreference_matcher table rer (n ∷ []) d
   -- `\k`, 1 to 4
   compile_atom names rer d (back_reference flags (by_name name)) = backreference_matcher table rer (groups_named name 1 names) d
+  compile_atom names rer d (back_reference flags (by_name_if_set name)) = backreference_matcher table rer (groups_named name 1 names) d

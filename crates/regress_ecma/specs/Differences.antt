@@ -8,7 +8,7 @@ use Rattle.regress_base.specs.declared.charclasses.CharacterClassType.TheVariant
 use Rattle.regress_base.specs.declared.types.Flags.{Flags}
 use Rattle.regress_base.specs.declared.types.Quantifier.{Quantifier}
 use Rattle.regress_classes.specs.ClassSets.{has_strings}
-use Rattle.regress_syntax.specs.Syntax.{Name, by_number, by_name, Atom, literal, dot, anchor, boundary, class_escape, class, class_set, string_property, back_reference, Pattern, Terms, Item, one, either, no_terms, more_terms, atom, group, groups_named}
+use Rattle.regress_syntax.specs.Syntax.{Name, by_number, by_name, by_name_if_set, Atom, literal, dot, anchor, boundary, class_escape, class, class_set, string_property, back_reference, Pattern, Terms, Item, one, either, no_terms, more_terms, atom, group, groups_named}
 use Rattle.regress_ecma.specs.Characters.{has_some}
 use Rattle.regress_ecma.specs.Compile.{flags_inside}
 
@@ -113,6 +113,8 @@ module _ (names : List (Option Name)) where
   differs_at_atom rer (back_reference flags (by_number n)) = false
   -- a reference to several groups of one name
   differs_at_atom rer (back_reference flags (by_name name)) = not (length (groups_named name 1 names) == 1)
+  -- not compared
+  differs_at_atom rer (back_reference flags (by_name_if_set name)) = true
 
   abbrev mutual
     pub differs : Flags → Pattern → Bool

@@ -29,6 +29,12 @@ abbrev pub reserves_k : Dialect → Bool
 reserves_k Regress = false
 reserves_k Ecma = true
 
+-- Whether a reference by name to several groups tries one after the other. Otherwise it matches what the one that is set
+-- has captured (ECMA-262, BackreferenceMatcher).
+abbrev pub tries_references : Dialect → Bool
+tries_references Regress = true
+tries_references Ecma = false
+
 -- ---- classes with the flag v
 
 -- Of the punctuators that are operators or may become such when doubled, no two follow each other. Otherwise no one

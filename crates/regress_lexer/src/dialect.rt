@@ -9,14 +9,14 @@ pub enum Dialect {
     /// `\u{..}` is an escape under all flags.
     Regress,
     /// These rules as in ECMA-262 with Annex B: the flag v implies the flag u, no quantifier may follow `\b` and `\B`,
-    /// `\u{..}` is an escape only with the flag u, beside a group with a name `\k` is an error in a class, and classes with
-    /// the flag v. The other rules are still those of `Regress`.
+    /// `\u{..}` is an escape only with the flag u, beside a group with a name `\k` is an error in a class, classes with the
+    /// flag v, and references to several groups of one name. The other rules are still those of `Regress`.
     Ecma,
 }
 
 impl Dialect {
     ghost use Rattle.std.specs.Prelude.{◌≡◌};
-    ghost use Rattle.regress_lexer.specs.Dialects.{flags_in_force, quantifies_boundaries, has_braces, reserves_k, reserves_pairs, isolates_ampersand, judges_contents};
+    ghost use Rattle.regress_lexer.specs.Dialects.{flags_in_force, quantifies_boundaries, has_braces, tries_references, reserves_k, reserves_pairs, isolates_ampersand, judges_contents};
 
     /// Returns the flags in force for a pattern with the flags `given`.
     pub fn flags_in_force(self, given: Flags) -> Flags
@@ -48,6 +48,17 @@ impl Dialect {
         match self {
             Dialect::Regress => true,
             Dialect::Ecma => unicode,
+        }
+    }
+
+    /// Returns whether a reference by name to several groups tries one after the other. Otherwise it matches what the one
+    /// that is set has captured.
+    pub fn tries_references(self) -> bool
+        ensures { result ≡ tries_references self }
+    {
+        match self {
+            Dialect::Regress => true,
+            Dialect::Ecma => false,
         }
     }
 

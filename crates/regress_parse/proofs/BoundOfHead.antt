@@ -5,8 +5,12 @@ use Rattle.std.proofs.lemmas.Bool.{and_parts}
 use Rattle.regress_base.specs.Table.{Table}
 use Rattle.regress_base.specs.Intervals.{Bounds}
 use Rattle.regress_base.specs.declared.charclasses.CharacterClassType.{CharacterClassType}
-use Rattle.regress_tree.specs.Tree.{Leaf}
-use Rattle.regress_tree.specs.Visits.{nodes}
+use Rattle.regress_tree.specs.Reading.{forwards}
+use Rattle.regress_tree.specs.Tree.{list, Leaf}
+use Rattle.regress_tree.specs.Visits.{nodes, nodes_in_list}
+use Rattle.regress_base.specs.declared.types.Flags.{Flags}
+use Rattle.regress_lexer.specs.declared.dialect.Dialect.{Dialect}
+use Rattle.regress_lexer.specs.declared.dialect.Dialect.TheVariants.{Regress, Ecma}
 use Rattle.regress_lexer.specs.Source.{Source, Found, found_map, opening, first_production, is_at}
 use Rattle.regress_lexer.specs.Digits.{is_decimal, number, front}
 use Rattle.regress_lexer.specs.Escapes.{character_escape_at}
@@ -17,10 +21,10 @@ use Rattle.regress_lexer.proofs.lemmas.Sources.{EachProduction, no_more, ◌also
 use Rattle.regress_classes.specs.Properties.{Property, of_points, of_strings, property_at}
 use Rattle.regress_classes.specs.ClassProductions.{complement, class_letter, class_at}
 use Rattle.regress_classes.specs.ClassSets.{class_set_at}
-use Rattle.regress_syntax.specs.Syntax.{Name, Atom, class, class_set, class_escape, grouping, modified, capture, look, groups_named}
+use Rattle.regress_syntax.specs.Syntax.{Name, back_reference, Atom, class, class_set, class_escape, grouping, modified, capture, look, groups_named}
 use Rattle.regress_syntax.specs.Names.{group_name_at}
-use Rattle.regress_syntax.specs.Productions.{class_parameters, Context, Head, single, opens, angle_at, after_question_mark_at, group_at, has_names, has_name, character_at, property_atom, property_atom_at, number_reference_at, name_reference_at, escape_productions, escaped_by, escaped_at, brackets_at, atom_productions, atom_by, head_by}
-use Rattle.regress_parse.specs.TreeOf.{references, alternation, strings_or_points, tree_of_atom}
+use Rattle.regress_syntax.specs.Productions.{class_parameters, Context, Head, single, opens, angle_at, after_question_mark_at, group_at, has_names, has_name, character_at, property_atom, property_atom_at, number_reference_at, named_target, name_reference_at, escape_productions, escaped_by, escaped_at, brackets_at, atom_productions, atom_by, head_by}
+use Rattle.regress_parse.specs.TreeOf.{references, alternation, concatenation, strings_or_points, tree_of_atom}
 use Rattle.regress_parse.specs.Bound.{opens_name, nodes_at}
 use Rattle.regress_parse.proofs.BoundOfSource.{nodes_at-some}
 
@@ -73,6 +77,21 @@ references-nodes icase [] = omega arith
 references-nodes icase (k ∷ []) = omega arith
 references-nodes icase (k ∷ next ∷ ks) = omega (arith, references-nodes icase (next ∷ ks))
 
+list-nodes : (icase : Bool) (ks : List ℕ) → nodes_in_list (list (references icase ks)) ≡ length ks
+list-nodes icase [] = refl
+list-nodes icase (k ∷ ks) = omega (arith, list-nodes icase ks)
+
+joined-nodes : (icase : Bool) (ks : List ℕ) → nodes (concatenation forwards (list (references icase ks))) ≤ 2 * length ks + 1
+joined-nodes icase [] = omega arith
+joined-nodes icase (k ∷ []) = omega arith
+joined-nodes icase (k ∷ next ∷ ks) = omega (arith, list-nodes icase ks)
+
+-- The nodes of a reference by name, in either dialect.
+named-nodes : (table : Table) (all : List (Option Name)) (flags : Flags) (dialect : Dialect) (name : Name) →
+    nodes (tree_of_atom table all (back_reference flags (named_target dialect name))) ≤ 2 * length (groups_named name 1 all) + 1
+named-nodes table all flags Regress name = references-nodes flags.icase (groups_named name 1 all)
+named-nodes table all flags Ecma name = joined-nodes flags.icase (groups_named name 1 all)
+
 class-nodes : (has_strings has_points has_empty : Bool) (strings points : Leaf) →
     nodes (strings_or_points has_strings has_points has_empty strings points) ≤ 5
 class-nodes false false false strings points = omega arith
@@ -124,7 +143,7 @@ module _ (table : Table) (ctx : Context) (most : ℕ) (few : (name : Name) → l
       finds_then (λ _. Unit {0}) (AtMost (2 * most + 1)) (group_name_at ctx.setting.table t) _ (any_found _)
       (λ x _. finds_cond (AtMost (2 * most + 1)) (has_name x.0 ctx.names) _ _
       (λ _. finds_some (AtMost (2 * most + 1)) _
-      (omega (arith, references-nodes ctx.setting.flags.icase (groups_named x.0 1 ctx.names), few x.0)))
+      (omega (arith, named-nodes table ctx.names ctx.setting.flags ctx.dialect x.0, few x.0)))
       (λ _. finds_none (AtMost (2 * most + 1))))
 
   -- the count of an escape that begins with c

@@ -14,9 +14,11 @@ use Rattle.regress_lexer.specs.Modifiers.{Change, modifiers_at}
 use Rattle.regress_syntax.specs.Names.{group_name_at}
 use Rattle.regress_classes.specs.Properties.{Property, of_points, of_strings, property_at}
 use Rattle.regress_lexer.specs.Quantifiers.{quantifier_at}
-use Rattle.regress_syntax.specs.Productions.{class_parameters, Context, Head, single, opens, angle_at, after_question_mark_at, group_at, property_atom, property_atom_at, has_name, character_at, number_reference_at, name_reference_at, escape_productions, escaped_by, escaped_at, brace_by, brackets_at, atom_productions, atom_by, head_at}
+use Rattle.regress_lexer.specs.declared.dialect.Dialect.{Dialect}
+use Rattle.regress_lexer.specs.declared.dialect.Dialect.TheVariants.{Regress, Ecma}
+use Rattle.regress_syntax.specs.Productions.{named_target, class_parameters, Context, Head, single, opens, angle_at, after_question_mark_at, group_at, property_atom, property_atom_at, has_name, character_at, number_reference_at, name_reference_at, escape_productions, escaped_by, escaped_at, brace_by, brackets_at, atom_productions, atom_by, head_at}
 use Rattle.regress_lexer.specs.Source.{Source, Found, IsCodePoint, opening, colon, question_mark, is_at, first_production}
-use Rattle.regress_syntax.specs.Syntax.{Target, by_number, by_name, Atom, literal, dot, anchor, boundary, class_escape, class, class_set, string_property, back_reference, Group, grouping, modified, capture, look}
+use Rattle.regress_syntax.specs.Syntax.{Name, Target, by_number, by_name, by_name_if_set, Atom, literal, dot, anchor, boundary, class_escape, class, class_set, string_property, back_reference, Group, grouping, modified, capture, look}
 use Rattle.regress_lexer.proofs.lemmas.After.{Ends, after_all}
 use Rattle.regress_classes.proofs.lemmas.ClassStrings.{OfCodePoints, PropertyInRange, property_at-in_range, class_set_at-in_range}
 use Rattle.regress_lexer.proofs.lemmas.InRange.{Finds, finds_none, finds_some, finds_cond, finds_then, finds_map, character_escape_at-in_range}
@@ -42,6 +44,11 @@ finds_any found = record { each = λ x e. tt }
 abbrev pub IsGoodTarget : ℕ → Target → Type 0
 IsGoodTarget n (by_number k) = (1 ≤ k) × (k ≤ n)
 IsGoodTarget n (by_name name) = Unit {0}
+IsGoodTarget n (by_name_if_set name) = Unit {0}
+
+good-named : (n : ℕ) (dialect : Dialect) (name : Name) → IsGoodTarget n (named_target dialect name)
+good-named n Regress name = tt
+good-named n Ecma name = tt
 
 abbrev pub IsGoodAtom : ℕ → Atom → Type 0
 IsGoodAtom n (literal flags c) = IsCodePoint c
@@ -130,7 +137,7 @@ module _ (ctx : Context) (lawful : IsValidTable ctx.setting.table) (n : ℕ) (wi
   name_reference_at-good : (t : Source) → Finds (IsGoodAtom n) (name_reference_at ctx t)
   name_reference_at-good t =
       finds_then _ _ (group_name_at ctx.setting.table t) _ (finds_any (group_name_at ctx.setting.table t))
-      (λ x _. finds_cond _ (has_name x.0 ctx.names) _ _ (λ _. finds_some _ _ tt) (λ _. finds_none _))
+      (λ x _. finds_cond _ (has_name x.0 ctx.names) _ _ (λ _. finds_some _ _ (good-named n ctx.dialect x.0)) (λ _. finds_none _))
 
   escape_productions-good : (c : ℕ) (t : Source) → AreCodePoints (c ∷ t) → EachProduction (Finds (IsGoodAtom n)) (escape_productions ctx c t)
   escape_productions-good c t all =

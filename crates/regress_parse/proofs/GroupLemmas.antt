@@ -1,7 +1,8 @@
 -- The capture groups of a pattern's tree are those of the pattern, numbered in the order in which they open.
-use Rattle.std.proofs.Common.{◌≡◌, ℕ, ◌+◌, false, cond, ◌&&◌, ◌==◌, nat_le, nat_lt, List, [], ◌∷◌, ◌++◌, length, Option, Some, None, option_map, count_by, All, encode_utf8_all, refl, sym, ap, ap₂, subst, ◌∙◌, arith, append-nil}
+use Rattle.std.proofs.Common.{◌≡◌, ℕ, ◌+◌, Bool, true, false, cond, ◌&&◌, ◌==◌, nat_le, nat_lt, List, [], ◌∷◌, ◌++◌, length, Option, Some, None, option_map, count_by, All, encode_utf8_all, refl, sym, ap, ap₂, subst, ◌∙◌, arith, append-nil}
 use Rattle.std.specs.List.Sorted.{IsPermutation}
 use Rattle.std.proofs.lemmas.List.{length-append}
+use Rattle.std.proofs.lemmas.List.Elements.{All-head, All-tail}
 use Rattle.std.proofs.lemmas.List.Sums.{sum_by-cons}
 use Rattle.std.proofs.lemmas.List.Sorted.{IsPermutation-refl, IsPermutation-trans, IsPermutation-append_left, IsPermutation-append_right, length_permutation, sum_by-IsPermutation}
 use Rattle.std.proofs.lemmas.Bool.Decides.{nat_tests}
@@ -9,16 +10,16 @@ use Rattle.regress_base.specs.Intervals.{intervals_of}
 use Rattle.regress_tree.specs.Reading.{Direction, forwards, backwards}
 use Rattle.regress_base.specs.Table.{Table}
 use Rattle.regress_base.specs.declared.types.Quantifier.{Quantifier}
-use Rattle.regress_tree.specs.Tree.{Tree, Trees, no_trees, more_trees}
+use Rattle.regress_tree.specs.Tree.{list, Tree, Trees, no_trees, more_trees}
 use Rattle.regress_tree.specs.WellFormed.{Capture, captures, captures_of_trees, HasGroups}
 use Rattle.regress_tree.proofs.lemmas.ReversedParts.{captures-reverse_trees}
-use Rattle.regress_syntax.specs.Syntax.{Name, Atom, literal, dot, anchor, boundary, class_escape, class, class_set, string_property, back_reference, Group, grouping, modified, capture, look, Pattern, Terms, Item, one, either, no_terms, more_terms, atom, group, opened_by, counts, counts_of_quantifier, counts_of_terms, counts_of_term, counts_of_item, names, names_of_group, names_of_terms, names_of_item, direction_of_group}
+use Rattle.regress_syntax.specs.Syntax.{Name, Atom, literal, dot, anchor, boundary, class_escape, class, class_set, string_property, back_reference, is_joined, Group, grouping, modified, capture, look, Pattern, Terms, Item, one, either, no_terms, more_terms, atom, group, opened_by, counts, counts_of_quantifier, counts_of_terms, counts_of_term, counts_of_item, names, names_of_group, names_of_terms, names_of_item, direction_of_group}
 use Rattle.regress_syntax.specs.Meaning.{is_in_class, referred}
 use Rattle.regress_parse.specs.Groups.{numbered, pattern_groups}
-use Rattle.regress_parse.specs.TreeOf.{concatenation, tree_of_group, tree_of_quantified, references, alternation, tree_of_atom, tree_of_pattern, trees_of_terms, tree_of_item, tree_of, in_direction}
+use Rattle.regress_parse.specs.TreeOf.{concatenation, tree_of_group, tree_of_quantified, references, alternation, tree_of_references, tree_of_atom, tree_of_pattern, trees_of_terms, tree_of_item, tree_of, in_direction}
 use Rattle.regress_parse.specs.ClassParts.{class_parts}
 use Rattle.regress_parse.proofs.ClassTreeLemmas.{tree_of_class-parts}
-use Rattle.regress_parse.proofs.PartLemmas.{alternation-has, references-have, class_parts-have}
+use Rattle.regress_parse.proofs.PartLemmas.{alternation-has, joined-has, references-have, class_parts-have}
 
 numbered-append : (n k : ℕ) (xs ys : List (Option Name)) → length xs ≡ k → numbered n (xs ++ ys) ≡ numbered n xs ++ numbered (n + k) ys
 numbered-append n k [] ys e = let same : n ≡ n + k = omega arith in ap (λ m. numbered m ys) same
@@ -88,6 +89,19 @@ CapturesNothing t = captures t ≡ []
 captures-alternation : (ts : List Tree) → All CapturesNothing ts → captures (alternation ts) ≡ []
 captures-alternation = alternation-has CapturesNothing refl (λ t u h k. ap₂ (λ xs ys. xs ++ ys) h k)
 
+captures-list : (ts : List Tree) → All CapturesNothing ts → captures_of_trees (list ts) ≡ []
+captures-list [] h = refl
+captures-list (t ∷ ts) h =
+    ap₂ (λ xs ys. xs ++ ys) (All-head CapturesNothing t ts h) (captures-list ts (All-tail CapturesNothing t ts h))
+
+captures-concatenation : (ts : List Tree) → All CapturesNothing ts → captures (concatenation forwards (list ts)) ≡ []
+captures-concatenation = joined-has CapturesNothing refl captures-list
+
+-- References capture nothing.
+captures-references : (joined icase : Bool) (ks : List ℕ) → captures (tree_of_references joined (references icase ks)) ≡ []
+captures-references true icase ks = captures-concatenation (references icase ks) (references-have CapturesNothing icase ks (λ i k lt. refl))
+captures-references false icase ks = captures-alternation (references icase ks) (references-have CapturesNothing icase ks (λ i k lt. refl))
+
 captures-tree_of_atom : (table : Table) (all : List (Option Name)) (a : Atom) → captures (tree_of_atom table all a) ≡ []
 captures-tree_of_atom table all (literal flags c) = refl
 captures-tree_of_atom table all (dot flags) = refl
@@ -100,9 +114,7 @@ captures-tree_of_atom table all (class_set flags negated value) =
     ∙ captures-alternation (class_parts flags.icase negated value (intervals_of (is_in_class table flags false value.members)))
     (class_parts-have CapturesNothing flags.icase negated value (intervals_of (is_in_class table flags false value.members)) refl refl refl)
 captures-tree_of_atom table all (string_property flags written) = refl
-captures-tree_of_atom table all (back_reference flags to) =
-    captures-alternation (references flags.icase (referred all to))
-    (references-have CapturesNothing flags.icase (referred all to) (λ i k lt. refl))
+captures-tree_of_atom table all (back_reference flags to) = captures-references (is_joined to) flags.icase (referred all to)
 
 -- ---- the tree has the groups of its pattern, in either direction
 

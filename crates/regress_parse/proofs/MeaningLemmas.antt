@@ -13,14 +13,14 @@ use Rattle.regress_tree.specs.Assertions.{is_line_terminator, is_word_character,
 use Rattle.regress_base.specs.declared.types.Quantifier.{Quantifier}
 use Rattle.regress_base.specs.Table.{class_of}
 use Rattle.regress_base.specs.Table.{denotes}
-use Rattle.regress_tree.specs.Tree.{Tree, Trees, leaf, no_trees, more_trees, empty, match_any, match_any_except_line_terminator, char, char_set, bracket, back_ref, string_set}
-use Rattle.regress_syntax.specs.Syntax.{Atom, literal, dot, anchor, boundary, class_escape, class, class_set, string_property, back_reference, Group, grouping, modified, capture, look, Name, Pattern, Terms, Item, one, either, no_terms, more_terms, atom, group, opened_by, counts_of_item, counts_of_term, counts_of_terms, names, direction_of_group}
-use Rattle.regress_syntax.specs.Meaning.{is_in_class, longest_first, along, group_steps, referred, any_reference, quantified_steps, atom_steps, pattern_steps, terms_steps, item_steps}
+use Rattle.regress_tree.specs.Tree.{list, Tree, Trees, leaf, no_trees, more_trees, empty, match_any, match_any_except_line_terminator, char, char_set, bracket, back_ref, string_set}
+use Rattle.regress_syntax.specs.Syntax.{Atom, literal, dot, anchor, boundary, class_escape, class, class_set, string_property, back_reference, is_joined, Group, grouping, modified, capture, look, Name, Pattern, Terms, Item, one, either, no_terms, more_terms, atom, group, opened_by, counts_of_item, counts_of_term, counts_of_terms, names, direction_of_group}
+use Rattle.regress_syntax.specs.Meaning.{is_in_class, longest_first, along, group_steps, referred, any_reference, each_reference, reference_steps, quantified_steps, atom_steps, pattern_steps, terms_steps, item_steps}
 use Rattle.regress_classes.specs.ClassProductions.{members_of}
 use Rattle.regress_classes.specs.ClassSets.{Value, has_strings}
 use Rattle.regress_parse.specs.ClassParts.{strings_part, bracket_part, empty_part}
 use Rattle.regress_parse.proofs.ClassTreeLemmas.{tree_of_class-parts}
-use Rattle.regress_parse.specs.TreeOf.{concatenation, tree_of_group, tree_of_quantified, leaf_of_members, references, alternation, tree_of_class, tree_of_atom, tree_of_pattern, trees_of_terms, tree_of_item, tree_of, in_direction}
+use Rattle.regress_parse.specs.TreeOf.{concatenation, tree_of_group, tree_of_quantified, leaf_of_members, references, alternation, tree_of_references, tree_of_class, tree_of_atom, tree_of_pattern, trees_of_terms, tree_of_item, tree_of, in_direction}
 use Rattle.regress_parse.specs.Accepted.{Means}
 use Rattle.regress_tree.proofs.lemmas.Assertions.{Simulates-anchor, Simulates-boundary}
 use Rattle.regress_tree.proofs.lemmas.Classes.{agreeing_simulates, is_accepted-scalar}
@@ -193,6 +193,23 @@ module _ (setting : Setting) (text : List ℕ) (is_text : IsText text) where
   references_simulate d icase (k ∷ next ∷ ks) =
       Simulates-or text d _ _ _ _ (reference_simulates d icase k) (references_simulate d icase (next ∷ ks))
 
+  joined_references_simulate : (d : Direction) (icase : Bool) (ks : List ℕ) →
+      Simulates text d
+      (each_reference (λ k. References.back_reference d (of_characters text) (denotes setting.table icase setting.flags.unicode) (k - 1)) ks)
+      (steps_of_parts setting (encode_utf8_all text) d (list (references icase ks)))
+  joined_references_simulate d icase [] = Simulates-stay text d
+  joined_references_simulate d icase (k ∷ ks) =
+      Simulates-then text d _ _ _ _ (reference_simulates d icase k) (joined_references_simulate d icase ks)
+
+  either_references_simulate : (d : Direction) (joined icase : Bool) (ks : List ℕ) →
+      TreeSimulates setting text d
+      (reference_steps joined (λ k. References.back_reference d (of_characters text) (denotes setting.table icase setting.flags.unicode) (k - 1)) ks)
+      (tree_of_references joined (references icase ks))
+  either_references_simulate d true icase ks =
+      Simulates-same_right text d _ _ _ (steps-joined setting (encode_utf8_all text) d forwards (list (references icase ks)))
+      (joined_references_simulate d icase ks)
+  either_references_simulate d false icase ks = alternation_simulates d _ (references icase ks) (references_simulate d icase ks)
+
   -- ---- classes with the flag v
 
   strings_simulate : (d : Direction) (icase : Bool) (strings : List (List ℕ)) →
@@ -268,8 +285,7 @@ module _ (setting : Setting) (names : List (Option Name)) (text : List ℕ) (is_
       class_set_simulates setting text is_text d (is_in_class setting.table flags false value.members) _ flags.icase negated value (λ x. refl)
   atom_simulates d (string_property flags written) = strings_simulate setting text is_text d flags.icase written
   atom_simulates d (back_reference flags to) =
-      alternation_simulates setting text is_text d _ (references flags.icase (referred names to))
-      (references_simulate setting text is_text d flags.icase (referred names to))
+      either_references_simulate setting text is_text d (is_joined to) flags.icase (referred names to)
 
   mutual
     -- The simulation holds up to repeated outcomes, whatever is before the pattern.

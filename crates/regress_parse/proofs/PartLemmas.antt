@@ -1,11 +1,12 @@
--- What holds of all parts of an alternation.
+-- What holds of all parts of an alternation, or of a concatenation.
 use Rattle.std.proofs.Common.{ℕ, Bool, true, false, cond, not, List, [], ◌∷◌, ◌++◌, All}
 use Rattle.std.proofs.lemmas.List.Elements.{All-nil, All-cons, All-head, All-tail, All-append, All-map}
 use Rattle.regress_base.specs.Intervals.{Bounds}
-use Rattle.regress_tree.specs.Tree.{Tree, leaf, alt, empty, char_set, bracket, back_ref, string_set}
+use Rattle.regress_tree.specs.Reading.{forwards}
+use Rattle.regress_tree.specs.Tree.{list, Tree, leaf, cat, alt, empty, char_set, bracket, back_ref, string_set}
 use Rattle.regress_classes.specs.ClassSets.{Value, has_strings}
 use Rattle.regress_syntax.specs.Meaning.{longest_first}
-use Rattle.regress_parse.specs.TreeOf.{alternation, references}
+use Rattle.regress_parse.specs.TreeOf.{alternation, concatenation, references}
 use Rattle.regress_parse.specs.ClassParts.{strings_part, bracket_part, empty_part, class_parts}
 
 module _ (P : Tree → Type 0) where
@@ -15,6 +16,12 @@ module _ (P : Tree → Type 0) where
   alternation-has none both (t ∷ next ∷ ts) h =
       both t (alternation (next ∷ ts)) (All-head P t (next ∷ ts) h)
       (alternation-has none both (next ∷ ts) (All-tail P t (next ∷ ts) h))
+
+  pub joined-has : P (leaf empty) → ((ts : List Tree) → All P ts → P (cat (list ts))) → (ts : List Tree) → All P ts →
+      P (concatenation forwards (list ts))
+  joined-has none both [] h = none
+  joined-has none both (t ∷ []) h = All-head P t [] h
+  joined-has none both (t ∷ next ∷ ts) h = both (t ∷ next ∷ ts) h
 
   pub references-have : (icase : Bool) (ks : List ℕ) → All (λ k. P (leaf (back_ref k icase))) ks → All P (references icase ks)
   references-have icase ks h = All-map P (λ k. leaf (back_ref k icase)) ks h

@@ -2,7 +2,7 @@
 use Rattle.std.proofs.Common.{◌≡◌, ◌≢◌, ℕ, ◌+◌, ◌≤◌, Bool, true, false, cond, nat_le, List, [], ◌∷◌, length, All, IsTrue, Option, Some, None, option_map, encode_utf8_all, sym, subst, arith}
 use Rattle.std.specs.Option.{IfSome}
 use Rattle.std.proofs.lemmas.Bool.{leb-true}
-use Rattle.std.proofs.lemmas.List.Elements.{All-nil, All-cons, All-head, All-weaker}
+use Rattle.std.proofs.lemmas.List.Elements.{All-nil, All-cons, All-head, All-tail, All-weaker}
 use Rattle.std.proofs.lemmas.Str.{encodes_same}
 use Rattle.regress_base.specs.Intervals.{intervals_of}
 use Rattle.regress_base.specs.Limits.{max_char_set_length}
@@ -11,7 +11,7 @@ use Rattle.regress_base.specs.declared.types.Quantifier.{Quantifier}
 use Rattle.regress_base.specs.Table.{class_of}
 use Rattle.regress_tree.specs.Reading.{Direction, forwards, backwards}
 use Rattle.regress_base.specs.Table.{Table, IsValidTable}
-use Rattle.regress_tree.specs.Tree.{Tree, Trees, no_trees, more_trees, char, match_any, match_any_except_line_terminator, bracket, back_ref, string_set}
+use Rattle.regress_tree.specs.Tree.{list, Tree, Trees, no_trees, more_trees, char, match_any, match_any_except_line_terminator, bracket, back_ref, string_set}
 use Rattle.regress_tree.specs.Steps.{Setting}
 use Rattle.regress_tree.specs.WellFormed.{inside, LeafIsAllowed, IsQuantifier, HasGroups, IsAllowed, PartsAllowed, IsWellFormed, captures}
 use Rattle.regress_base.proofs.lemmas.Literals.{class_of-bounded, class_of-few}
@@ -20,19 +20,19 @@ use Rattle.regress_classes.specs.ClassProductions.{members_of}
 use Rattle.regress_classes.specs.ClassSets.{Value}
 use Rattle.regress_lexer.specs.declared.dialect.Dialect.{Dialect}
 use Rattle.regress_lexer.specs.Source.{Source, IsCodePoint}
-use Rattle.regress_syntax.specs.Syntax.{Name, is_named, Target, by_number, by_name, Atom, literal, dot, anchor, boundary, class_escape, class, class_set, string_property, back_reference, Group, grouping, modified, capture, look, Pattern, Terms, Item, one, either, no_terms, more_terms, atom, group, opened_by, counts, counts_of_terms, counts_of_term, counts_of_item, names, direction_of_group, groups_named}
+use Rattle.regress_syntax.specs.Syntax.{Name, is_named, Target, by_number, by_name, by_name_if_set, is_joined, Atom, literal, dot, anchor, boundary, class_escape, class, class_set, string_property, back_reference, Group, grouping, modified, capture, look, Pattern, Terms, Item, one, either, no_terms, more_terms, atom, group, opened_by, counts, counts_of_terms, counts_of_term, counts_of_item, names, direction_of_group, groups_named}
 use Rattle.regress_syntax.specs.Meaning.{is_in_class, longest_first, referred}
 use Rattle.regress_syntax.specs.Productions.{Context, single, opens, context_inside, head_of_item, allows, optional_quantifier_at}
 use Rattle.regress_syntax.specs.Grammar.{IsPattern, AreTerms, IsItem}
 use Rattle.regress_classes.proofs.lemmas.ClassStrings.{OfCodePoints}
 use Rattle.regress_syntax.proofs.lemmas.NameEnds.{IsName}
 use Rattle.regress_syntax.proofs.lemmas.Productions.{head_at-ends, optional_quantifier_at-ends, optional_quantifier_at-ordered}
-use Rattle.regress_parse.specs.TreeOf.{concatenation, tree_of_group, tree_of_quantified, leaf_of_members, references, alternation, tree_of_class, tree_of_atom, tree_of_pattern, trees_of_terms, tree_of_item, tree_of, in_direction}
+use Rattle.regress_parse.specs.TreeOf.{concatenation, tree_of_group, tree_of_quantified, leaf_of_members, references, alternation, tree_of_references, tree_of_class, tree_of_atom, tree_of_pattern, trees_of_terms, tree_of_item, tree_of, in_direction}
 use Rattle.regress_parse.specs.Accepted.{IsDerivedIn, own_context_in}
 use Rattle.regress_parse.proofs.CodePointLemmas.{AreCodePoints, rest_of, after_found, IsGoodTarget, IsGoodAtom, IsGoodGroup, head_at-good}
 use Rattle.regress_parse.specs.ClassParts.{class_parts}
 use Rattle.regress_parse.proofs.ClassTreeLemmas.{tree_of_class-parts}
-use Rattle.regress_parse.proofs.PartLemmas.{alternation-has, references-have, class_parts-have}
+use Rattle.regress_parse.proofs.PartLemmas.{alternation-has, joined-has, references-have, class_parts-have}
 use Rattle.regress_parse.proofs.StringLemmas.{All-longest_first}
 use Rattle.regress_parse.proofs.GroupLemmas.{length-names, HasGroups-tree_of_item, HasGroups-tree_of_pattern, length-captures-tree_of, count_id-tree_of}
 
@@ -65,16 +65,34 @@ module _ (m : ℕ) where
   referred_are_groups : (all : List (Option Name)) (to : Target) → length all ≤ m → IsGoodTarget m to → All IsGroup (referred all to)
   referred_are_groups all (by_number k) few h = All-cons IsGroup k [] h (All-nil IsGroup)
   referred_are_groups all (by_name name) few h = named_are_groups name 1 all (omega arith) (omega arith)
+  referred_are_groups all (by_name_if_set name) few h = named_are_groups name 1 all (omega arith) (omega arith)
 
   alternation_may_occur : (ts : List Tree) → All (λ t. IsAllowed m t inside) ts → IsAllowed m (alternation ts) inside
   alternation_may_occur =
       alternation-has (λ t. IsAllowed m t inside) (record { bounded = All-nil _; small = omega arith; some = tt }) (λ t u h k. (tt, h, k))
 
-  references_may_occur : (icase : Bool) (ks : List ℕ) → All IsGroup ks → IsAllowed m (alternation (references icase ks)) inside
-  references_may_occur icase ks h =
-      alternation_may_occur (references icase ks)
-      (references-have (λ t. IsAllowed m t inside) icase ks
-      (All-weaker IsGroup (λ k. LeafIsAllowed m (back_ref k icase) inside) (λ k is. record { free = tt; low = is.0; high = is.1 }) ks h))
+  parts_may_occur : (ts : List Tree) → All (λ t. IsAllowed m t inside) ts → PartsAllowed m (list ts) inside
+  parts_may_occur [] h = tt
+  parts_may_occur (t ∷ []) h = All-head (λ t. IsAllowed m t inside) t [] h
+  parts_may_occur (t ∷ next ∷ ts) h = (
+    All-head (λ t. IsAllowed m t inside) t (next ∷ ts) h,
+    parts_may_occur (next ∷ ts) (All-tail (λ t. IsAllowed m t inside) t (next ∷ ts) h),
+  )
+
+  joined_may_occur : (ts : List Tree) → All (λ t. IsAllowed m t inside) ts → IsAllowed m (concatenation forwards (list ts)) inside
+  joined_may_occur = joined-has (λ t. IsAllowed m t inside) tt (λ ts h. (tt, parts_may_occur ts h))
+
+  references_may_occur : (joined icase : Bool) (ks : List ℕ) → All IsGroup ks →
+      IsAllowed m (tree_of_references joined (references icase ks)) inside
+  references_may_occur joined icase ks h =
+      let each =
+      references-have (λ t. IsAllowed m t inside) icase ks
+      (All-weaker IsGroup (λ k. LeafIsAllowed m (back_ref k icase) inside) (λ k is. record { free = tt; low = is.0; high = is.1 }) ks h) in
+      by joined each
+    where
+      by : (b : Bool) → All (λ t. IsAllowed m t inside) (references icase ks) → IsAllowed m (tree_of_references b (references icase ks)) inside
+      by true each = joined_may_occur (references icase ks) each
+      by false each = alternation_may_occur (references icase ks) each
 
   dot_may_occur : (dot_all : Bool) → LeafIsAllowed m (cond dot_all match_any match_any_except_line_terminator) inside
   dot_may_occur true = tt
@@ -121,7 +139,7 @@ module _ (m : ℕ) (table : Table) (lawful : IsValidTable table) where
       class_set_may_occur m flags.icase negated (is_in_class table flags false value.members) value h
   atom_may_occur all (string_property flags written) few h = strings_may_occur m flags.icase written h
   atom_may_occur all (back_reference flags to) few h =
-      references_may_occur m flags.icase (referred all to) (referred_are_groups m all to few h)
+      references_may_occur m (is_joined to) flags.icase (referred all to) (referred_are_groups m all to few h)
 
 -- ---- parts of a tree of m groups
 

@@ -3,7 +3,7 @@ use Rattle.std.specs.Prelude.{◌≡◌, ℕ, ◌-◌, Bool, List, [], ◌∷◌
 use Rattle.std.specs.declared.alloc.Global.{Global}
 use Rattle.regress_base.specs.declared.types.Quantifier.{Quantifier}
 use Rattle.regress_tree.specs.Reading.{Direction, forwards}
-use Rattle.regress_tree.specs.Tree.{Tree, leaf, alt}
+use Rattle.regress_tree.specs.Tree.{Tree, Trees, leaf, cat, alt, wrapped, no_trees, more_trees}
 use Rattle.regress_lexer.specs.Source.{Source}
 use Rattle.regress_syntax.specs.Syntax.{Pattern, Terms, Item}
 use Rattle.regress_syntax.specs.Productions.{Context, head_of_item, allows, optional_quantifier_at}
@@ -11,11 +11,24 @@ use Rattle.regress_syntax.specs.Grammar.{IsPattern, AreTerms, IsItem}
 use Rattle.regress_parse.specs.declared.span.Span.{Span}
 use Rattle.regress_parse.specs.Spans.{span_of_times, span_of_alternative, how_many, between, spans_of_pattern, spans_of_terms, spans_of_item}
 
+-- Each tree of the list is a leaf.
+abbrev pub AreLeaves : Trees → Type 0
+AreLeaves no_trees = Unit {0}
+AreLeaves (more_trees (leaf l) ts) = AreLeaves ts
+AreLeaves (more_trees other ts) = ⊥
+
 -- one node, or a chain of `Alt` nodes whose alternatives are leaves
+abbrev pub IsChain : Tree → Type 0
+IsChain (leaf l) = Unit {0}
+IsChain (alt (leaf l) right) = IsChain right
+IsChain other = ⊥
+
+-- that, or a `Cat` of leaves
 abbrev pub IsFlat : Tree → Type 0
-IsFlat (leaf l) = Unit {0}
-IsFlat (alt (leaf l) right) = IsFlat right
-IsFlat other = ⊥
+IsFlat (cat parts) = AreLeaves parts
+IsFlat (leaf l) = IsChain (leaf l)
+IsFlat (alt left right) = IsChain (alt left right)
+IsFlat (wrapped w body) = IsChain (wrapped w body)
 
 -- the spans of parts in reverse order
 abbrev pub joined_in_reverse : List (Vec Span Global) → List Span

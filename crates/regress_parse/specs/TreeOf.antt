@@ -6,12 +6,12 @@ use Rattle.regress_base.specs.declared.types.Quantifier.{Quantifier}
 use Rattle.regress_tree.specs.Reading.{Direction, forwards, backwards}
 use Rattle.regress_base.specs.Table.{class_of}
 use Rattle.regress_base.specs.Table.{Table}
-use Rattle.regress_tree.specs.Tree.{Leaf, empty, goal, char, char_set, match_any, match_any_except_line_terminator, word_boundary, bracket, back_ref, string_set, Tree, Trees, leaf, cat, alt, wrapped, capture_group, loop, lookaround, no_trees, more_trees}
+use Rattle.regress_tree.specs.Tree.{list, Leaf, empty, goal, char, char_set, match_any, match_any_except_line_terminator, word_boundary, bracket, back_ref, string_set, Tree, Trees, leaf, cat, alt, wrapped, capture_group, loop, lookaround, no_trees, more_trees}
 use Rattle.regress_tree.specs.Tree as tree
 pub use Rattle.regress_tree.specs.Matching.{in_direction}
 use Rattle.regress_classes.specs.ClassProductions.{members_of}
 use Rattle.regress_classes.specs.ClassSets.{Value}
-use Rattle.regress_syntax.specs.Syntax.{Name, Atom, literal, dot, anchor, boundary, class_escape, class, class_set, string_property, back_reference, Group, grouping, modified, capture, look, Pattern, Terms, Item, one, either, no_terms, more_terms, atom, group, opened_by, counts_of_item, counts_of_terms, counts_of_term, names, direction_of_group}
+use Rattle.regress_syntax.specs.Syntax.{Name, is_joined, Atom, literal, dot, anchor, boundary, class_escape, class, class_set, string_property, back_reference, Group, grouping, modified, capture, look, Pattern, Terms, Item, one, either, no_terms, more_terms, atom, group, opened_by, counts_of_item, counts_of_terms, counts_of_term, names, direction_of_group}
 use Rattle.regress_syntax.specs.Meaning.{is_in_class, longest_first, referred}
 
 -- the tree of an alternative: `Empty` for no part, the part itself for one, a `Cat` for several
@@ -58,6 +58,10 @@ alternation (t ∷ next ∷ ts) = alt t (alternation (next ∷ ts))
 abbrev pub references : (icase : Bool) → List ℕ → List Tree
 references icase = map (λ k. leaf (back_ref k icase))
 
+-- the tree of references that are tried in order, or joined
+abbrev pub tree_of_references : (joined : Bool) → List Tree → Tree
+tree_of_references joined ts = if joined then concatenation forwards (list ts) else alternation ts
+
 -- a tree, and after it the empty string, if the class has it
 abbrev pub or_empty : (has_empty : Bool) → Tree → Tree
 or_empty false t = t
@@ -90,7 +94,7 @@ module _ (table : Table) (names : List (Option Name)) where
   tree_of_atom (class_set flags negated value) =
       tree_of_class flags.icase negated value (intervals_of (is_in_class table flags false value.members))
   tree_of_atom (string_property flags written) = leaf (string_set written flags.icase)
-  tree_of_atom (back_reference flags to) = alternation (references flags.icase (referred names to))
+  tree_of_atom (back_reference flags to) = tree_of_references (is_joined to) (references flags.icase (referred names to))
 
   -- the trees in a direction, after n opened groups
   abbrev mutual

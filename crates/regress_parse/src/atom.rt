@@ -301,7 +301,7 @@ fn read_named(cursor: &mut Cursor, scope: &Scope, begin: usize) -> Result<Node, 
     ensures kind { FailsByNoLimit result }
 {
     let groups = parse_reference(cursor, scope, begin)?;
-    Ok(make_references(cursor.alloc, groups, scope.flags.icase)?)
+    Ok(make_references(cursor.alloc, groups, scope)?)
 }
 
 /// Returns whether the escape is a `c` without a letter after it, and without the flag u: then the backslash is a

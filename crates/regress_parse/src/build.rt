@@ -1,5 +1,5 @@
 //! Builds nodes from parts.
-ghost use Rattle.std.specs.Prelude.{◌≡◌, ℕ, Bool, false, List, ◌∷◌, ◌++◌, Some, IfOk, OnOk, map, option_map, string_bytes, encode_utf8_all};
+ghost use Rattle.std.specs.Prelude.{◌≡◌, ℕ, Bool, false, not, List, ◌∷◌, ◌++◌, Some, IfOk, OnOk, map, option_map, string_bytes, encode_utf8_all};
 ghost use Rattle.regress_tree.specs.Assertions.{differ};
 ghost use Rattle.regress_base.specs.Intervals.{Bounds, intervals_of};
 ghost use Rattle.regress_tree.specs.Reading.{direction_if};
@@ -7,6 +7,7 @@ ghost use Rattle.regress_tree.specs.Tree.{tree, trees, leaf, bracket, string_set
 ghost use Rattle.regress_unicode.specs.TableOf.{table_of};
 ghost use Rattle.regress_classes.specs.ClassSets.{Value as WrittenValue};
 ghost use Rattle.regress_syntax.specs.Meaning.{is_in_class, longest_first};
+ghost use Rattle.regress_lexer.specs.Dialects.{tries_references};
 ghost use Rattle.regress_lexer.specs.Source.{IsCodePoint};
 ghost use Rattle.regress_classes.specs.ClassProductions.{members_of};
 ghost use Rattle.regress_syntax.specs.Syntax.{dot, anchor, boundary};
@@ -14,7 +15,7 @@ ghost use Rattle.regress_syntax.specs.Productions.{point_property};
 ghost use Rattle.regress_syntax.specs.Views.{context_of, names_in, group_of};
 ghost use Rattle.regress_classes.specs.ClassViews.{IsValue, HasMembers, strings_of};
 ghost use Rattle.regress_parse.specs.ClassParts.{strings_part, bracket_part, empty_part};
-ghost use Rattle.regress_parse.specs.TreeOf.{in_direction, concatenation, leaf_of_members, leaf_of_literal, references, alternation, tree_of_class, tree_of_atom, tree_of_group, tree_of_quantified};
+ghost use Rattle.regress_parse.specs.TreeOf.{in_direction, concatenation, leaf_of_members, leaf_of_literal, references, alternation, tree_of_references, tree_of_class, tree_of_atom, tree_of_group, tree_of_quantified};
 ghost use Rattle.regress_parse.specs.Parsing.{alternatives, Pushes};
 
 use regress_base::charclasses::CharacterClassType;
@@ -59,20 +60,39 @@ pub(crate) fn make_boundary(inverted: bool, scope: &Scope) -> Node
     }
 }
 
-/// Returns the node of references to these groups, which are tried in order. Most references are to one group.
+/// Returns the node of references to these groups, which are tried in order, or joined. Most references are to one
+/// group.
 pub(crate) fn make_references(
     alloc: Global,
     groups: &[u32],
-    icase: bool,
+    scope: &Scope,
 ) -> Result<Node, AllocError>
-    ensures { IfOk result (λ node. tree node ≡ alternation (references icase groups.now)) }
+    ensures { IfOk result (λ node. tree node
+        ≡ tree_of_references (not (tries_references scope.now.dialect)) (references scope.now.flags.icase groups.now)) }
 {
+    let icase = scope.flags.icase;
     if let [group] = groups {
         return Ok(Node::BackRef {
             group: *group,
             icase,
         });
     }
+    let references = make_each_reference(alloc, groups, icase)?;
+    if scope.dialect.tries_references() {
+        make_alternation(alloc, references)
+    } else {
+        Ok(make_cat(references, false))
+    }
+}
+
+/// Returns a reference to each of these groups.
+fn make_each_reference(
+    alloc: Global,
+    groups: &[u32],
+    icase: bool,
+) -> Result<NodeList, AllocError>
+    ensures { IfOk result (λ nodes. map tree nodes.items ≡ references icase groups.now) }
+{
     let mut references = Vec::new(alloc);
     for group in groups {
         references.push(Node::BackRef {
@@ -80,7 +100,7 @@ pub(crate) fn make_references(
             icase,
         })?;
     }
-    make_alternation(alloc, references)
+    Ok(references)
 }
 
 /// Returns the node of parts that are tried in order. Without a part nothing matches.

@@ -3,7 +3,7 @@ ghost use Rattle.std.specs.Prelude.{◌≡◌, true, false, [], ◌∷◌, ◌++
 ghost use Rattle.regress_lexer.specs.Views.{source};
 ghost use Rattle.regress_tree.specs.Tree.{tree};
 ghost use Rattle.regress_tree.specs.Visits.{nodes};
-ghost use Rattle.regress_parse.specs.Recorded.{IsFlat, joined_in_reverse, span_to, alternations};
+ghost use Rattle.regress_parse.specs.Recorded.{IsChain, IsFlat, joined_in_reverse, span_to, alternations};
 ghost use Rattle.regress_parse.specs.Spans.{has_node};
 ghost use Rattle.regress_parse.specs.declared.span.Span.{Span};
 ghost use Rattle.regress_syntax.specs.Views.{group_of};
@@ -51,10 +51,31 @@ pub(crate) fn record_nodes<const RECORDS: bool>(
     }
 }
 
-/// Appends the span of an item once for each node of the item: one node, or a chain of `Alt` nodes whose alternatives
-/// are leaves.
+/// Appends the span of an item once for each node of the item: one node, a `Cat` of leaves, or a chain of `Alt` nodes
+/// whose alternatives are leaves.
 fn push_nodes(spans: &mut Vec<Span>, item: &Node, span: Span) -> Result<(), AllocError>
     ensures { IsFlat (tree item.now) → OnOk result (spans.new.items ≡ spans.old.items ++ replicate (nodes (tree item.now)) span) }
+{
+    match item {
+        Node::Cat(parts) => push_copies(spans, span, parts.len() + 1),
+        _ => push_alternatives(spans, item, span),
+    }
+}
+
+/// Appends the span `count` times.
+fn push_copies(spans: &mut Vec<Span>, span: Span, count: usize) -> Result<(), AllocError>
+    ensures { OnOk result (spans.new.items ≡ spans.old.items ++ replicate count span) }
+{
+    for _i in 0..count {
+        spans.push(span)?;
+    }
+    Ok(())
+}
+
+/// Appends the span of an item once for each of its nodes: one node, or a chain of `Alt` nodes whose alternatives are
+/// leaves.
+fn push_alternatives(spans: &mut Vec<Span>, item: &Node, span: Span) -> Result<(), AllocError>
+    ensures { IsChain (tree item.now) → OnOk result (spans.new.items ≡ spans.old.items ++ replicate (nodes (tree item.now)) span) }
 {
     let mut last = item;
     while let Node::Alt(_, right) = last {

@@ -7,8 +7,8 @@ use Rattle.regress_lexer.specs.Escapes.{begins_with_digit}
 use Rattle.regress_lexer.specs.Quantifiers.{count_at}
 use Rattle.regress_lexer.proofs.lemmas.Digits.{front_digit}
 use Rattle.regress_syntax.specs.Names.{group_name_at}
-use Rattle.regress_syntax.specs.Productions.{Context, has_name, name_reference_at}
-use Rattle.regress_syntax.specs.Syntax.{Name, is_named, by_name, back_reference, groups_named}
+use Rattle.regress_syntax.specs.Productions.{Context, has_name, name_reference_at, named_target}
+use Rattle.regress_syntax.specs.Syntax.{Name, is_named, back_reference, groups_named}
 
 -- A saturating count decides whether a number is at most the number of groups.
 pub count-is : (t : Source) → begins_with_digit t ≡ true →
@@ -39,10 +39,10 @@ has_name-groups name n (other ∷ names) = by (is_named name other) (has_name-gr
 module _ (ctx : Context) where
   -- The result after `\k`, once a name is parsed.
   pub named-some : (t : Source) (name : Name) (rest : Source) → group_name_at ctx.setting.table t ≡ Some (name, rest) →
-      groups_named name 1 ctx.names ≢ [] → name_reference_at ctx t ≡ Some (back_reference ctx.setting.flags (by_name name), rest)
+      groups_named name 1 ctx.names ≢ [] → name_reference_at ctx t ≡ Some (back_reference ctx.setting.flags (named_target ctx.dialect name), rest)
   named-some t name rest found some =
       ap (λ found. found >>= λ (x : Name × Source).
-      cond (has_name x.0 ctx.names) (Some (back_reference ctx.setting.flags (by_name x.0), x.1)) None) found
+      cond (has_name x.0 ctx.names) (Some (back_reference ctx.setting.flags (named_target ctx.dialect x.0), x.1)) None) found
       ∙ cond-true (has_name name ctx.names) _ _
       (⊎_elim (λ (has : has_name name ctx.names ≡ true). has)
       (λ (lacks : has_name name ctx.names ≡ false). absurd (some ((has_name-groups name 1 ctx.names).1 lacks)))
@@ -52,7 +52,7 @@ module _ (ctx : Context) where
       groups_named name 1 ctx.names ≡ [] → name_reference_at ctx t ≡ None
   named-unknown t name rest found none =
       ap (λ found. found >>= λ (x : Name × Source).
-      cond (has_name x.0 ctx.names) (Some (back_reference ctx.setting.flags (by_name x.0), x.1)) None) found
+      cond (has_name x.0 ctx.names) (Some (back_reference ctx.setting.flags (named_target ctx.dialect x.0), x.1)) None) found
       ∙ cond-false (has_name name ctx.names) _ _
       (⊎_elim (λ (has : has_name name ctx.names ≡ true). absurd ((has_name-groups name 1 ctx.names).0 has none))
       (λ (lacks : has_name name ctx.names ≡ false). lacks)

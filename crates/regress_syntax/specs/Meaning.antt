@@ -15,7 +15,7 @@ use Rattle.regress_base.specs.Table.{Table, denotes, is_in_closure}
 use Rattle.regress_tree.specs.Assertions.{is_line_terminator, is_word_character, at_anchor, differ, at_boundary}
 use Rattle.regress_tree.specs.Repetition.{repeat_matcher}
 use Rattle.regress_classes.specs.ClassProductions.{members_of}
-use Rattle.regress_syntax.specs.Syntax.{Name, Target, by_number, by_name, Atom, literal, dot, anchor, boundary, class_escape, class, class_set, string_property, back_reference, Group, grouping, modified, capture, look, Pattern, Terms, Item, one, either, no_terms, more_terms, atom, group, opened_by, counts_of_item, counts_of_terms, counts_of_term, names, groups_named, direction_of_group}
+use Rattle.regress_syntax.specs.Syntax.{Name, Target, by_number, by_name, by_name_if_set, is_joined, Atom, literal, dot, anchor, boundary, class_escape, class, class_set, string_property, back_reference, Group, grouping, modified, capture, look, Pattern, Terms, Item, one, either, no_terms, more_terms, atom, group, opened_by, counts_of_item, counts_of_terms, counts_of_term, names, groups_named, direction_of_group}
 
 -- the setting of a match: the flags, and the table in the value
 abbrev pub setting_of : Flags → Tables → Setting
@@ -58,12 +58,22 @@ group_steps n (look negate direction) body = Lookaround.lookaround_matcher negat
 abbrev pub referred : List (Option Name) → Target → List ℕ
 referred all (by_number k) = k ∷ []
 referred all (by_name name) = groups_named name 1 all
+referred all (by_name_if_set name) = groups_named name 1 all
 
 -- references to these groups, tried in order as alternatives are
 abbrev pub any_reference : (ℕ → Matcher) → List ℕ → Matcher
 any_reference refer [] = fail
 any_reference refer (k ∷ []) = refer k
 any_reference refer (k ∷ next ∷ ks) = refer k or_ any_reference refer (next ∷ ks)
+
+-- references to these groups, one after the other
+abbrev pub each_reference : (ℕ → Matcher) → List ℕ → Matcher
+each_reference refer [] = stay
+each_reference refer (k ∷ ks) = refer k then_ each_reference refer ks
+
+-- references to these groups: tried in order, or joined
+abbrev pub reference_steps : (joined : Bool) → (ℕ → Matcher) → List ℕ → Matcher
+reference_steps joined refer ks = if joined then each_reference refer ks else any_reference refer ks
 
 -- A quantified item, whose captures are those of the groups start to end - 1 (ECMA-262, RepeatMatcher). Length + 1
 -- iterations suffice, since no more can each consume something in a text of this length.
@@ -105,7 +115,7 @@ module _ (setting : Setting) (names : List (Option Name)) (text : List ℕ) wher
   atom_steps d (string_property flags written) = one_of_strings d flags written
   -- No group changes the flag u, so the flag is that of the setting.
   atom_steps d (back_reference flags to) =
-      any_reference (λ k. References.back_reference d (of_characters text) (denotes setting.table flags.icase setting.flags.unicode) (k - 1))
+      reference_steps (is_joined to) (λ k. References.back_reference d (of_characters text) (denotes setting.table flags.icase setting.flags.unicode) (k - 1))
       (referred names to)
 
   -- the outcomes, with duplicates, of a part of the pattern that follows n opened capture groups

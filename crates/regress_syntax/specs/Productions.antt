@@ -9,7 +9,7 @@ use Rattle.regress_tree.specs.Steps.{Setting}
 use Rattle.regress_tree.specs.Reading.{forwards, backwards}
 use Rattle.regress_base.specs.Table.{Table}
 use Rattle.regress_lexer.specs.declared.dialect.Dialect.{Dialect}
-use Rattle.regress_lexer.specs.Dialects.{quantifies_boundaries}
+use Rattle.regress_lexer.specs.Dialects.{quantifies_boundaries, tries_references}
 use Rattle.regress_lexer.specs.Source.{Source, Found, ◌>>=◌, found_map, Production, when, otherwise, first_production, char, is_one_of, opening, full_stop, colon, question_mark, is_at, is_plain}
 use Rattle.regress_lexer.specs.Digits.{is_between, is_decimal, number, front, after}
 use Rattle.regress_lexer.specs.Escapes.{begins_with_letter, character_escape_at}
@@ -20,7 +20,7 @@ use Rattle.regress_classes.specs.ClassProductions.{complement, class_letter, cla
 use Rattle.regress_classes.specs.ClassSets.{class_set_at}
 use Rattle.regress_lexer.specs.Modifiers.{changed, modifiers_at}
 use Rattle.regress_syntax.specs.Names.{group_name_at}
-use Rattle.regress_syntax.specs.Syntax.{Name, is_named, by_number, by_name, Atom, literal, dot, anchor, boundary, class_escape, class, class_set, string_property, back_reference, Group, grouping, modified, capture, look, Item, atom, group}
+use Rattle.regress_syntax.specs.Syntax.{Name, is_named, Target, by_number, by_name, by_name_if_set, Atom, literal, dot, anchor, boundary, class_escape, class, class_set, string_property, back_reference, Group, grouping, modified, capture, look, Item, atom, group}
 
 -- The context on which the productions depend besides the source: the dialect, the flags in force and the Unicode table,
 -- and the number of capture groups of the whole pattern with their names, `None` for a group without a name.
@@ -111,6 +111,10 @@ has_names names = list_any is_some names
 abbrev pub has_name : Name → List (Option Name) → Bool
 has_name name names = list_any (is_named name) names
 
+-- what a reference by this name refers to
+abbrev pub named_target : Dialect → Name → Target
+named_target dialect name = if tries_references dialect then by_name name else by_name_if_set name
+
 -- the parameters of the productions of a class
 abbrev pub class_parameters : Context → Parameters
 class_parameters ctx = record { dialect = ctx.dialect; unicode = ctx.setting.flags.unicode; named = has_names ctx.names }
@@ -156,7 +160,7 @@ module _ (ctx : Context) where
   abbrev pub name_reference_at : Source → Found Atom
   name_reference_at t =
       group_name_at ctx.setting.table t >>= λ (name, rest).
-      if has_name name ctx.names then Some (back_reference ctx.setting.flags (by_name name), rest) else None
+      if has_name name ctx.names then Some (back_reference ctx.setting.flags (named_target ctx.dialect name), rest) else None
 
   -- the productions of an escape that is no class and begins with c, after its backslash
   abbrev pub escape_productions : ℕ → Source → List (Production Atom)

@@ -1,5 +1,5 @@
 -- The syntax tree of a pattern.
-use Rattle.std.specs.Prelude.{ℕ, ◌+◌, max, Bool, false, List, [], ◌∷◌, ◌++◌, Option, Some, None, if◌then◌else◌}
+use Rattle.std.specs.Prelude.{ℕ, ◌+◌, max, Bool, true, false, List, [], ◌∷◌, ◌++◌, Option, Some, None, if◌then◌else◌}
 use Rattle.std.specs.Str.{bytes_eq}
 use Rattle.regress_base.specs.Intervals.{Bounds}
 use Rattle.regress_base.specs.declared.charclasses.CharacterClassType.{CharacterClassType}
@@ -25,10 +25,18 @@ groups_named name n [] = []
 groups_named name n (other ∷ names) =
     if is_named name other then n ∷ groups_named name (n + 1) names else groups_named name (n + 1) names
 
--- the groups that a backreference names: one group by its number, from 1, or all groups of a name
+-- the groups that a backreference names: one group by its number, from 1, or all groups of a name, which are tried in
+-- order, or of which at most one is set
 pub data Target : Type 0 where
   by_number : (number : ℕ) → Target
   by_name : (name : Name) → Target
+  by_name_if_set : (name : Name) → Target
+
+-- whether references to the groups follow each other, where those to groups that are not set match the empty string
+abbrev pub is_joined : Target → Bool
+is_joined (by_number k) = false
+is_joined (by_name name) = false
+is_joined (by_name_if_set name) = true
 
 -- An item without a body. Each has the flags in force at its position.
 pub data Atom : Type 0 where

@@ -6,9 +6,9 @@ use Rattle.regress_syntax.specs.declared.scope.Scope.{Scope}
 use Rattle.regress_syntax.specs.declared.group.Group.{Group as CodeGroup}
 use Rattle.regress_syntax.specs.declared.group.Group.TheVariants as groups
 use Rattle.regress_syntax.specs.declared.groups.Groups.{Groups}
-use Rattle.regress_syntax.specs.Meaning.{referred, setting_of}
-use Rattle.regress_syntax.specs.Syntax.{Name, Target, Atom, back_reference, Group, grouping, modified, capture, look}
-use Rattle.regress_syntax.specs.Productions.{Context}
+use Rattle.regress_syntax.specs.Meaning.{setting_of}
+use Rattle.regress_syntax.specs.Syntax.{Name, groups_named, Atom, back_reference, Group, grouping, modified, capture, look}
+use Rattle.regress_syntax.specs.Productions.{Context, named_target}
 
 -- the name of each group
 abbrev pub names_in : Groups → List (Option Name)
@@ -26,7 +26,7 @@ context_of scope = record {
 -- The numbers are those of the groups that this backreference names.
 abbrev pub AreReferences : Context → List ℕ → Atom → Type 0
 AreReferences ctx numbers a =
-    (to : Target) × (a ≡ back_reference ctx.setting.flags to) × (numbers ≡ referred ctx.names to)
+    (name : Name) × (a ≡ back_reference ctx.setting.flags (named_target ctx.dialect name)) × (numbers ≡ groups_named name 1 ctx.names)
 
 -- a group of the code
 abbrev pub group_of : CodeGroup → Group

@@ -1,27 +1,18 @@
-use Rattle.std.proofs.Common.{◌++◌, [], ◌∷◌, List, replicate, sym, ap, ◌∙◌, subst}
-use Rattle.regress_tree.specs.Tree.{Tree, tree}
+use Rattle.std.proofs.Common.{◌≡◌, ◌++◌, ◌+◌, ℕ, List, Result, Ok, Err, OnOk, length, map, replicate, sym, ap, subst, ◌∙◌, arith}
+use Rattle.std.proofs.lemmas.List.{length-map}
+use Rattle.regress_tree.specs.Tree.{Tree, tree, trees}
 use Rattle.regress_tree.specs.Visits.{nodes}
-use Rattle.regress_tree.proofs.lemmas.Nodes.{tree-Alt}
+use Rattle.regress_tree.proofs.lemmas.Nodes.{tree-Cat}
 use Rattle.regress_parse.specs.declared.span.Span.{Span}
 use Rattle.regress_parse.specs.Recorded.{IsFlat}
-use Rattle.regress_parse.proofs.FlatLemmas.{flat-alt}
+use Rattle.regress_parse.proofs.FlatLemmas.{leaves-nodes}
 use Rattle.regress_parse.proofs.recording.push_nodes.Goals as goal
 
-pub loop-last-preserved : goal.loop-last-preserved
-loop-last-preserved c flat =
-    let s = c.args.span in
-    let before = c.loop-last.spans.items in
-    let left = tree c.in-Alt.field-0.value in
-    let right = tree c.in-Alt.right.value in
-    let is = ap tree c.in-Alt.is ∙ tree-Alt c.in-Alt.field-0 c.in-Alt.right in
-    let here = c.loop-last.invariant flat in
-    let both = flat-alt left right before s (subst IsFlat is here.0) in
-    let below = ap tree c.deref-last.ensures in (
-      subst IsFlat (sym below) both.0,
-      ap (λ (t : Tree). c.push-in-Alt.new.self.items ++ replicate (nodes t) s) below
-          ∙ ap (λ (ss : List Span). ss ++ replicate (nodes right) s)
-          (c.in_ok-push-2.ensures.items ∙ ap (λ (ss : List Span). ss ++ s ∷ []) c.in_ok-push.ensures.items)
-          ∙ sym both.1
-          ∙ ap (λ (t : Tree). before ++ replicate (nodes t) s) (sym is)
-          ∙ here.1,
-    )
+pub returns-in-Cat : goal.returns-in-Cat
+returns-in-Cat c flat =
+    let is = ap tree c.in-Cat.is ∙ tree-Cat c.in-Cat.parts in
+    let count : nodes (tree c.args.item.now) ≡ length c.in-Cat.parts.items + 1 =
+    ap nodes is
+    ∙ omega (arith, leaves-nodes (map tree c.in-Cat.parts.items) (subst IsFlat is flat), length-map c.in-Cat.parts.items tree) in
+    subst (λ n. OnOk c.push_copies.result (c.push_copies.new.spans.items ≡ c.args.spans.now.items ++ replicate n c.args.span))
+    (ap (λ n. n + 1) (c.len.ensures ∙ c.in-Cat.parts.ok.0) ∙ sym count) c.push_copies.ensures

@@ -1,6 +1,7 @@
 use Rattle.std.proofs.Common.{◌≡◌, Some, option_map, refl, sym, ap, ◌∙◌, ℕ, List}
 use Rattle.regress_syntax.specs.Names.{group_name_at}
-use Rattle.regress_syntax.specs.Syntax.{by_name, back_reference, groups_named}
+use Rattle.regress_syntax.specs.Productions.{named_target}
+use Rattle.regress_syntax.specs.Syntax.{back_reference, groups_named}
 use Rattle.regress_syntax.specs.Views.{context_of}
 use Rattle.regress_lexer.specs.Views.{source}
 use Rattle.regress_syntax.proofs.ReferenceLemmas.{named-some, named-unknown}
@@ -38,8 +39,8 @@ returns-clause-value c =
     let found : group_name_at ctx.setting.table (source c.args.cursor.now) ≡ Some (name, c.in-Some.rest.now) =
     sym c.in_ok-name.ensures ∙ ap (option_map (λ found. (found.0.items, found.1.now))) c.in-Some.is in
     let numbers = c.numbers_of-numbers.ensures ∙ ap (λ (name : List ℕ). groups_named name 1 ctx.names) c.deref.ensures.value in (
-      back_reference ctx.setting.flags (by_name name),
+      back_reference ctx.setting.flags (named_target ctx.dialect name),
       named-some ctx (source c.args.cursor.now) name c.in-Some.rest.now found
           (λ none. length-some _ (sym c.is_empty.ensures ∙ c.if-is_empty.false) (numbers ∙ none)),
-      (by_name name, refl, numbers),
+      (name, refl, numbers),
     )
