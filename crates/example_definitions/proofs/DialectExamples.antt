@@ -1,12 +1,14 @@
--- Examples: what the dialects accept. In the dialect `Ecma` the results are those of V8 11.3.
-use Rattle.std.proofs.Common.{◌≡◌, false, true, Some, None, refl, codes}
+-- Examples: what the dialects accept, and what references to several groups match. In the dialect `Ecma` the results are
+-- those of V8 11.3, and those of patterns with several groups of one name follow from ECMA-262.
+use Rattle.std.proofs.Common.{◌≡◌, false, true, [], ◌∷◌, Some, None, refl, codes}
 use Rattle.regress_base.specs.declared.types.Flags.{Flags}
 use Rattle.regress_tree.specs.Steps.{Setting}
 use Rattle.regress_lexer.specs.declared.dialect.Dialect.TheVariants.{Regress, Ecma}
 use Rattle.regress_lexer.specs.Dialects.{flags_in_force}
 use Rattle.regress_syntax.specs.Syntax.{Pattern, one, no_terms, more_terms, atom, literal, boundary}
 use Rattle.example_definitions.proofs.PatternExamples.{letter, word, quantifier}
-use Rattle.example_definitions.proofs.Meanings.{no_flags, plain, named, unicode, pattern_in}
+use Rattle.regress_lexer.specs.Source.{Source}
+use Rattle.example_definitions.proofs.Meanings.{no_flags, plain, named, unicode, pattern_in, GivesIn, from, at, unset, span}
 
 -- ---- flags
 
@@ -101,7 +103,7 @@ unfolding pattern_in
 four_digits_make_an_escape_in_ecma = refl
 
 -- In the name of a group braces make an escape in every mode.
-in_a_name_they_make_an_escape_in_ecma : pattern_in Ecma named (codes "(?<\\u{61}>x)\\k<a>") ≡ pattern_in Regress named (codes "(?<a>x)\\k<a>")
+in_a_name_they_make_an_escape_in_ecma : pattern_in Ecma named (codes "(?<\\u{61}>x)\\k<a>") ≡ pattern_in Ecma named (codes "(?<a>x)\\k<a>")
 unfolding pattern_in
 in_a_name_they_make_an_escape_in_ecma = refl
 
@@ -118,3 +120,23 @@ k_beside_a_name = refl
 k_without_a_name_in_ecma : pattern_in Ecma plain (codes "(x)[\\k]") ≡ pattern_in Regress plain (codes "(x)[k]")
 unfolding pattern_in
 k_without_a_name_in_ecma = refl
+
+-- ---- references to several groups of one name
+
+-- In `Ecma` one matches what the group that is set has captured, and the empty string if none is set.
+abbrev two_names : Source
+two_names = codes "(?:(?<a>x)|(?<a>y)|z)\\k<a>"
+
+a_reference_takes_the_group_that_is_set_in_ecma :
+    GivesIn Ecma named two_names (codes "yy") (from 0 (at 2 (unset ∷ span 0 1 ∷ []) ∷ []) ∷ [])
+    × GivesIn Ecma named two_names (codes "xx") (from 0 (at 2 (span 0 1 ∷ unset ∷ []) ∷ []) ∷ [])
+    × GivesIn Ecma named two_names (codes "xy") (from 0 [] ∷ [])
+    × GivesIn Ecma named two_names (codes "z") (from 0 (at 1 (unset ∷ unset ∷ []) ∷ []) ∷ [])
+unfolding GivesIn
+a_reference_takes_the_group_that_is_set_in_ecma = ((refl, refl), (refl, refl), (refl, refl), (refl, refl))
+
+-- In `Regress` it tries each of them, and a group that is not set matches the empty string.
+a_reference_tries_each_group : GivesIn Regress named two_names (codes "yy")
+    (from 0 (at 1 (unset ∷ span 0 1 ∷ []) ∷ at 2 (unset ∷ span 0 1 ∷ []) ∷ []) ∷ [])
+unfolding GivesIn
+a_reference_tries_each_group = (refl, refl)

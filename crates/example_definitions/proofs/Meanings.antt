@@ -107,29 +107,34 @@ abbrev pub start : Pattern → ℕ → MatchState
 start p position = record { position = position; captures = replicate (counts p).groups None }
 
 -- the outcomes of the pattern on the text, from each of the positions
-unfoldable pub outcomes : Setting → Source → List ℕ → List ℕ → Option (List (List MatchState))
-unfolding pattern_of one_character hold_at captures repeat_matcher lookaround_matcher back_reference any_string same_state is_in_closure mapped small_table
-outcomes setting source text positions =
-    option_map (λ p. map (λ k. meaning setting text forwards p (start p k)) positions) (pattern_of setting source)
+unfoldable pub outcomes : Dialect → Setting → Source → List ℕ → List ℕ → Option (List (List MatchState))
+unfolding pattern_in one_character hold_at captures repeat_matcher lookaround_matcher back_reference any_string same_state is_in_closure mapped small_table
+outcomes dialect setting source text positions =
+    option_map (λ p. map (λ k. meaning setting text forwards p (start p k)) positions) (pattern_in dialect setting source)
 
 -- the outcomes of the pattern's tree on the bytes of the text, from the same positions
-unfoldable pub tree_outcomes : Setting → Source → List ℕ → List ℕ → Option (List (List MatchState))
+unfoldable pub tree_outcomes : Dialect → Setting → Source → List ℕ → List ℕ → Option (List (List MatchState))
 unfolding outcomes chars encode_utf8 character_at read_after read_before byte_position
-tree_outcomes setting source text positions =
+tree_outcomes dialect setting source text positions =
     option_map
     (λ p. map (λ k. matches setting (encode_utf8_all text) forwards (tree_of setting.table p) (byte_state text (start p k))) positions)
-    (pattern_of setting source)
+    (pattern_in dialect setting source)
 
 -- a position, and the outcomes from there
 abbrev pub TestCase : Type 0
 TestCase = ℕ × List MatchState
 
--- The source is a pattern with these outcomes on the text, and its tree has the same, as byte offsets.
-unfoldable pub Gives : Setting → Source → List ℕ → List TestCase → Type 0
+-- The source is a pattern of the dialect with these outcomes on the text, and its tree has the same, as byte offsets.
+unfoldable pub GivesIn : Dialect → Setting → Source → List ℕ → List TestCase → Type 0
 unfolding outcomes tree_outcomes
-Gives setting source text searches =
-    (outcomes setting source text (map (λ r. r.0) searches) ≡ Some (map (λ r. r.1) searches))
-    × (tree_outcomes setting source text (map (λ r. r.0) searches) ≡ Some (map (λ r. map (byte_state text) r.1) searches))
+GivesIn dialect setting source text searches =
+    (outcomes dialect setting source text (map (λ r. r.0) searches) ≡ Some (map (λ r. r.1) searches))
+    × (tree_outcomes dialect setting source text (map (λ r. r.0) searches) ≡ Some (map (λ r. map (byte_state text) r.1) searches))
+
+-- the same in the dialect of `try_parse`
+unfoldable pub Gives : Setting → Source → List ℕ → List TestCase → Type 0
+unfolding GivesIn
+Gives = GivesIn Regress
 
 -- short forms of test cases and outcomes: a position, and the capture of each group
 abbrev pub from : ℕ → List MatchState → TestCase

@@ -17,7 +17,7 @@ use Rattle.regress_parse.specs.Accepted.{IsAcceptedIn, OneIsDerivedIn, OfAccepte
 use Rattle.regress_front.specs.Optimized.{IsOptimized}
 
 -- A tree with the result of `optimize`.
-Response : Type 0
+abbrev pub Response : Type 0
 Response = Regex × Result (Unit {0}) AllocError
 
 -- What holds for each tree that is parsed and then optimized holds for the result.
@@ -32,7 +32,7 @@ of_optimized (Err fault) (Err other) same known step = tt
 
 module _ (dialect : Dialect) (s : Setting) (text : List ℕ) where
   -- The tree of an accepted pattern.
-  IsTree : Tree → Type 0
+  abbrev pub IsTree : Tree → Type 0
   IsTree t = (p : Pattern) × IsAcceptedIn dialect s text p × (t ≡ tree_of s.table p)
 
   -- The parsed tree is that of each accepted pattern, since there is only one.

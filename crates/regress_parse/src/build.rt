@@ -86,11 +86,7 @@ pub(crate) fn make_references(
 }
 
 /// Returns a reference to each of these groups.
-fn make_each_reference(
-    alloc: Global,
-    groups: &[u32],
-    icase: bool,
-) -> Result<NodeList, AllocError>
+fn make_each_reference(alloc: Global, groups: &[u32], icase: bool) -> Result<NodeList, AllocError>
     ensures { IfOk result (λ nodes. map tree nodes.items ≡ references icase groups.now) }
 {
     let mut references = Vec::new(alloc);

@@ -1,7 +1,7 @@
 use Rattle.regress_front.proofs.pipeline.optimize_parsed.Goals as goal
 
 pub returns-in-Ok : goal.returns-in-Ok
-returns-in-Ok c = rw c.in-Ok.is (record {
+returns-in-Ok g c = rw c.in-Ok.is (record {
   meaning = c.optimize-optimized.ensures.meaning;
   well_formed = c.optimize-optimized.ensures.well_formed;
   captures = c.optimize-optimized.ensures.captures;
