@@ -32,7 +32,7 @@ unfoldable read_in : Dialect → Bool → Source → Found (Bool × Value)
 unfolding class_set_by parts_by operands_by operand_at set_character_at strings_by escape_at unicode_at front after property_at named small_table
 read_in dialect unicode t =
     found_map (λ (negated, v). (negated, record v { may_have_strings = false }))
-    (class_set_at small_table (record { dialect = dialect; unicode = unicode; named = false }) t)
+    (class_set_at small_table (record { dialect = dialect; icase = false; unicode = unicode; named = false }) t)
 
 -- what is parsed in the dialect of `try_parse`, without the flag u
 unfoldable read : Source → Found (Bool × Value)

@@ -1,11 +1,12 @@
 -- Examples: what the dialects accept, and what references to several groups match. In the dialect `Ecma` the results are
 -- those of V8 11.3, and those of patterns with several groups of one name follow from ECMA-262.
 use Rattle.std.proofs.Common.{◌≡◌, false, true, [], ◌∷◌, Some, None, refl, codes}
+use Rattle.regress_base.specs.declared.charclasses.CharacterClassType.TheVariants.{Words}
 use Rattle.regress_base.specs.declared.types.Flags.{Flags}
 use Rattle.regress_tree.specs.Steps.{Setting}
 use Rattle.regress_lexer.specs.declared.dialect.Dialect.TheVariants.{Regress, Ecma}
 use Rattle.regress_lexer.specs.Dialects.{flags_in_force}
-use Rattle.regress_syntax.specs.Syntax.{Pattern, one, no_terms, more_terms, atom, literal, boundary}
+use Rattle.regress_syntax.specs.Syntax.{Pattern, one, no_terms, more_terms, atom, literal, boundary, class_escape}
 use Rattle.example_definitions.proofs.PatternExamples.{letter, word, quantifier}
 use Rattle.regress_lexer.specs.Source.{Source}
 use Rattle.example_definitions.proofs.Meanings.{no_flags, plain, named, unicode, pattern_in, GivesIn, from, at, unset, span}
@@ -75,6 +76,27 @@ a_brace_after_a_boundary = refl
 a_class_of_backspace_repeats : pattern_in Ecma plain (codes "[\\b]*") ≡ pattern_in Regress plain (codes "[\\b]*")
 unfolding pattern_in
 a_class_of_backspace_repeats = refl
+
+-- ---- class escapes with the flag i
+
+abbrev ignoring_case : Flags
+ignoring_case = record no_flags { icase = true }
+
+-- Without u no class escape has characters that only the flag i adds.
+a_class_escape_without_u : pattern_in Ecma (record plain { flags = ignoring_case }) (codes "\\W")
+    ≡ Some (one (word (atom (class_escape no_flags Words true))))
+unfolding pattern_in
+a_class_escape_without_u = refl
+
+a_class_escape_with_u : pattern_in Ecma (record plain { flags = record ignoring_case { unicode = true } }) (codes "\\W")
+    ≡ Some (one (word (atom (class_escape (record ignoring_case { unicode = true }) Words true))))
+unfolding pattern_in
+a_class_escape_with_u = refl
+
+a_class_escape_in_regress : pattern_in Regress (record plain { flags = ignoring_case }) (codes "\\W")
+    ≡ Some (one (word (atom (class_escape ignoring_case Words true))))
+unfolding pattern_in
+a_class_escape_in_regress = refl
 
 -- ---- braces after `\u`
 

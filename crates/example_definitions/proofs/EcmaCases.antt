@@ -96,7 +96,7 @@ takes rer other ch = false
 
 -- the parameters of the productions, beside groups without names
 abbrev parameters_of : Flags → Parameters
-parameters_of rer = record { dialect = Regress; unicode = rer.unicode; named = false }
+parameters_of rer = record { dialect = Regress; icase = rer.icase; unicode = rer.unicode; named = false }
 
 -- the kinds that the class matches, by the transcription
 abbrev taken : Flags → Source → Option (List ℕ)

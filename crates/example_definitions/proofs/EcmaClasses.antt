@@ -19,7 +19,7 @@ unfoldable compiled : (sets : Bool) → Source → Option (Bool × Elements)
 unfolding character_class_at class_ranges_by class_set_by class_union_by operands_by operand_at set_character_at strings_by escape_at unicode_at front after
 compiled sets t =
     option_map (λ found. (found.0.invert, compile_to_char_set empty_table (record no_flags { unicode_sets = sets }) found.0.contents))
-    (character_class_at empty_table (record { dialect = Regress; unicode = false; named = false }) sets t)
+    (character_class_at empty_table (record { dialect = Regress; icase = false; unicode = false; named = false }) sets t)
 
 -- The source is a class without the flag v, of these characters.
 abbrev Has : Source → List Bounds → Type 0

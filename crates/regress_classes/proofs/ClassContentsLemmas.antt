@@ -8,7 +8,7 @@ use Rattle.regress_lexer.specs.Dialects.{isolates_ampersand, judges_contents}
 use Rattle.regress_lexer.specs.Source.{Source, Found, ◌>>=◌, found_map, is_at}
 use Rattle.regress_classes.specs.declared.parameters.Parameters.{Parameters}
 use Rattle.regress_classes.specs.ClassProductions.{one_point}
-use Rattle.regress_classes.specs.ClassSets.{Value, only, joined, folded_left, common, without, unless_negated_strings, Operand, value_of, set_character_at, operand_at, next_operand_at, part_after, parts_by, are_at, operands_by, contents_after, contents_at, class_set_by}
+use Rattle.regress_classes.specs.ClassSets.{Value, only, joined, folded_left, common, without, unless_negated_strings, Operand, value_of, closed_value_of, set_character_at, operand_at, next_operand_at, part_after, parts_by, are_at, operands_by, contents_after, contents_at, closed_contents_at, class_set_by}
 use Rattle.regress_classes.specs.ClassViews.{parts_onto, operands_onto}
 use Rattle.regress_lexer.proofs.lemmas.Sources.{found_then, then_same, cond_same}
 use Rattle.regress_lexer.proofs.lemmas.After.{after_shorter, Ends}
@@ -88,15 +88,15 @@ module _ (table : Table) (parameters : Parameters) (inner : Source → Found (Bo
       cond_same (is_at 93 x.1) _ _ _ _ (λ closes. refl)
       (λ goes_on. cond_same (are_at c x.1) _ _ _ _
       (λ more. let rest = both_shorten c x.1 more in
-      ap (found_map (λ others. value_of x.0 ∷ others)) (operands_by-same n m c (drop 2 x.1) (omega arith) (omega arith)))
+      ap (found_map (λ others. closed_value_of table parameters x.0 ∷ others)) (operands_by-same n m c (drop 2 x.1) (omega arith) (omega arith)))
       (λ none. refl)))
 
   -- One operand, and what follows it.
   pub operands_go_on : (c : ℕ) (f : Value → Value → Value) (value : Value) (t : Source) →
       operands_onto table parameters inner in_negated c f value t
       ≡ next_operand_at table parameters inner in_negated c t >>= λ (x : Operand × Source).
-      cond (is_at 93 x.1) (Some (f value (value_of x.0), drop 1 x.1))
-      (cond (are_at c x.1) (operands_onto table parameters inner in_negated c f (f value (value_of x.0)) (drop 2 x.1)) None)
+      cond (is_at 93 x.1) (Some (f value (closed_value_of table parameters x.0), drop 1 x.1))
+      (cond (are_at c x.1) (operands_onto table parameters inner in_negated c f (f value (closed_value_of table parameters x.0)) (drop 2 x.1)) None)
   operands_go_on c f value t =
       ap (λ n. found_map (folded_left f value) (operands_by table parameters inner in_negated n c t)) (add-one (length t))
       ∙ operands_joined table parameters inner in_negated (length t) c f value t
@@ -106,7 +106,7 @@ module _ (table : Table) (parameters : Parameters) (inner : Source → Found (Bo
       cond_same (is_at 93 x.1) _ _ _ _ (λ closes. refl)
       (λ goes_on. cond_same (are_at c x.1) _ _ _ _
       (λ more. let rest = both_shorten c x.1 more in
-      ap (found_map (folded_left f (f value (value_of x.0))))
+      ap (found_map (folded_left f (f value (closed_value_of table parameters x.0))))
       (operands_by-same (length t) (length (drop 2 x.1) + 1) c (drop 2 x.1) (omega arith) (omega arith)))
       (λ none. refl)))
 
@@ -119,15 +119,15 @@ module _ (table : Table) (parameters : Parameters) (inner : Source → Found (Bo
 
   -- Operands joined by `&&` or by `--`, after the first one.
   pub intersection_read : (first : Operand) (t mid : Source) → are_at 38 t ≡ true → mid ≡ drop 2 t →
-      contents_after table parameters inner in_negated (first, t) ≡ operands_onto table parameters inner in_negated 38 common (value_of first) mid
+      contents_after table parameters inner in_negated (first, t) ≡ operands_onto table parameters inner in_negated 38 common (closed_value_of table parameters first) mid
   intersection_read first t mid both moved =
-      cond-true _ _ _ both ∙ ap (operands_onto table parameters inner in_negated 38 common (value_of first)) (sym moved)
+      cond-true _ _ _ both ∙ ap (operands_onto table parameters inner in_negated 38 common (closed_value_of table parameters first)) (sym moved)
 
   pub subtraction_read : (first : Operand) (t mid : Source) → are_at 38 t ≡ false → are_at 45 t ≡ true → mid ≡ drop 2 t →
-      contents_after table parameters inner in_negated (first, t) ≡ operands_onto table parameters inner in_negated 45 without (value_of first) mid
+      contents_after table parameters inner in_negated (first, t) ≡ operands_onto table parameters inner in_negated 45 without (closed_value_of table parameters first) mid
   subtraction_read first t mid no_intersection both moved =
       cond-false _ _ _ no_intersection ∙ cond-true _ _ _ both
-      ∙ ap (operands_onto table parameters inner in_negated 45 without (value_of first)) (sym moved)
+      ∙ ap (operands_onto table parameters inner in_negated 45 without (closed_value_of table parameters first)) (sym moved)
 
   -- A single `&` after the first operand.
   pub ampersand_read : (first : Operand) (t mid : Source) → are_at 38 t ≡ false → are_at 45 t ≡ false → (is_at 38 t && isolates_ampersand parameters.dialect) ≡ true → mid ≡ drop 1 t →
@@ -182,8 +182,8 @@ module _ (table : Table) (parameters : Parameters) (inner : Source → Found (Bo
 
   after_operand : (c : ℕ) (f : Value → Value → Value) (value : Value) → Operand × Source → Found Value
   after_operand c f value x =
-      cond (is_at 93 x.1) (Some (f value (value_of x.0), drop 1 x.1))
-      (cond (are_at c x.1) (operands_onto table parameters inner in_negated c f (f value (value_of x.0)) (drop 2 x.1)) None)
+      cond (is_at 93 x.1) (Some (f value (closed_value_of table parameters x.0), drop 1 x.1))
+      (cond (are_at c x.1) (operands_onto table parameters inner in_negated c f (f value (closed_value_of table parameters x.0)) (drop 2 x.1)) None)
 
   pub no_last : (c : ℕ) (f : Value → Value → Value) (value : Value) (t : Source) → next_operand_at table parameters inner in_negated c t ≡ None →
       operands_onto table parameters inner in_negated c f value t ≡ None
@@ -193,19 +193,19 @@ module _ (table : Table) (parameters : Parameters) (inner : Source → Found (Bo
 
   pub last_read : (c : ℕ) (f : Value → Value → Value) (value : Value) (t : Source) (x : Operand × Source) (rest : Source) →
       next_operand_at table parameters inner in_negated c t ≡ Some x → is_at 93 x.1 ≡ true → rest ≡ drop 1 x.1 →
-      operands_onto table parameters inner in_negated c f value t ≡ Some (f value (value_of x.0), rest)
+      operands_onto table parameters inner in_negated c f value t ≡ Some (f value (closed_value_of table parameters x.0), rest)
   unfolding after_operand
   last_read c f value t x rest found closes moved =
       operands_go_on c f value t ∙ ap (λ (y : Found Operand). y >>= after_operand c f value) found ∙ cond-true _ _ _ closes
-      ∙ ap (λ (u : Source). Some (f value (value_of x.0), u)) (sym moved)
+      ∙ ap (λ (u : Source). Some (f value (closed_value_of table parameters x.0), u)) (sym moved)
 
   pub more_read : (c : ℕ) (f : Value → Value → Value) (value : Value) (t : Source) (x : Operand × Source) (rest : Source) →
       next_operand_at table parameters inner in_negated c t ≡ Some x → is_at 93 x.1 ≡ false → are_at c x.1 ≡ true → rest ≡ drop 2 x.1 →
-      operands_onto table parameters inner in_negated c f value t ≡ operands_onto table parameters inner in_negated c f (f value (value_of x.0)) rest
+      operands_onto table parameters inner in_negated c f value t ≡ operands_onto table parameters inner in_negated c f (f value (closed_value_of table parameters x.0)) rest
   unfolding after_operand
   more_read c f value t x rest found goes_on more moved =
       operands_go_on c f value t ∙ ap (λ (y : Found Operand). y >>= after_operand c f value) found ∙ cond-false _ _ _ goes_on
-      ∙ cond-true _ _ _ more ∙ ap (operands_onto table parameters inner in_negated c f (f value (value_of x.0))) (sym moved)
+      ∙ cond-true _ _ _ more ∙ ap (operands_onto table parameters inner in_negated c f (f value (closed_value_of table parameters x.0))) (sym moved)
 
   pub none_read : (c : ℕ) (f : Value → Value → Value) (value : Value) (t : Source) (x : Operand × Source) →
       next_operand_at table parameters inner in_negated c t ≡ Some x → is_at 93 x.1 ≡ false → are_at c x.1 ≡ false →
@@ -234,13 +234,13 @@ after_caret dialect contents t mid negated found caret moved e =
 
 pub class_read : (table : Table) (parameters : Parameters) (n m : ℕ) (t mid : Source) (negated judged : Bool) (found : Found Value) → n ≡ suc m →
     negated ≡ is_at 94 t → mid ≡ cond negated (drop 1 t) t → judged ≡ (negated && judges_contents parameters.dialect) →
-    contents_at table parameters (class_set_by table parameters m) judged mid ≡ found →
+    closed_contents_at table parameters (class_set_by table parameters m) judged mid ≡ found →
     class_set_by table parameters n t ≡ found >>= unless_negated_strings parameters.dialect negated
 unfolding class_set_by
 class_read table parameters n m t mid negated judged found one_more caret moved is_judged e =
     ap (λ n. class_set_by table parameters n t) one_more
-    ∙ after_caret parameters.dialect (contents_at table parameters (class_set_by table parameters m)) t mid negated found caret moved
-    (ap (λ b. contents_at table parameters (class_set_by table parameters m) b mid) (sym is_judged) ∙ e)
+    ∙ after_caret parameters.dialect (closed_contents_at table parameters (class_set_by table parameters m)) t mid negated found caret moved
+    (ap (λ b. closed_contents_at table parameters (class_set_by table parameters m) b mid) (sym is_judged) ∙ e)
 
 -- ---- what was parsed so far
 

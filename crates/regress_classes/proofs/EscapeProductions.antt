@@ -20,17 +20,17 @@ module _ (table : Table) (parameters : Parameters) (s : Source) (c : ℕ) (t : S
   by_letter : (letter : Option (CharacterClassType × Bool)) → class_letter c ≡ letter →
       class_escape_at table parameters s ≡ elim letter as (λ _. Found ClassAtom) [
         | None ↦ first_production (class_escape_productions table parameters c t)
-        | Some named ↦ Some (set (class_members named), t)
+        | Some named ↦ Some (set (class_members table parameters named), t)
       ]
   by_letter letter e =
       ap (class_escape_at table parameters) front
       ∙ ap (λ (o : Option (CharacterClassType × Bool)). elim o as (λ _. Found ClassAtom) [
         | None ↦ first_production (class_escape_productions table parameters c t)
-        | Some named ↦ Some (set (class_members named), t)
+        | Some named ↦ Some (set (class_members table parameters named), t)
       ]) e
 
   pub set_read : (named : CharacterClassType × Bool) → class_letter c ≡ Some named →
-      class_escape_at table parameters s ≡ Some (set (class_members named), t)
+      class_escape_at table parameters s ≡ Some (set (class_members table parameters named), t)
   set_read named letter = by_letter (Some named) letter
 
   pub backspace_read : c ≡ 98 → class_escape_at table parameters s ≡ Some (point 8, t)
@@ -78,32 +78,32 @@ module _ (table : Table) (parameters : Parameters) (s : Source) (c : ℕ) (t : S
 module _ (table : Table) (parameters : Parameters) (in_negated : Bool) (s : Source) (c : ℕ) (t : Source) (front : s ≡ c ∷ t) where
   by_operand : (letter : Option (CharacterClassType × Bool)) → class_letter c ≡ letter →
       escaped_operand_at table parameters in_negated s ≡ elim letter as (λ _. Found Operand) [
-        | Some named ↦ Some (class (only (class_members named)), t)
+        | Some named ↦ Some (class (only (class_members table parameters named)), t)
         | None ↦ first_production (operand_productions table parameters in_negated c t)
       ]
   by_operand letter e =
       ap (escaped_operand_at table parameters in_negated) front
       ∙ ap (λ (o : Option (CharacterClassType × Bool)). elim o as (λ _. Found Operand) [
-        | Some named ↦ Some (class (only (class_members named)), t)
+        | Some named ↦ Some (class (only (class_members table parameters named)), t)
         | None ↦ first_production (operand_productions table parameters in_negated c t)
       ]) e
 
   pub class_escape_read : (named : CharacterClassType × Bool) → class_letter c ≡ Some named →
-      escaped_operand_at table parameters in_negated s ≡ Some (class (only (class_members named)), t)
+      escaped_operand_at table parameters in_negated s ≡ Some (class (only (class_members table parameters named)), t)
   class_escape_read named letter = by_operand (Some named) letter
 
   pub quoted_read : c ≡ 113 → escaped_operand_at table parameters in_negated s ≡ quoted_at parameters t
   quoted_read e = ap (escaped_operand_at table parameters in_negated) (front ∙ ap (λ d. d ∷ t) e)
 
   pub property_operand_read : (c == 112 || c == 80) ≡ true →
-      escaped_operand_at table parameters in_negated s ≡ property_operand_at table in_negated (c == 80) t
+      escaped_operand_at table parameters in_negated s ≡ property_operand_at table parameters in_negated (c == 80) t
   property_operand_read letter =
       ap (escaped_operand_at table parameters in_negated) front
       ∙ ⊎_elim
       (λ (small : (c == 112) ≡ true).
-      subst (λ d. escaped_operand_at table parameters in_negated (d ∷ t) ≡ property_operand_at table in_negated (d == 80) t) (sym (eqb-true c 112 small)) refl)
+      subst (λ d. escaped_operand_at table parameters in_negated (d ∷ t) ≡ property_operand_at table parameters in_negated (d == 80) t) (sym (eqb-true c 112 small)) refl)
       (λ (large : (c == 80) ≡ true).
-      subst (λ d. escaped_operand_at table parameters in_negated (d ∷ t) ≡ property_operand_at table in_negated (d == 80) t) (sym (eqb-true c 80 large)) refl)
+      subst (λ d. escaped_operand_at table parameters in_negated (d ∷ t) ≡ property_operand_at table parameters in_negated (d == 80) t) (sym (eqb-true c 80 large)) refl)
       (or_cases (c == 112) (c == 80) letter)
 
   pub character_escape_read : class_letter c ≡ None → (c == 113) ≡ false → (c == 112 || c == 80) ≡ false →

@@ -5,6 +5,7 @@ mod ClassLemmas
 mod ClassOperandLemmas
 mod ClassSetLemmas
 mod ClassStringLemmas
+mod ClosingLemmas
 mod EscapeProductions
 mod IntervalCollectorLemmas
 mod PropertyLemmas

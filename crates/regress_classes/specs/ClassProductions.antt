@@ -4,11 +4,11 @@ use Rattle.regress_base.specs.declared.charclasses.CharacterClassType.{Character
 use Rattle.regress_base.specs.declared.charclasses.CharacterClassType.TheVariants.{Digits, Spaces, Words}
 use Rattle.regress_base.specs.Classes.{digits, white_space, line_terminators, word_characters}
 use Rattle.regress_base.specs.Intervals.{Bounds, is_member, intervals_of}
-use Rattle.regress_base.specs.Table.{Table}
+use Rattle.regress_base.specs.Table.{Table, is_in_closure}
 use Rattle.regress_lexer.specs.Source.{Source, Found, ◌>>=◌, found_map, Production, when, otherwise, first_production, char, is_one_of, is_at}
 use Rattle.regress_lexer.specs.Digits.{is_decimal, is_letter, control}
 use Rattle.regress_lexer.specs.Escapes.{character_escape_at}
-use Rattle.regress_lexer.specs.Dialects.{reserves_k}
+use Rattle.regress_lexer.specs.Dialects.{compiles_case, reserves_k}
 use Rattle.regress_classes.specs.declared.parameters.Parameters.{Parameters}
 use Rattle.regress_classes.specs.Properties.{Property, points_of, property_at}
 
@@ -40,9 +40,20 @@ complement members = intervals_of (λ c. not (is_member members c))
 abbrev pub complement_if : Bool → List Bounds → List Bounds
 complement_if negated members = if negated then complement members else members
 
--- the class, or its complement
-abbrev pub class_members : CharacterClassType × Bool → List Bounds
-class_members (kind, negated) = complement_if negated (members_of kind)
+-- Sets are closed under case folding before a complement is taken: with the flags i and u, in some dialects.
+abbrev pub closes : Parameters → Bool
+closes parameters = compiles_case parameters.dialect && parameters.icase && parameters.unicode
+
+module _ (table : Table) (parameters : Parameters) where
+  -- The members, and if `closes` their closure. A closed set represents the set of the case foldings of its members
+  -- (ECMA-262, MaybeSimpleCaseFolding).
+  abbrev pub closed_members : List Bounds → List Bounds
+  closed_members members = if closes parameters then intervals_of (is_in_closure table members) else members
+
+  -- The class, or its complement. The closed word characters are those with the extra ones (ECMA-262, WordCharacters); the
+  -- other classes have no case variants.
+  abbrev pub class_members : CharacterClassType × Bool → List Bounds
+  class_members (kind, negated) = complement_if negated (closed_members (members_of kind))
 
 -- ---- atoms of a class
 
@@ -92,7 +103,7 @@ module _ (table : Table) (parameters : Parameters) where
   -- an escape in a class that starts with c, after its backslash
   abbrev pub class_escape_by : ℕ → Source → Found ClassAtom
   class_escape_by c t =
-      elim (class_letter c) [ None ↦ first_production (class_escape_productions c t) | Some named ↦ Some (set (class_members named), t) ]
+      elim (class_letter c) [ None ↦ first_production (class_escape_productions c t) | Some named ↦ Some (set (class_members table parameters named), t) ]
 
   -- a class escape, after its backslash (ECMA-262, CharacterClassEscape)
   abbrev pub class_escape_at : Source → Found ClassAtom

@@ -1,5 +1,5 @@
 -- Classes with the flag v (dialect of ECMA-262, ClassSetExpression).
-use Rattle.std.specs.Prelude.{ℕ, zero, suc, ◌+◌, max, Bool, true, false, not, ◌&&◌, ◌||◌, List, [], ◌∷◌, ◌++◌, length, drop, filter, Option, Some, None, if◌then◌else◌, ◌==◌}
+use Rattle.std.specs.Prelude.{ℕ, zero, suc, ◌+◌, max, Bool, true, false, not, ◌&&◌, ◌||◌, List, [], ◌∷◌, ◌++◌, length, drop, filter, map, Option, Some, None, if◌then◌else◌, ◌==◌}
 use Rattle.std.specs.List.{list_any}
 use Rattle.std.specs.Str.{bytes_eq}
 use Rattle.regress_base.specs.Intervals.{Bounds, is_member, intervals_of}
@@ -11,7 +11,7 @@ use Rattle.regress_lexer.specs.declared.dialect.Dialect.{Dialect}
 use Rattle.regress_lexer.specs.Dialects.{reserves_pairs, isolates_ampersand, judges_contents}
 use Rattle.regress_classes.specs.declared.parameters.Parameters.{Parameters}
 use Rattle.regress_classes.specs.Properties.{Property, of_points, of_strings, property_at}
-use Rattle.regress_classes.specs.ClassProductions.{complement_if, class_letter, class_members, one_point, points_between}
+use Rattle.regress_classes.specs.ClassProductions.{complement_if, closes, closed_members, class_letter, class_members, one_point, points_between}
 
 -- ---- contents of a class
 
@@ -87,6 +87,16 @@ abbrev pub value_of_strings : List (List ℕ) → Value
 value_of_strings [] = nothing
 value_of_strings (s ∷ ss) = joined (value_of_string s) (value_of_strings ss)
 
+module _ (table : Table) (parameters : Parameters) where
+  -- the strings, and if `closes` with each character folded
+  abbrev pub folded_strings : List (List ℕ) → List (List ℕ)
+  folded_strings strings = if closes parameters then map (map table.fold) strings else strings
+
+  -- the contents with closed code points and folded strings, so that operators compare canonical forms (ECMA-262,
+  -- MaybeSimpleCaseFolding)
+  abbrev pub closed_value : Value → Value
+  closed_value v = record v { members = closed_members table parameters v.members; strings = folded_strings v.strings }
+
 -- a class inside another class, where an inverted class is its complement already (ECMA-262, NestedClass)
 abbrev pub nested : Bool × Value → Value
 nested (negated, v) = record v { members = complement_if negated v.members; nesting = v.nesting + 1 }
@@ -111,6 +121,10 @@ pub data Operand : Type 0 where
 abbrev pub value_of : Operand → Value
 value_of (character c) = only (one_point c)
 value_of (class value) = value
+
+-- the same, closed, as operators have it
+abbrev pub closed_value_of : Table → Parameters → Operand → Value
+closed_value_of table parameters operand = closed_value table parameters (value_of operand)
 
 -- both ends of a range are characters (ECMA-262, ClassSetRange)
 abbrev pub range_of : Operand → Operand → Option (List Bounds)
@@ -171,16 +185,18 @@ quoted_at parameters t =
     then found_map (λ ss. class (value_of_strings ss)) (strings_by (length t) parameters [] (drop 1 t))
     else None
 
--- the contents of a property in a class; one of strings has no complement, and is not allowed directly in a negated
--- class
-abbrev pub property_operand : (in_negated negated : Bool) → Property × Source → Found Operand
-property_operand in_negated negated (of_points members, t) = Some (class (only (complement_if negated members)), t)
-property_operand in_negated negated (of_strings written, t) =
-    if in_negated || negated then None else Some (class (value_of_strings written), t)
+module _ (table : Table) (parameters : Parameters) where
+  -- the contents of a property in a class; one of strings has no complement, and is not allowed directly in a negated
+  -- class
+  abbrev pub property_operand : (in_negated negated : Bool) → Property × Source → Found Operand
+  property_operand in_negated negated (of_points members, t) =
+      Some (class (only (complement_if negated (closed_members table parameters members))), t)
+  property_operand in_negated negated (of_strings written, t) =
+      if in_negated || negated then None else Some (class (value_of_strings written), t)
 
--- the property after `\p` or `\P`
-abbrev pub property_operand_at : Table → (in_negated negated : Bool) → Source → Found Operand
-property_operand_at table in_negated negated t = property_at true table t >>= property_operand in_negated negated
+  -- the property after `\p` or `\P`
+  abbrev pub property_operand_at : (in_negated negated : Bool) → Source → Found Operand
+  property_operand_at in_negated negated t = property_at true table t >>= property_operand in_negated negated
 
 -- whether an operator, the same code point twice, is at the start of a source
 abbrev pub are_at : ℕ → Source → Bool
@@ -191,7 +207,7 @@ module _ (table : Table) (parameters : Parameters) where
   abbrev pub operand_productions : (in_negated : Bool) → ℕ → Source → List (Production Operand)
   operand_productions in_negated c t =
       when (c == char "q") (quoted_at parameters t)
-      ∷ when (is_one_of "pP" c) (property_operand_at table in_negated (c == char "P") t)
+      ∷ when (is_one_of "pP" c) (property_operand_at table parameters in_negated (c == char "P") t)
       ∷ otherwise (found_map character (escaped_character_at parameters.unicode (c ∷ t))) ∷ []
 
   -- an escape, after its backslash
@@ -199,7 +215,7 @@ module _ (table : Table) (parameters : Parameters) where
   escaped_operand_at in_negated [] = None
   escaped_operand_at in_negated (c ∷ t) =
       elim (class_letter c) [
-        | Some named ↦ Some (class (only (class_members named)), t)
+        | Some named ↦ Some (class (only (class_members table parameters named)), t)
         | None ↦ first_production (operand_productions in_negated c t)
       ]
 
@@ -247,8 +263,9 @@ module _ (table : Table) (parameters : Parameters) where
     operands_by zero c t = None
     operands_by (suc n) c t =
         next_operand_at c t >>= λ (operand, rest).
-        (if is_at (char "]") rest then Some (value_of operand ∷ [], drop 1 rest)
-        else if are_at c rest then found_map (λ others. value_of operand ∷ others) (operands_by n c (drop 2 rest))
+        (if is_at (char "]") rest then Some (closed_value_of table parameters operand ∷ [], drop 1 rest)
+        else if are_at c rest
+        then found_map (λ others. closed_value_of table parameters operand ∷ others) (operands_by n c (drop 2 rest))
         else None)
 
     abbrev pub operands_at : (c : ℕ) → Source → Found (List Value)
@@ -260,9 +277,11 @@ module _ (table : Table) (parameters : Parameters) where
     abbrev pub contents_after : Operand × Source → Found Value
     contents_after (first, t) =
         -- operands joined by `&&`
-        if are_at (char "&") t then found_map (folded_left common (value_of first)) (operands_at (char "&") (drop 2 t))
+        if are_at (char "&") t
+        then found_map (folded_left common (closed_value_of table parameters first)) (operands_at (char "&") (drop 2 t))
         -- operands joined by `--`
-        else if are_at (char "-") t then found_map (folded_left without (value_of first)) (operands_at (char "-") (drop 2 t))
+        else if are_at (char "-") t
+        then found_map (folded_left without (closed_value_of table parameters first)) (operands_at (char "-") (drop 2 t))
         -- parts, with a single `&` after the first operand, where that is a member and starts no range
         else if is_at (char "&") t && isolates_ampersand parameters.dialect
         then found_map (λ parts. folded_left joined (value_of first) (only (one_point (char "&")) ∷ parts)) (parts_at (drop 1 t))
@@ -273,13 +292,17 @@ module _ (table : Table) (parameters : Parameters) where
     abbrev pub contents_at : Source → Found Value
     contents_at t = if is_at (char "]") t then Some (nothing, drop 1 t) else operand_at t >>= contents_after
 
+    -- the same, closed
+    abbrev pub closed_contents_at : Source → Found Value
+    closed_contents_at t = found_map (closed_value table parameters) (contents_at t)
+
   -- A class after its `[`: whether it is negated, and its contents. The number bounds how deep classes nest, the class
   -- itself included.
   unfoldable pub class_set_by : ℕ → Source → Found (Bool × Value)
   class_set_by zero t = None
   class_set_by (suc n) t =
       let negated = is_at (char "^") t in
-      contents_at (class_set_by n) (negated && judges_contents parameters.dialect) (if negated then drop 1 t else t)
+      closed_contents_at (class_set_by n) (negated && judges_contents parameters.dialect) (if negated then drop 1 t else t)
       >>= unless_negated_strings parameters.dialect negated
 
   -- a class that nests no deeper than the limit

@@ -21,7 +21,7 @@ use Rattle.regress_classes.specs.declared.class_sets.ClassSet.{ClassSet as CodeC
 use Rattle.regress_classes.specs.declared.class_sets.OperandContext.{OperandContext}
 use Rattle.regress_classes.specs.declared.class_sets.Operator.{Operator}
 use Rattle.regress_classes.specs.declared.class_sets.Operator.TheVariants as operators
-use Rattle.regress_classes.specs.ClassProductions.{ClassAtom, point, set, class_members, complement_if}
+use Rattle.regress_classes.specs.ClassProductions.{ClassAtom, point, set, members_of, complement_if}
 use Rattle.regress_classes.specs.Properties.{Property, of_points, of_strings}
 use Rattle.regress_classes.specs.ClassSets.{Value, joined, folded_left, is_among, common, without, Operand, character, class, parts_at, operands_at, class_set_by}
 use Rattle.regress_lexer.specs.Source.{Source, Found, found_map, IsCodePoint, char}
@@ -29,14 +29,14 @@ use Rattle.regress_lexer.specs.Source.{Source, Found, found_map, IsCodePoint, ch
 -- an atom of a class
 abbrev pub class_atom_of : CodeClassAtom → ClassAtom
 class_atom_of (class_atoms.Point c) = point c
-class_atom_of (class_atoms.Class kind negated) = set (class_members (kind, negated))
-class_atom_of (class_atoms.Property members negated) = set (complement_if negated members)
+class_atom_of (class_atoms.Class kind negated) = set (complement_if negated (members_of kind))
+class_atom_of (class_atoms.Set members negated) = set (complement_if negated members)
 
 -- A class atom that is a single number is a code point.
 abbrev pub IsClassAtomInRange : CodeClassAtom → Type 0
 IsClassAtomInRange (class_atoms.Point c) = IsCodePoint c
 IsClassAtomInRange (class_atoms.Class kind negated) = Unit {0}
-IsClassAtomInRange (class_atoms.Property members negated) = Unit {0}
+IsClassAtomInRange (class_atoms.Set members negated) = Unit {0}
 
 -- The set has these members. The code keeps a set as canonical intervals, not as it was written.
 pub record HasMembers (members set : List Bounds) : Type 0 where

@@ -246,7 +246,7 @@ fn add_atom(set: &mut IntervalCollector, alloc: Global, atom: ClassAtom) -> Resu
             let members = class_members(alloc, kind, negated)?;
             set.add_all(members.intervals())
         }
-        ClassAtom::Property {
+        ClassAtom::Set {
             set: members,
             negated,
         } => add_members(set, &members, negated),

@@ -1,7 +1,7 @@
 //! Parses the atoms of a class without the flag v.
 ghost use Rattle.std.specs.Prelude.{◌≡◌, ◌∷◌, ◌&&◌, ◌==◌, Some, IfOk};
 ghost use Rattle.regress_lexer.specs.Dialects.{reserves_k};
-ghost use Rattle.regress_classes.specs.ClassProductions.{class_atom_at, class_escape_at, class_control_at, class_property_at};
+ghost use Rattle.regress_classes.specs.ClassProductions.{set, class_members, class_atom_at, class_escape_at, class_control_at, class_property_at};
 ghost use Rattle.regress_lexer.specs.Source.{char};
 ghost use Rattle.regress_lexer.specs.Fault.{FailsByNoLimit};
 ghost use Rattle.regress_lexer.specs.Reads.{Reads};
@@ -9,7 +9,8 @@ ghost use Rattle.regress_classes.specs.ClassViews.{class_atom_of, IsClassAtomInR
 ghost use Rattle.regress_lexer.specs.Views.{source};
 ghost use Rattle.regress_unicode.specs.TableOf.{table_of};
 
-use crate::class_escape::class_letter;
+use crate::class_escape::{class_escape_set, class_letter};
+use crate::closing::close;
 use crate::parameters::Parameters;
 use crate::property::{Property, is_property_letter, parse_property};
 use regress_base::charclasses::CharacterClassType;
@@ -19,6 +20,7 @@ use regress_lexer::digits::{control, is_decimal, is_letter};
 use regress_lexer::escape::{escape_fault, parse_character_escape};
 use regress_lexer::fault::{Fault, FaultKind, rejected};
 use regress_unicode::Tables;
+use std::alloc::{AllocError, Global};
 
 /// An atom of a class.
 #[derive(Drop)]
@@ -32,11 +34,11 @@ pub enum ClassAtom {
         /// Whether the escape is that of the complement: `\D`, `\S` or `\W`.
         negated: bool,
     },
-    /// A property of code points, or its complement.
-    Property {
-        /// The code points that have the property.
+    /// A set of code points, or its complement: a property, or a class escape that is closed under case folding.
+    Set {
+        /// The code points.
         set: CodePointSet,
-        /// Whether the escape is that of the complement: `\P`.
+        /// Whether the escape is that of the complement, as `\P`.
         negated: bool,
     },
 }
@@ -87,7 +89,7 @@ fn read_escaped_atom(
     let unicode = parameters.unicode;
     if let Some((kind, negated)) = class_letter(c) {
         cursor.rest = rest;
-        Ok(ClassAtom::Class { kind, negated })
+        Ok(escape_atom(cursor.alloc, kind, negated, tables, parameters)?)
     } else if c == u32::from('b') {
         cursor.rest = rest;
         Ok(ClassAtom::Point(8))
@@ -113,6 +115,24 @@ fn read_escaped_atom(
     }
 }
 
+/// Returns the atom of a class escape, or of its complement if `negated`.
+fn escape_atom(
+    alloc: Global,
+    kind: CharacterClassType,
+    negated: bool,
+    tables: &Tables,
+    parameters: &Parameters,
+) -> Result<ClassAtom, AllocError>
+    ensures value { IfOk result (λ atom. class_atom_of atom ≡ set (class_members (table_of tables.now) parameters.now (kind, negated))) }
+    ensures in_range { IfOk result IsClassAtomInRange }
+{
+    if !parameters.closes() {
+        return Ok(ClassAtom::Class { kind, negated });
+    }
+    let set = close(class_escape_set(alloc, kind)?, tables, parameters)?;
+    Ok(ClassAtom::Set { set, negated })
+}
+
 /// Returns whether `c` is the `k` of `\k`, and that is an error in a class.
 fn is_reserved(c: u32, parameters: &Parameters) -> bool
     ensures { result ≡ (c == char "k" && parameters.now.named && reserves_k parameters.now.dialect) }
@@ -132,7 +152,7 @@ fn read_class_property(
     ensures kind { FailsByNoLimit result }
 {
     match parse_property(cursor, false, tables)? {
-        Property::Points(set) => Ok(ClassAtom::Property { set, negated }),
+        Property::Points(set) => Ok(ClassAtom::Set { set, negated }),
         Property::Strings(_) => Err(cursor.reject(FaultKind::InvalidProperty)),
     }
 }

@@ -2,7 +2,7 @@
 ghost use Rattle.std.specs.Prelude.{◌≡◌, ◌++◌, ℕ, IfOk};
 ghost use Rattle.regress_base.specs.Classes.{white_space, line_terminators};
 ghost use Rattle.regress_base.specs.Intervals.{is_member, IsCanonical};
-ghost use Rattle.regress_classes.specs.ClassProductions.{class_letter, members_of, class_members};
+ghost use Rattle.regress_classes.specs.ClassProductions.{class_letter, members_of, complement_if};
 ghost use Rattle.regress_classes.specs.ClassViews.{HasMembers};
 
 use regress_base::charclasses::{CharacterClassType, digit_intervals, word_intervals};
@@ -79,7 +79,7 @@ pub fn class_members(
     kind: CharacterClassType,
     negated: bool,
 ) -> Result<CodePointSet, AllocError>
-    ensures { IfOk result (λ set. (c : ℕ) → is_member set c ≡ is_member (class_members (kind, negated)) c) }
+    ensures { IfOk result (λ set. (c : ℕ) → is_member set c ≡ is_member (complement_if negated (members_of kind)) c) }
 {
     let set = class_escape_set(alloc, kind)?;
     if negated { set.inverted() } else { Ok(set) }

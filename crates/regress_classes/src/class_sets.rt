@@ -1,6 +1,6 @@
 //! Parses classes with the flag v.
 ghost use Rattle.std.specs.Prelude.{◌≡◌, ◌<◌, ◌≤◌, ◌&&◌, length, ◌+◌, ◌-◌, ◌^◌, Bool, true, false, drop, [], ◌∷◌, if◌then◌else◌, IfOk, OnOk, OnErr};
-ghost use Rattle.regress_classes.specs.ClassSets.{Value as Written, Operand as WrittenOperand, nested, are_at, operand_at, next_operand_at, part_after, contents_after, contents_at, class_set_by};
+ghost use Rattle.regress_classes.specs.ClassSets.{Value as Written, Operand as WrittenOperand, nested, are_at, operand_at, next_operand_at, part_after, contents_after, contents_at, closed_contents_at, class_set_by};
 ghost use Rattle.regress_lexer.specs.Fault.{is_limit, FailsByNoLimit, FailsByDepthOnlyIf};
 ghost use Rattle.regress_lexer.specs.Dialects.{isolates_ampersand, judges_contents};
 ghost use Rattle.regress_lexer.specs.Reads.{ParsesAs};
@@ -144,7 +144,7 @@ pub fn parse_class_set(
         nesting: nesting - 1,
         opened,
     };
-    let value = parse_contents(cursor, &around)?;
+    let value = parse_closed_contents(cursor, &around)?;
     if negated && value.is_not_negatable(parameters.dialect) {
         return Err(rejected(opened, FaultKind::InvalidNegatedClass));
     }
@@ -156,6 +156,17 @@ fn is_judged(negated: bool, dialect: Dialect) -> bool
     ensures { result ≡ (negated && judges_contents dialect) }
 {
     negated && dialect.judges_contents()
+}
+
+/// Parses the contents of a class, up to its `]`, and closes them.
+#[cycle(class_set)]
+fn parse_closed_contents(cursor: &mut Cursor, around: &OperandContext) -> Result<Value, Fault>
+    ensures value { ParsesAs IsValue (source cursor.new) result
+        (closed_contents_at (table_of around.now.tables.now) around.now.parameters.now (inner_of around.now) around.now.negated (source cursor.old)) }
+    ensures kind { FailsByDepthOnlyIf result (around.now.nesting < length (source cursor.old)) }
+{
+    let value = parse_contents(cursor, around)?;
+    Ok(value.into_closed(around.tables, around.parameters)?)
 }
 
 /// Parses the contents of a class, up to its `]`.
@@ -190,10 +201,10 @@ fn parse_after_first_operand(
     ensures kind { FailsByDepthOnlyIf result (around.now.nesting < length (source cursor.old)) }
 {
     if try_consume_twice(cursor, '&') {
-        let value = first.into_value(cursor.alloc)?;
+        let value = first.into_closed_value(cursor.alloc, around)?;
         parse_operands(cursor, around, value, Operator::Intersection)
     } else if try_consume_twice(cursor, '-') {
-        let value = first.into_value(cursor.alloc)?;
+        let value = first.into_closed_value(cursor.alloc, around)?;
         parse_operands(cursor, around, value, Operator::Subtraction)
     } else if try_consume_ampersand(cursor, around.parameters.dialect) {
         let mut union = Union::new(cursor.alloc);
@@ -307,7 +318,10 @@ fn parse_operands(
 {
     let mut chain = Chain::new(value, operator);
     loop {
-        let operand = parse_next_operand(cursor, around, operator)?.into_value(cursor.alloc)?;
+        let operand = parse_next_operand(cursor, around, operator)?.into_closed_value(
+            cursor.alloc,
+            around,
+        )?;
         if cursor.try_consume(']') {
             return Ok(chain.finish(operand)?);
         }

@@ -5,6 +5,7 @@ pub mod class;
 mod class_atom;
 pub mod class_escape;
 pub mod class_sets;
+mod closing;
 mod gathered;
 mod parameters;
 pub mod property;

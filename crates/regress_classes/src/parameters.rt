@@ -1,14 +1,29 @@
-//! What the productions of a class without the flag v depend on, besides the Unicode table.
+//! What the productions of a class depend on, besides the Unicode table.
 
 use regress_lexer::Dialect;
 
-/// The parameters of the productions of a class (ECMA-262, UnicodeMode and NamedCaptureGroups), with the dialect.
+/// The parameters of the productions of a class (ECMA-262, UnicodeMode and NamedCaptureGroups), with the dialect and the
+/// flag i.
 #[derive(Clone, Copy)]
 pub struct Parameters {
     /// The dialect.
     pub dialect: Dialect,
+    /// The flag i.
+    pub icase: bool,
     /// The flag u.
     pub unicode: bool,
     /// Whether some group of the pattern has a name.
     pub named: bool,
+}
+
+impl Parameters {
+    ghost use Rattle.std.specs.Prelude.{◌≡◌};
+    ghost use Rattle.regress_classes.specs.ClassProductions.{closes};
+
+    /// Returns whether sets are closed under case folding before a complement is taken.
+    pub(crate) fn closes(&self) -> bool
+        ensures { result ≡ closes self.now }
+    {
+        self.icase && self.unicode && self.dialect.compiles_case()
+    }
 }

@@ -17,11 +17,11 @@ use Rattle.regress_lexer.specs.declared.dialect.Dialect.{Dialect}
 use Rattle.regress_lexer.specs.Dialects.{judges_contents, tries_references}
 use Rattle.regress_classes.specs.declared.parameters.Parameters.{Parameters}
 use Rattle.regress_classes.proofs.lemmas.ClassSets.{no_strings}
-use Rattle.regress_classes.specs.ClassSets.{Value, has_strings, is_not_negatable, unless_negated_strings, contents_at, class_set_by, class_set_at}
+use Rattle.regress_classes.specs.ClassSets.{Value, has_strings, is_not_negatable, unless_negated_strings, closed_contents_at, class_set_by, class_set_at}
 use Rattle.regress_base.specs.Limits.{max_nesting_depth}
 use Rattle.regress_syntax.specs.Syntax.{Name, Atom, literal, dot, anchor, boundary, class_escape, class, class_set, string_property, back_reference, by_number, by_name, by_name_if_set, grouping, modified, capture, look}
 use Rattle.regress_syntax.specs.Names.{group_name_at}
-use Rattle.regress_syntax.specs.Productions.{class_parameters, Context, Head, single, opens, angle_at, after_question_mark_at, has_names, has_name, character_at, property_atom, property_atom_at, number_reference_at, name_reference_at, escape_productions, escaped_by, escaped_at, brackets_at, atom_productions, atom_by, head_at}
+use Rattle.regress_syntax.specs.Productions.{class_parameters, class_flags, complements_first, Context, Head, single, opens, angle_at, after_question_mark_at, has_names, has_name, character_at, property_atom, property_atom_at, number_reference_at, name_reference_at, escape_productions, escaped_by, escaped_at, brackets_at, atom_productions, atom_by, head_at}
 use Rattle.regress_differences.specs.CaseMode.{has_icase, switches_on}
 use Rattle.regress_differences.specs.Reported.{class_escape_at}
 
@@ -45,7 +45,7 @@ unfolding class_set_by
 class_set_by-apart table parameters zero t = finds_none AreApart
 class_set_by-apart table parameters (suc n) t =
     finds_then (λ _. Unit {0}) AreApart
-    (contents_at table parameters (class_set_by table parameters n) (is_at 94 t && judges_contents parameters.dialect) (cond (is_at 94 t) (drop 1 t) t))
+    (closed_contents_at table parameters (class_set_by table parameters n) (is_at 94 t && judges_contents parameters.dialect) (cond (is_at 94 t) (drop 1 t) t))
     (unless_negated_strings parameters.dialect (is_at 94 t)) (any_found _) (λ x _. unless-apart parameters.dialect (is_at 94 t) x)
 
 -- ---- atoms
@@ -75,7 +75,7 @@ module _ (ctx : Context) where
     property_fits : is_at 92 s ≡ true → class_escape_at s ≡ None → (negated : Bool) (x : Property × Source) →
         Finds (AtomFits s) (property_atom ctx negated x)
     property_fits backslash none negated (of_points members, t) =
-        finds_some (AtomFits s) (_, t) (by (negated && ctx.setting.flags.icase) false negated (complement members) members)
+        finds_some (AtomFits s) (_, t) (by (negated && complements_first ctx) false negated (complement members) members)
       where
         by : (b : Bool) (i j : Bool) (ms ns : List Bounds) →
             AtomFits s (cond b (class ctx.setting.flags i ms) (class ctx.setting.flags j ns))
@@ -126,7 +126,7 @@ module _ (ctx : Context) where
 
       by : (letter : Option (CharacterClassType × Bool)) → class_letter c ≡ letter →
           Finds (AtomFits (b ∷ c ∷ t)) (elim letter as (λ _. Found Atom) [
-            | Some named ↦ Some (class_escape ctx.setting.flags named.0 named.1, t)
+            | Some named ↦ Some (class_escape (class_flags ctx) named.0 named.1, t)
             | None ↦ first_production (escape_productions ctx c t)
           ])
       by (Some named) is = finds_some (AtomFits (b ∷ c ∷ t)) _ (begins (Some named) is)

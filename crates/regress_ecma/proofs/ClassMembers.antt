@@ -13,6 +13,7 @@ use Rattle.regress_lexer.specs.Digits.{is_decimal, is_letter}
 use Rattle.regress_lexer.specs.Dialects.{reserves_k}
 use Rattle.regress_lexer.specs.Escapes.{character_escape_at}
 use Rattle.regress_lexer.specs.Source.{Source, Found, first_production, char, is_one_of, is_at}
+use Rattle.regress_lexer.specs.declared.dialect.Dialect.TheVariants.{Regress}
 use Rattle.regress_classes.specs.declared.parameters.Parameters.{Parameters}
 use Rattle.regress_classes.specs.ClassProductions.{members_of, class_letter, complement_if, class_members, point, set, one_point, atom_members, class_control_at, class_property, class_property_at, class_escape_productions, begins_range, members_with_hyphen, points_between, range_of, class_parts_by, class_at}
 use Rattle.regress_classes.specs.ClassProductions as ClassProductions
@@ -37,6 +38,10 @@ pub record Covers (table : Table) (rer : Flags) (set' members : CharSet) : Type 
 -- With u and i no class that may contain `\W` is compared.
 abbrev pub HasNoEnds : Flags → List Bounds → Type 0
 HasNoEnds rer members = (rer.unicode && rer.icase) ≡ true → has_ends members ≡ false
+
+-- the same in the dialect that is compared
+abbrev pub in_regress : Parameters → Parameters
+in_regress given = record given { dialect = Regress }
 
 pub record IsCharSetOf (table : Table) (rer : Flags) (set' members : CharSet) : Type 0 where
   pub covers : HasNoEnds rer members → Covers table rer set' members
@@ -228,7 +233,7 @@ module _ (table : Table) (maps : HasCaseDataOfUnicode table) (rer : Flags) (with
             and_false false = refl
 
     pub escape_is : (kind : CharacterClassType) (capital : Bool) →
-        IsCharSetOf table rer (character_class_escape table rer kind capital) (class_members (kind, capital))
+        IsCharSetOf table rer (character_class_escape table rer kind capital) (complement_if capital (members_of kind))
     escape_is Digits false = covers-same table rer digits digits refl
     escape_is Digits true = covers-same table rer _ _ (complement-same digits)
     escape_is Spaces false = covers-same table rer (white_space ++ line_terminators) _ refl
@@ -274,7 +279,10 @@ module _ (table : Table) (maps : HasCaseDataOfUnicode table) (rer : Flags) (with
         (refl, covers-same table rer _ _ (property_is negated members))
     property_follows negated (of_strings written) t = follows_none IsAtomOf _
 
-    module _ (parameters : Parameters) where
+    module _ (given : Parameters) where
+      abbrev parameters : Parameters
+      parameters = in_regress given
+
       escapes_follow : (c : ℕ) (t : Source) →
           Follows IsAtomOf (first_production (class_escape_productions table parameters c t)) (first_production (escape_productions table parameters c t))
       escapes_follow c t =
@@ -301,7 +309,7 @@ module _ (table : Table) (maps : HasCaseDataOfUnicode table) (rer : Flags) (with
               Follows IsAtomOf
               (elim letter as (λ _. Found ClassProductions.ClassAtom) [
                 | None ↦ first_production (class_escape_productions table parameters c t)
-                | Some named ↦ Some (set (class_members named), t)
+                | Some named ↦ Some (set (class_members table parameters named), t)
               ])
               (elim letter as (λ _. Found ClassAtom) [
                 | None ↦ first_production (escape_productions table parameters c t)
@@ -309,7 +317,7 @@ module _ (table : Table) (maps : HasCaseDataOfUnicode table) (rer : Flags) (with
               ])
           by None = escapes_follow c t
           by (Some (kind, capital)) =
-              follows_some IsAtomOf (class_escape kind capital) (set (class_members (kind, capital))) t (refl, escape_is kind capital)
+              follows_some IsAtomOf (class_escape kind capital) (set (class_members table parameters (kind, capital))) t (refl, escape_is kind capital)
 
       atom_follows : (t : Source) → Follows IsAtomOf (ClassProductions.class_atom_at table parameters t) (class_atom_at table parameters t)
       atom_follows [] = follows_none IsAtomOf None

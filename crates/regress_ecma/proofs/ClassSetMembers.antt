@@ -8,10 +8,11 @@ use Rattle.regress_base.specs.declared.charclasses.CharacterClassType.{Character
 use Rattle.regress_base.specs.declared.types.Flags.{Flags}
 use Rattle.regress_lexer.specs.Dialects.{isolates_ampersand, judges_contents}
 use Rattle.regress_lexer.specs.Source.{Source, Found, found_map, first_production, char, is_one_of, is_at}
+use Rattle.regress_lexer.specs.declared.dialect.Dialect.TheVariants.{Regress}
 use Rattle.regress_classes.specs.declared.parameters.Parameters.{Parameters}
 use Rattle.regress_classes.specs.ClassProductions.{members_of, class_letter, complement_if, class_members, one_point, points_between}
 use Rattle.regress_classes.specs.ClassProductions as ClassProductions
-use Rattle.regress_classes.specs.ClassSets.{Value, nothing, has_strings, is_not_negatable, joined, folded_left, common, without, value_of_string, value_of_strings, nested, unless_negated_strings, Operand, value_of, range_of, escaped_character_at, set_character_at, strings_by, quoted_at, property_operand, are_at, class_set_at}
+use Rattle.regress_classes.specs.ClassSets.{Value, nothing, has_strings, is_not_negatable, joined, folded_left, common, without, closed_value, value_of_string, value_of_strings, nested, unless_negated_strings, Operand, value_of, range_of, escaped_character_at, set_character_at, strings_by, quoted_at, property_operand, are_at, class_set_at}
 use Rattle.regress_classes.specs.ClassSets as ClassSets
 use Rattle.regress_classes.specs.Properties.{Property, of_points, of_strings, property_at}
 use Rattle.regress_classes.proofs.lemmas.ClassSets.{no_strings as none_if_negated}
@@ -23,7 +24,7 @@ use Rattle.regress_ecma.specs.CharSets.{Elements, no_elements, only, union, one_
 use Rattle.regress_ecma.specs.ClassGrammar.{property_node, class_strings_at, operand_productions, escaped_operand_at, operand_at, part_after, class_union_by, operands_by, contents_after, contents_at, class_set_by, character_class_at}
 use Rattle.regress_ecma.specs.Differences.{HasCaseDataOfUnicode}
 use Rattle.regress_ecma.proofs.Follows.{Follows, follows_none, follows_some, follows_if, follows_unless, follows_then, follows_map, follows_mapped, follows_same}
-use Rattle.regress_ecma.proofs.ClassMembers.{no_folding, complement-same, property_is}
+use Rattle.regress_ecma.proofs.ClassMembers.{in_regress, no_folding, complement-same, property_is}
 use Rattle.regress_ecma.proofs.Sets.{plain_sets, escape_set-plain}
 
 -- the elements of a value
@@ -85,20 +86,20 @@ module _ (table : Table) (maps : HasCaseDataOfUnicode table) (rer : Flags) (with
   operand_is node (ClassSets.character c) is = ap compile_atom is ∙ unfolded (only (one_character c))
   operand_is node (ClassSets.class value) is = is
 
-  escape_is : (kind : CharacterClassType) (capital : Bool) → only (character_class_escape table rer kind capital) ≡ elements (ClassSets.only (class_members (kind, capital)))
+  escape_is : (kind : CharacterClassType) (capital : Bool) → only (character_class_escape table rer kind capital) ≡ elements (ClassSets.only (complement_if capital (members_of kind)))
   escape_is kind true =
       ap (λ (s : CharSet). only (character_complement table rer s)) (escape_set-plain table maps rer with_u plain kind)
       ∙ ap only (complemented (members_of kind))
   escape_is kind false = ap only (escape_set-plain table maps rer with_u plain kind)
 
-  property_follows : (in_negated capital : Bool) (p : Property) (t : Source) →
-      Follows IsOperand (property_operand in_negated capital (p, t)) (Some (property_node capital p, t))
-  property_follows in_negated true (of_points members) t =
+  property_follows : (given : Parameters) (in_negated capital : Bool) (p : Property) (t : Source) →
+      Follows IsOperand (property_operand table (in_regress given) in_negated capital (p, t)) (Some (property_node capital p, t))
+  property_follows given in_negated true (of_points members) t =
       follows_some IsOperand (property members true) (ClassSets.class (ClassSets.only (ClassProductions.complement members))) t
       (ap only (property_is table maps rer with_u (plain_sets table maps rer with_u plain) true members))
-  property_follows in_negated false (of_points members) t =
+  property_follows given in_negated false (of_points members) t =
       follows_some IsOperand (property members false) (ClassSets.class (ClassSets.only members)) t (unfolded (only members))
-  property_follows in_negated capital (of_strings members) t =
+  property_follows given in_negated capital (of_strings members) t =
       follows_unless IsOperand (in_negated || capital) _ _
       (λ _. follows_some IsOperand (string_property members) (ClassSets.class (value_of_strings members)) t
       (unfolded (each_string members) ∙ each_string-same members))
@@ -134,7 +135,10 @@ module _ (table : Table) (maps : HasCaseDataOfUnicode table) (rer : Flags) (with
   nested_is node (false, v) is =
       ap (λ (i : Bool). if i then complement table rer (compile node.contents) else compile node.contents) is.invert ∙ is.contents
 
-  module _ (parameters : Parameters) (in_negated : Bool) where
+  module _ (given : Parameters) (in_negated : Bool) where
+    abbrev parameters : Parameters
+    parameters = in_regress given
+
     strings_follow : (t : Source) → Follows IsOperand (quoted_at parameters t) (class_strings_at table parameters t)
     strings_follow t =
         follows_if IsOperand (is_at (char "{") t) _ _ _ _
@@ -150,8 +154,8 @@ module _ (table : Table) (maps : HasCaseDataOfUnicode table) (rer : Flags) (with
         (λ _. follows_if IsOperand (is_one_of "pP" c) _ _ _ _
         (λ _.
         follows_then (λ (y x : Property). y ≡ x) IsOperand (property_at true table t) (property_at true table t) _ _ (follows_same _)
-        (λ p q u same. subst (λ (r : Property). Follows IsOperand (property_operand in_negated (c == char "P") (p, u)) (Some (property_node (c == char "P") r, u))) (sym same)
-        (property_follows in_negated (c == char "P") p u)))
+        (λ p q u same. subst (λ (r : Property). Follows IsOperand (property_operand table parameters in_negated (c == char "P") (p, u)) (Some (property_node (c == char "P") r, u))) (sym same)
+        (property_follows given in_negated (c == char "P") p u)))
         (λ _.
         follows_map (λ (y x : ℕ). y ≡ x) IsOperand ClassSets.character character _ _ (follows_same (escaped_character_at parameters.unicode (c ∷ t)))
         (λ x y same. ap character same)))
@@ -163,7 +167,7 @@ module _ (table : Table) (maps : HasCaseDataOfUnicode table) (rer : Flags) (with
         by : (letter : Option (CharacterClassType × Bool)) →
             Follows IsOperand
             (elim letter as (λ _. Found Operand) [
-              | Some named ↦ Some (ClassSets.class (ClassSets.only (class_members named)), t)
+              | Some named ↦ Some (ClassSets.class (ClassSets.only (class_members table parameters named)), t)
               | None ↦ first_production (ClassSets.operand_productions table parameters in_negated c t)
             ])
             (elim letter as (λ _. Found ClassAtom) [
@@ -171,7 +175,7 @@ module _ (table : Table) (maps : HasCaseDataOfUnicode table) (rer : Flags) (with
               | None ↦ first_production (operand_productions table parameters c t)
             ])
         by (Some (kind, capital)) =
-            follows_some IsOperand (class_escape kind capital) (ClassSets.class (ClassSets.only (class_members (kind, capital)))) t
+            follows_some IsOperand (class_escape kind capital) (ClassSets.class (ClassSets.only (class_members table parameters (kind, capital)))) t
             (escape_is kind capital)
         by None = productions_follow c t
 
@@ -342,27 +346,30 @@ module _ (table : Table) (maps : HasCaseDataOfUnicode table) (rer : Flags) (with
   abbrev HasContents : ClassContents → Value → Type 0
   HasContents contents value = compile contents ≡ elements value
 
-  set_follows : (parameters : Parameters) (n : ℕ) (t : Source) → Follows IsClassSet (ClassSets.class_set_by table parameters n t) (class_set_by table parameters n t)
+  set_follows : (given : Parameters) (n : ℕ) (t : Source) →
+      Follows IsClassSet (ClassSets.class_set_by table (in_regress given) n t) (class_set_by table (in_regress given) n t)
   unfolding ClassSets.class_set_by class_set_by
-  set_follows parameters zero t = follows_none IsClassSet None
-  set_follows parameters (suc n) t =
+  set_follows given zero t = follows_none IsClassSet None
+  set_follows given (suc n) t =
       let negated : Bool = is_at (char "^") t in
       follows_then HasContents IsClassSet _ _ _ _
-      (contents_follow parameters (negated && judges_contents parameters.dialect) (ClassSets.class_set_by table parameters n) (class_set_by table parameters n) (set_follows parameters n)
+      (follows_mapped HasContents HasContents (closed_value table (in_regress given)) _ _
+      (contents_follow given (negated && judges_contents Regress) (ClassSets.class_set_by table (in_regress given) n) (class_set_by table (in_regress given) n) (set_follows given n)
       (if negated then drop 1 t else t))
+      (λ value contents is. is))
       (λ value contents rest is. unless_strings negated value contents rest is)
     where
       unless_strings : (negated : Bool) (value : Value) (contents : ClassContents) (rest : Source) → HasContents contents value →
-          Follows IsClassSet (unless_negated_strings parameters.dialect negated (value, rest)) (Some (record { invert = negated; contents = contents }, rest))
-      unless_strings negated value contents rest is = by_test (negated && is_not_negatable parameters.dialect value) refl
+          Follows IsClassSet (unless_negated_strings Regress negated (value, rest)) (Some (record { invert = negated; contents = contents }, rest))
+      unless_strings negated value contents rest is = by_test (negated && is_not_negatable Regress value) refl
         where
-          by_test : (b : Bool) → (negated && is_not_negatable parameters.dialect value) ≡ b →
+          by_test : (b : Bool) → (negated && is_not_negatable Regress value) ≡ b →
               Follows IsClassSet (if b then None else Some ((negated, value), rest)) (Some (record { invert = negated; contents = contents }, rest))
           by_test true e = follows_none IsClassSet _
           by_test false e =
-              follows_some IsClassSet _ (negated, value) rest (record { invert = refl; contents = is; no_strings = none_if_negated parameters.dialect negated value e })
+              follows_some IsClassSet _ (negated, value) rest (record { invert = refl; contents = is; no_strings = none_if_negated Regress negated value e })
 
-  pub class_set_follows : (parameters : Parameters) (t : Source) →
-      Follows IsClassSet (class_set_at table parameters t) (character_class_at table parameters true t)
+  pub class_set_follows : (given : Parameters) (t : Source) →
+      Follows IsClassSet (class_set_at table (in_regress given) t) (character_class_at table (in_regress given) true t)
   unfolding character_class_at
-  class_set_follows parameters t = set_follows parameters max_nesting_depth t
+  class_set_follows given t = set_follows given max_nesting_depth t

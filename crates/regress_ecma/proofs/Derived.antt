@@ -1,11 +1,13 @@
 -- The syntax trees of the grammar have the flags in force, and quantifiers in order.
-use Rattle.std.proofs.Common.{◌≡◌, ℕ, ◌≤◌, nat_le, Bool, true, false, ◌&&◌, ◌==◌, [], ◌∷◌, drop, Option, Some, None, if◌then◌else◌, refl, ap, subst, ◌∙◌, arith}
+use Rattle.std.proofs.Common.{◌≡◌, ℕ, ◌≤◌, nat_le, Bool, true, false, ◌&&◌, ◌==◌, [], ◌∷◌, drop, Option, Some, None, if◌then◌else◌, refl, sym, ap, subst, ◌∙◌, arith}
 use Rattle.std.specs.Prelude.{IfSome}
 use Rattle.std.proofs.lemmas.Bool.Decides.{nat_tests}
 use Rattle.std.proofs.lemmas.Option.{none-some, same_Some}
 use Rattle.regress_base.specs.declared.charclasses.CharacterClassType.{CharacterClassType}
 use Rattle.regress_base.specs.declared.types.Flags.{Flags}
 use Rattle.regress_base.specs.declared.types.Quantifier.{Quantifier}
+use Rattle.regress_lexer.specs.declared.dialect.Dialect.{Dialect}
+use Rattle.regress_lexer.specs.declared.dialect.Dialect.TheVariants.{Regress}
 use Rattle.regress_lexer.specs.Digits.{is_decimal, number, front}
 use Rattle.regress_lexer.specs.Escapes.{character_escape_at}
 use Rattle.regress_lexer.specs.Modifiers.{Change, changed, modifiers_at, switched as switched_to}
@@ -16,7 +18,7 @@ use Rattle.regress_classes.specs.ClassSets.{class_set_at}
 use Rattle.regress_classes.specs.Properties.{Property, of_points, of_strings, property_at}
 use Rattle.regress_syntax.specs.Grammar.{IsPattern, AreTerms, IsItem}
 use Rattle.regress_syntax.specs.Names.{group_name_at}
-use Rattle.regress_syntax.specs.Productions.{class_parameters, Context, context_inside, Head, single, opens, head_of_item, allows, head_at, optional_quantifier_at, character_at, property_atom, number_reference_at, name_reference_at, has_name, escape_productions, escaped_by, escaped_at, brackets_at, atom_productions, atom_by, angle_at, after_question_mark_at}
+use Rattle.regress_syntax.specs.Productions.{class_parameters, complements_first, Context, context_inside, Head, single, opens, head_of_item, allows, head_at, optional_quantifier_at, character_at, property_atom, number_reference_at, name_reference_at, has_name, escape_productions, escaped_by, escaped_at, brackets_at, atom_productions, atom_by, angle_at, after_question_mark_at}
 use Rattle.regress_syntax.specs.Syntax.{Atom, class_escape, class, Group, grouping, modified, capture, look, Pattern, Terms, Item, one, either, no_terms, more_terms, atom, group}
 use Rattle.regress_syntax.proofs.lemmas.Productions.{optional_quantifier_at-ordered}
 use Rattle.regress_tree.specs.Reading.{forwards, backwards}
@@ -53,65 +55,68 @@ pub holds_found : {A B : Type 0} (P : B → Type 0) (f : A → B) (found : Found
 holds_found P f None h = holds_none P
 holds_found P f (Some (a, t)) h = holds_some P (f a) t (h a t refl)
 
-module _ (ctx : Context) where
-  abbrev HasFlags : Atom → Type 0
-  HasFlags a = flags_of a ≡ ctx.setting.flags
+module _ (given : Context) where
+  abbrev context : Context
+  context = record given { dialect = Regress }
 
-  character_holds : (c : ℕ) (t : Source) → Holds HasFlags (character_at ctx c t)
-  character_holds c t = holds_map HasFlags _ (character_escape_at ctx.dialect ctx.setting.flags.unicode (c ∷ t)) (λ a. refl)
+  abbrev HasFlags : Atom → Type 0
+  HasFlags a = flags_of a ≡ context.setting.flags
+
+  character_holds : (c : ℕ) (t : Source) → Holds HasFlags (character_at context c t)
+  character_holds c t = holds_map HasFlags _ (character_escape_at context.dialect context.setting.flags.unicode (c ∷ t)) (λ a. refl)
 
   class_if : (b : Bool) (members others : _) (negated : Bool) →
-      flags_of (if b then class ctx.setting.flags false members else class ctx.setting.flags negated others) ≡ ctx.setting.flags
+      flags_of (if b then class context.setting.flags false members else class context.setting.flags negated others) ≡ context.setting.flags
   class_if true members others negated = refl
   class_if false members others negated = refl
 
-  property_holds : (negated : Bool) (x : Property × Source) → Holds HasFlags (property_atom ctx negated x)
-  property_holds negated (of_points members, t) = holds_some HasFlags _ t (class_if (negated && ctx.setting.flags.icase) _ members negated)
+  property_holds : (negated : Bool) (x : Property × Source) → Holds HasFlags (property_atom context negated x)
+  property_holds negated (of_points members, t) = holds_some HasFlags _ t (class_if (negated && complements_first context) _ members negated)
   property_holds negated (of_strings written, t) = holds_if HasFlags negated _ _ (holds_none HasFlags) (holds_some HasFlags _ t refl)
 
-  number_holds : (c : ℕ) (t : Source) → Holds HasFlags (number_reference_at ctx c t)
+  number_holds : (c : ℕ) (t : Source) → Holds HasFlags (number_reference_at context c t)
   number_holds c t =
-      holds_if HasFlags (nat_le (number 10 (front is_decimal (c ∷ t))) ctx.groups) _ _ (holds_some HasFlags _ _ refl)
-      (holds_if HasFlags ctx.setting.flags.unicode _ _ (holds_none HasFlags) (character_holds c t))
+      holds_if HasFlags (nat_le (number 10 (front is_decimal (c ∷ t))) context.groups) _ _ (holds_some HasFlags _ _ refl)
+      (holds_if HasFlags context.setting.flags.unicode _ _ (holds_none HasFlags) (character_holds c t))
 
-  name_holds : (t : Source) → Holds HasFlags (name_reference_at ctx t)
+  name_holds : (t : Source) → Holds HasFlags (name_reference_at context t)
   name_holds t =
-      holds_then HasFlags (group_name_at ctx.setting.table t) _
-      (λ x. holds_if HasFlags (has_name x.0 ctx.names) _ _ (holds_some HasFlags _ x.1 refl) (holds_none HasFlags))
+      holds_then HasFlags (group_name_at context.setting.table t) _
+      (λ x. holds_if HasFlags (has_name x.0 context.names) _ _ (holds_some HasFlags _ x.1 refl) (holds_none HasFlags))
 
-  escapes_hold : (c : ℕ) (t : Source) → EachProduction (Holds HasFlags) (escape_productions ctx c t)
+  escapes_hold : (c : ℕ) (t : Source) → EachProduction (Holds HasFlags) (escape_productions context c t)
   escapes_hold c t =
       (λ _. holds_some HasFlags _ _ refl)
       also (λ _. holds_some HasFlags _ _ refl)
       also (λ _. holds_some HasFlags _ _ refl)
-      also (λ _. holds_then HasFlags (property_at ctx.setting.flags.unicode_sets ctx.setting.table t) _ (property_holds _))
+      also (λ _. holds_then HasFlags (property_at context.setting.flags.unicode_sets context.setting.table t) _ (property_holds _))
       also (λ _. number_holds c t)
       also (λ _. name_holds t)
       also (λ _. character_holds c t)
       also no_more
 
-  escaped_by-holds : (c : ℕ) (t : Source) → Holds HasFlags (escaped_by ctx c t)
+  escaped_by-holds : (c : ℕ) (t : Source) → Holds HasFlags (escaped_by context c t)
   escaped_by-holds c t = by (class_letter c)
     where
       by : (letter : Option (CharacterClassType × Bool)) →
           Holds HasFlags (elim letter as (λ _. Found Atom) [
-            | Some named ↦ Some (class_escape ctx.setting.flags named.0 named.1, t)
-            | None ↦ first_production (escape_productions ctx c t)
+            | Some named ↦ Some (class_escape context.setting.flags named.0 named.1, t)
+            | None ↦ first_production (escape_productions context c t)
           ])
       by (Some named) = holds_some HasFlags _ t refl
-      by None = first_production-has (Holds HasFlags) (escape_productions ctx c t) (holds_none HasFlags) (escapes_hold c t)
+      by None = first_production-has (Holds HasFlags) (escape_productions context c t) (holds_none HasFlags) (escapes_hold c t)
 
-  escaped_holds : (t : Source) → Holds HasFlags (escaped_at ctx t)
+  escaped_holds : (t : Source) → Holds HasFlags (escaped_at context t)
   escaped_holds [] = holds_none HasFlags
   escaped_holds (c ∷ t) = escaped_by-holds c t
 
-  brackets_hold : (t : Source) → Holds HasFlags (brackets_at ctx t)
+  brackets_hold : (t : Source) → Holds HasFlags (brackets_at context t)
   brackets_hold t =
-      holds_if HasFlags ctx.setting.flags.unicode_sets _ _
-      (holds_map HasFlags _ (class_set_at ctx.setting.table (class_parameters ctx) t) (λ a. refl))
-      (holds_map HasFlags _ (class_at ctx.setting.table (class_parameters ctx) t) (λ a. refl))
+      holds_if HasFlags context.setting.flags.unicode_sets _ _
+      (holds_map HasFlags _ (class_set_at context.setting.table (class_parameters context) t) (λ a. refl))
+      (holds_map HasFlags _ (class_at context.setting.table (class_parameters context) t) (λ a. refl))
 
-  atoms_hold : (c : ℕ) (t : Source) → EachProduction (Holds HasFlags) (atom_productions ctx c t)
+  atoms_hold : (c : ℕ) (t : Source) → EachProduction (Holds HasFlags) (atom_productions context c t)
   atoms_hold c t =
       (λ _. holds_some HasFlags _ t refl)
       also (λ _. holds_some HasFlags _ t refl)
@@ -136,26 +141,26 @@ module _ (ctx : Context) where
   map_opens : {A : Type 0} (kind : A → Group) (found : Found A) → Holds HeadHasFlags (found_map (λ a. opens (kind a)) found)
   map_opens kind found = holds_map HeadHasFlags (λ a. opens (kind a)) found (λ a. tt)
 
-  angle_holds : (t : Source) → Holds HeadHasFlags (angle_at ctx.setting.table t)
+  angle_holds : (t : Source) → Holds HeadHasFlags (angle_at context.setting.table t)
   angle_holds t =
       holds_if HeadHasFlags (is_at 61 (drop 1 t)) _ _ (opens_hold (look false backwards) (drop 2 t))
       (holds_if HeadHasFlags (is_at 33 (drop 1 t)) _ _ (opens_hold (look true backwards) (drop 2 t))
-      (map_opens (λ name. capture (Some name)) (group_name_at ctx.setting.table t)))
+      (map_opens (λ name. capture (Some name)) (group_name_at context.setting.table t)))
 
-  question_mark_holds : (t : Source) → Holds HeadHasFlags (after_question_mark_at ctx.setting.table t)
+  question_mark_holds : (t : Source) → Holds HeadHasFlags (after_question_mark_at context.setting.table t)
   question_mark_holds t =
       holds_if HeadHasFlags (is_at colon t) _ _ (opens_hold grouping (drop 1 t))
       (holds_if HeadHasFlags (is_at 61 t) _ _ (opens_hold (look false forwards) (drop 1 t))
       (holds_if HeadHasFlags (is_at 33 t) _ _ (opens_hold (look true forwards) (drop 1 t))
       (holds_if HeadHasFlags (is_at 60 t) _ _ (angle_holds t) (map_opens modified (modifiers_at t)))))
 
-  head_holds : (t : Source) → Holds HeadHasFlags (head_at ctx t)
+  head_holds : (t : Source) → Holds HeadHasFlags (head_at context t)
   unfolding head_at
   head_holds [] = holds_none HeadHasFlags
   head_holds (c ∷ t) =
       holds_if HeadHasFlags (c == opening) _ _
       (holds_if HeadHasFlags (is_at question_mark t) _ _ (question_mark_holds (drop 1 t)) (opens_hold (capture None) t))
-      (single_holds (atom_by ctx c t) (first_production-has (Holds HasFlags) (atom_productions ctx c t) (holds_none HasFlags) (atoms_hold c t)))
+      (single_holds (atom_by context c t) (first_production-has (Holds HasFlags) (atom_productions context c t) (holds_none HasFlags) (atoms_hold c t)))
 
 -- ---- quantifiers and modifiers
 
@@ -198,20 +203,35 @@ inside_same (look negate direction) ctx = refl
 
 -- ---- patterns
 
-mutual
-  pub derived_proper : (ctx : Context) (p : Pattern) (t rest : Source) → IsPattern ctx p t rest → IsProper ctx.setting.flags p
-  derived_proper ctx (one ts) t rest derived = terms_proper ctx ts t rest derived.0
-  derived_proper ctx (either ts p) t rest derived = (terms_proper ctx ts t _ derived.1, derived_proper ctx p derived.0 rest derived.2)
+pub dialect_inside : (kind : Group) (ctx : Context) → (context_inside kind ctx).dialect ≡ ctx.dialect
+dialect_inside grouping ctx = refl
+dialect_inside (modified change) ctx = refl
+dialect_inside (capture name) ctx = refl
+dialect_inside (look negate direction) ctx = refl
 
-  terms_proper : (ctx : Context) (ts : Terms) (t rest : Source) → AreTerms ctx ts t rest → AreProper ctx.setting.flags ts
-  terms_proper ctx no_terms t rest derived = tt
-  terms_proper ctx (more_terms x q xs) t rest derived = (
-    item_proper ctx x t derived.0 derived.2,
+atom_proper : (ctx : Context) → ctx.dialect ≡ Regress → (a : Atom) (t rest : Source) → head_at ctx t ≡ Some (single a, rest) →
+    flags_of a ≡ ctx.setting.flags
+atom_proper ctx regress a t rest =
+    let Is : Dialect → Type 0 =
+    λ dialect. head_at (record ctx { dialect = dialect }) t ≡ Some (single a, rest) → flags_of a ≡ ctx.setting.flags in
+    subst Is (sym regress) (λ found. (head_holds ctx t).each (single a, rest) found)
+
+mutual
+  pub derived_proper : (ctx : Context) → ctx.dialect ≡ Regress → (p : Pattern) (t rest : Source) → IsPattern ctx p t rest → IsProper ctx.setting.flags p
+  derived_proper ctx regress (one ts) t rest derived = terms_proper ctx regress ts t rest derived.0
+  derived_proper ctx regress (either ts p) t rest derived =
+      (terms_proper ctx regress ts t _ derived.1, derived_proper ctx regress p derived.0 rest derived.2)
+
+  terms_proper : (ctx : Context) → ctx.dialect ≡ Regress → (ts : Terms) (t rest : Source) → AreTerms ctx ts t rest → AreProper ctx.setting.flags ts
+  terms_proper ctx regress no_terms t rest derived = tt
+  terms_proper ctx regress (more_terms x q xs) t rest derived = (
+    item_proper ctx regress x t derived.0 derived.2,
     in_order ctx (allows ctx (head_of_item x)) derived.0 q derived.1 derived.3,
-    terms_proper ctx xs derived.1 rest derived.4,
+    terms_proper ctx regress xs derived.1 rest derived.4,
   )
 
-  item_proper : (ctx : Context) (x : Item) (t rest : Source) → IsItem ctx x t rest → IsProperItem ctx.setting.flags x
-  item_proper ctx (atom a) t rest derived = (head_holds ctx t).each (single a, rest) derived
-  item_proper ctx (group kind p) t rest derived =
-      subst (λ (flags : Flags). IsProper flags p) (inside_same kind ctx) (derived_proper (context_inside kind ctx) p derived.0 _ derived.2)
+  item_proper : (ctx : Context) → ctx.dialect ≡ Regress → (x : Item) (t rest : Source) → IsItem ctx x t rest → IsProperItem ctx.setting.flags x
+  item_proper ctx regress (atom a) t rest derived = atom_proper ctx regress a t rest derived
+  item_proper ctx regress (group kind p) t rest derived =
+      subst (λ (flags : Flags). IsProper flags p) (inside_same kind ctx)
+      (derived_proper (context_inside kind ctx) (dialect_inside kind ctx ∙ regress) p derived.0 _ derived.2)

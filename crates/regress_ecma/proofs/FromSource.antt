@@ -10,6 +10,8 @@ use Rattle.regress_tree.specs.Assertions.{differ}
 use Rattle.regress_tree.specs.Reading.{Direction, forwards, backwards, IsText}
 use Rattle.regress_tree.specs.Steps.{Setting}
 use Rattle.regress_base.specs.declared.types.AnchorType.TheVariants.{StartOfLine, EndOfLine}
+use Rattle.regress_lexer.specs.declared.dialect.Dialect.{Dialect}
+use Rattle.regress_lexer.specs.declared.dialect.Dialect.TheVariants.{Regress}
 use Rattle.regress_lexer.specs.Digits.{is_decimal, number, front}
 use Rattle.regress_lexer.specs.Escapes.{character_escape_at}
 use Rattle.regress_lexer.specs.Modifiers.{modifiers_at}
@@ -39,9 +41,13 @@ use Rattle.regress_ecma.specs.Exec.{match_at, or_later, first_match, builtin_exe
 use Rattle.regress_ecma.proofs.CharacterSets.{Agrees-character}
 use Rattle.regress_ecma.proofs.ClassMembers.{IsCharSetOf, HasNoEnds, covers-same, covers-found, complement-same, property_is, class_follows}
 use Rattle.regress_ecma.proofs.ClassSetMembers.{elements, class_set_follows}
-use Rattle.regress_ecma.proofs.Derived.{Holds, holds_none, holds_some, holds_if, holds_then, holds_map, holds_found}
+use Rattle.regress_ecma.proofs.Derived.{dialect_inside, Holds, holds_none, holds_some, holds_if, holds_then, holds_map, holds_found}
 use Rattle.regress_ecma.proofs.Sets.{complement_is_set}
 use Rattle.regress_ecma.proofs.Theorem.{HasFlagsOf, AtomAgrees, with_u_in, members_set, atom_agrees, IsLikeAtom, IsLike, like_one, like_either, AreLike, like_none, like_more, IsLikeItem, like_atom, like_group, names_like, like_outcome, unset_everywhere, pattern_outcome}
+
+and_true : (b : Bool) → (b && true) ≡ b
+and_true true = refl
+and_true false = refl
 
 -- Without u and i, or where the class may contain `\W`, no condition is needed.
 no_ends_of : (rer : Flags) (members : CharSet) → (rer.icase && differs_in_case rer members) ≡ false → HasNoEnds rer members
@@ -85,82 +91,85 @@ module _ (setting : Setting) (maps : HasCaseDataOfUnicode setting.table) (with_u
       ∙ members_set setting maps with_u all text is_text fuel enough rer flags inverted members none ch scalar')
       d
 
-  module _ (ctx : Context) (same : ctx.setting.table ≡ setting.table) where
+  module _ (given : Context) (same : given.setting.table ≡ setting.table) where
+    abbrev context : Context
+    context = record given { dialect = Regress }
+
     abbrev flags' : Flags
-    flags' = ctx.setting.flags
+    flags' = context.setting.flags
 
     abbrev IsGood : Source → Atom → Type 0
-    IsGood t a = Like a (atom_of ctx a t)
+    IsGood t a = Like a (atom_of context a t)
 
     abbrev Matches : Direction → Atom → Atom → Type 0
     Matches d a b = AtomAgrees setting maps with_u all text is_text fuel enough d a b flags'
 
-    here : HasCaseDataOfUnicode ctx.setting.table
+    here : HasCaseDataOfUnicode context.setting.table
     here = subst HasCaseDataOfUnicode (sym same) maps
 
     -- ---- classes in brackets
 
     abbrev by_class : Found CharacterClass → Atom
     by_class found =
-        elim found as (λ _. Atom) [ None ↦ class flags' false [] | Some read ↦ compile_character_class ctx.setting.table flags' read.0 ]
+        elim found as (λ _. Atom) [ None ↦ class flags' false [] | Some read ↦ compile_character_class context.setting.table flags' read.0 ]
 
     compiled_is : (c : ℕ) (t : Source) (sets : Bool) (node : CharacterClass) (rest : Source) → (c == char "[") ≡ true → flags'.unicode_sets ≡ sets →
-        character_class_at ctx.setting.table (class_parameters ctx) sets t ≡ Some (node, rest) →
-        compiled ctx (c ∷ t) ≡ compile_character_class ctx.setting.table flags' node
+        character_class_at context.setting.table (class_parameters context) sets t ≡ Some (node, rest) →
+        compiled context (c ∷ t) ≡ compile_character_class context.setting.table flags' node
     compiled_is c t sets node rest first is_sets found =
-        ap (λ (b : Bool). if b then class_compiled ctx t else property_compiled ctx t) first
-        ∙ ap (λ (b : Bool). by_class (character_class_at ctx.setting.table (class_parameters ctx) b t)) is_sets
+        ap (λ (b : Bool). if b then class_compiled context t else property_compiled context t) first
+        ∙ ap (λ (b : Bool). by_class (character_class_at context.setting.table (class_parameters context) b t)) is_sets
         ∙ ap by_class found
 
     class_good : (c : ℕ) (t : Source) (inverted : Bool) (members : CharSet) (rest : Source) → (c == char "[") ≡ true →
-        flags'.unicode_sets ≡ false → class_at ctx.setting.table (class_parameters ctx) t ≡ Some ((inverted, members), rest) →
+        flags'.unicode_sets ≡ false → class_at context.setting.table (class_parameters context) t ≡ Some ((inverted, members), rest) →
         IsGood (c ∷ t) (class flags' inverted members)
     class_good c t inverted members rest first no_sets found d flags none =
         let read =
-        (class_follows ctx.setting.table here flags' (with_u_of flags' flags) (no_fold_of flags' members none) (class_parameters ctx) t).each
+        (class_follows context.setting.table here flags' (with_u_of flags' flags) (no_fold_of flags' members none) (class_parameters context) t).each
         (inverted, members) rest found in
-        let set' : CharSet = (compile_to_char_set ctx.setting.table flags' read.value.contents).characters in
-        let is : compiled ctx (c ∷ t) ≡ class flags' inverted set' =
+        let set' : CharSet = (compile_to_char_set context.setting.table flags' read.value.contents).characters in
+        let is : compiled context (c ∷ t) ≡ class flags' inverted set' =
         compiled_is c t false read.value rest first no_sets read.found
-        ∙ ap (λ (b : Bool). if b then class_of ctx.setting.table flags' (if read.value.invert then complement ctx.setting.table flags' (compile_to_char_set ctx.setting.table flags' read.value.contents) else compile_to_char_set ctx.setting.table flags' read.value.contents) else class flags' read.value.invert set') no_sets
+        ∙ ap (λ (b : Bool). if b then class_of context.setting.table flags' (if read.value.invert then complement context.setting.table flags' (compile_to_char_set context.setting.table flags' read.value.contents) else compile_to_char_set context.setting.table flags' read.value.contents) else class flags' read.value.invert set') no_sets
         ∙ ap (λ (b : Bool). class flags' b set') read.related.invert in
         subst (λ (b : Atom). Matches d (class flags' inverted members) b) (sym is)
         (class_like flags' inverted members set' (λ _. subst (λ (table : Table). IsCharSetOf table flags' set' members) same read.related.contents) d)
         flags none
 
     class_set_good : (c : ℕ) (t : Source) (negated : Bool) (value : Value) (rest : Source) → (c == char "[") ≡ true →
-        flags'.unicode_sets ≡ true → class_set_at ctx.setting.table (class_parameters ctx) t ≡ Some ((negated, value), rest) →
+        flags'.unicode_sets ≡ true → class_set_at context.setting.table (class_parameters context) t ≡ Some ((negated, value), rest) →
         IsGood (c ∷ t) (class_set flags' negated value)
     class_set_good c t negated value rest first sets found d flags none =
         let plain : flags'.icase ≡ false = (or_parts flags'.icase (negated && has_strings value) none).0 in
-        let read = (class_set_follows ctx.setting.table here flags' (with_u_of flags' flags) plain (class_parameters ctx) t).each (negated, value) rest found in
-        let is : compiled ctx (c ∷ t) ≡ class_of ctx.setting.table flags' (if negated then complement ctx.setting.table flags' (elements value) else elements value) =
+        let read = (class_set_follows context.setting.table here flags' (with_u_of flags' flags) plain (class_parameters context) t).each (negated, value) rest found in
+        let is : compiled context (c ∷ t) ≡ class_of context.setting.table flags' (if negated then complement context.setting.table flags' (elements value) else elements value) =
         compiled_is c t true read.value rest first sets read.found
-        ∙ ap (λ (b : Bool). if b then class_of ctx.setting.table flags' (if read.value.invert then complement ctx.setting.table flags' (compile_to_char_set ctx.setting.table flags' read.value.contents) else compile_to_char_set ctx.setting.table flags' read.value.contents) else class flags' read.value.invert (compile_to_char_set ctx.setting.table flags' read.value.contents).characters) sets
-        ∙ ap₂ (λ (b : Bool) (e : Elements). class_of ctx.setting.table flags' (if b then complement ctx.setting.table flags' e else e)) read.related.invert read.related.contents in
+        ∙ ap (λ (b : Bool). if b then class_of context.setting.table flags' (if read.value.invert then complement context.setting.table flags' (compile_to_char_set context.setting.table flags' read.value.contents) else compile_to_char_set context.setting.table flags' read.value.contents) else class flags' read.value.invert (compile_to_char_set context.setting.table flags' read.value.contents).characters) sets
+        ∙ ap₂ (λ (b : Bool) (e : Elements). class_of context.setting.table flags' (if b then complement context.setting.table flags' e else e)) read.related.invert read.related.contents in
         subst (λ (b : Atom). Matches d (class_set flags' negated value) b) (sym is) (by_sign negated none) flags none
       where
         by_sign : (b : Bool) → differs_at_atom all flags' (class_set flags' b value) ≡ false →
-            Matches d (class_set flags' b value) (class_of ctx.setting.table flags' (if b then complement ctx.setting.table flags' (elements value) else elements value))
+            Matches d (class_set flags' b value) (class_of context.setting.table flags' (if b then complement context.setting.table flags' (elements value) else elements value))
         by_sign true h =
             subst
-            (λ (table : Table). Matches d (class_set flags' true value) (class_of ctx.setting.table flags' (only (character_complement table flags' value.members))))
+            (λ (table : Table). Matches d (class_set flags' true value) (class_of context.setting.table flags' (only (character_complement table flags' value.members))))
             (sym same) (alike (class_set flags' true value) d)
         by_sign false h = alike (class_set flags' false value) d
 
-    brackets_good : (c : ℕ) (t : Source) → (c == char "[") ≡ true → Holds (IsGood (c ∷ t)) (brackets_at ctx t)
+    brackets_good : (c : ℕ) (t : Source) → (c == char "[") ≡ true → Holds (IsGood (c ∷ t)) (brackets_at context t)
     brackets_good c t first = by_test flags'.unicode_sets refl
       where
         by_test : (v : Bool) → flags'.unicode_sets ≡ v →
             Holds (IsGood (c ∷ t))
             (if v
-            then found_map (λ (negated, value). class_set flags' negated value) (class_set_at ctx.setting.table (class_parameters ctx) t)
-            else found_map (λ (inverted, members). class flags' inverted members) (class_at ctx.setting.table (class_parameters ctx) t))
+            then found_map (λ (negated, value). class_set flags' negated value) (class_set_at context.setting.table (class_parameters context) t)
+            else found_map (λ (inverted, members). class flags' inverted members) (class_at context.setting.table (class_parameters context) t))
         by_test true e =
-            holds_found (IsGood (c ∷ t)) (λ (negated, value). class_set flags' negated value) (class_set_at ctx.setting.table (class_parameters ctx) t)
+            holds_found (IsGood (c ∷ t)) (λ (negated, value). class_set flags' negated value) (class_set_at context.setting.table (class_parameters context) t)
             (λ (negated, value) rest found. class_set_good c t negated value rest first e found)
         by_test false e =
-            holds_found (IsGood (c ∷ t)) (λ (inverted, members). class flags' inverted members) (class_at ctx.setting.table (class_parameters ctx) t)
+            holds_found (IsGood (c ∷ t)) (λ (inverted, members). class flags' inverted members) (class_at context.setting.table (class_parameters context) t)
             (λ (inverted, members) rest found. class_good c t inverted members rest first e found)
 
     -- ---- properties
@@ -169,11 +178,11 @@ module _ (setting : Setting) (maps : HasCaseDataOfUnicode setting.table) (with_u
     by_property capital found =
         elim found as (λ _. Atom) [
           | None ↦ class flags' false []
-          | Some read ↦ class flags' false ((atom_to_char_set ctx.setting.table flags' (property_node capital read.0)).characters)
+          | Some read ↦ class flags' false ((atom_to_char_set context.setting.table flags' (property_node capital read.0)).characters)
         ]
 
     abbrev property_set : Bool → CharSet → CharSet
-    property_set capital members = (atom_to_char_set ctx.setting.table flags' (property members capital)).characters
+    property_set capital members = (atom_to_char_set context.setting.table flags' (property members capital)).characters
 
     property_is_good : (members : CharSet) (capital cased : Bool) → flags'.icase ≡ cased →
         Like (if capital && cased then class flags' false (ClassProductions.complement members) else class flags' capital members)
@@ -181,18 +190,18 @@ module _ (setting : Setting) (maps : HasCaseDataOfUnicode setting.table) (with_u
     property_is_good members false cased e d flags none =
         class_like flags' false members (property_set false members)
         (λ _. covers-same setting.table flags' _ _
-        (property_is ctx.setting.table here flags' (with_u_of flags' flags) (no_fold_of flags' members none) false members))
+        (property_is context.setting.table here flags' (with_u_of flags' flags) (no_fold_of flags' members none) false members))
         d flags none
     property_is_good members true true e d flags none =
         class_like flags' false (ClassProductions.complement members) (property_set true members)
         (λ _. covers-same setting.table flags' _ _
-        (property_is ctx.setting.table here flags' (with_u_of flags' flags)
+        (property_is context.setting.table here flags' (with_u_of flags' flags)
         (no_fold_of flags' (ClassProductions.complement members) none) true members))
         d flags none
     property_is_good members true false e d flags none =
         let no_fold = no_fold_of flags' members none in
         let is : property_set true members ≡ character_complement setting.table flags' members =
-        property_is ctx.setting.table here flags' (with_u_of flags' flags) no_fold true members
+        property_is context.setting.table here flags' (with_u_of flags' flags) no_fold true members
         ∙ sym (complement-same setting.table maps flags' (with_u_of flags' flags) no_fold members) in
         Agrees-character setting.table flags' (property_set true members) false (is_in_class setting.table flags' true members) text is_text
         (λ ch scalar'.
@@ -201,35 +210,35 @@ module _ (setting : Setting) (maps : HasCaseDataOfUnicode setting.table) (with_u
         d
 
     property_good : (c k : ℕ) (t : Source) (members : CharSet) (rest : Source) → (c == char "\\") ≡ true →
-        property_at flags'.unicode_sets ctx.setting.table t ≡ Some (of_points members, rest) →
-        IsGood (c ∷ k ∷ t) (point_property ctx (k == char "P") members)
+        property_at flags'.unicode_sets context.setting.table t ≡ Some (of_points members, rest) →
+        IsGood (c ∷ k ∷ t) (point_property context (k == char "P") members)
     property_good c k t members rest first found =
-        good (k == char "P") flags'.icase refl
-        (ap (λ (b : Bool). if b then class_compiled ctx (k ∷ t) else property_compiled ctx (k ∷ t)) no_bracket ∙ ap (by_property (k == char "P")) found)
+        good (k == char "P") (flags'.icase && true) (sym (and_true flags'.icase))
+        (ap (λ (b : Bool). if b then class_compiled context (k ∷ t) else property_compiled context (k ∷ t)) no_bracket ∙ ap (by_property (k == char "P")) found)
       where
         no_bracket : (c == char "[") ≡ false
         no_bracket = ap (λ (x : ℕ). x == char "[") (eqb-true c (char "\\") first)
 
-        good : (capital cased : Bool) → flags'.icase ≡ cased → compiled ctx (c ∷ k ∷ t) ≡ class flags' false (property_set capital members) →
+        good : (capital cased : Bool) → flags'.icase ≡ cased → compiled context (c ∷ k ∷ t) ≡ class flags' false (property_set capital members) →
             IsGood (c ∷ k ∷ t) (if capital && cased then class flags' false (ClassProductions.complement members) else class flags' capital members)
         good true true e is = subst (Like (class flags' false (ClassProductions.complement members))) (sym is) (property_is_good members true true e)
         good true false e is = subst (Like (class flags' true members)) (sym is) (property_is_good members true false e)
         good false cased e is = subst (Like (class flags' false members)) (sym is) (property_is_good members false cased e)
 
     property_holds : (c k : ℕ) (t : Source) → (c == char "\\") ≡ true → (p : Property) (rest : Source) →
-        property_at flags'.unicode_sets ctx.setting.table t ≡ Some (p, rest) → Holds (IsGood (c ∷ k ∷ t)) (property_atom ctx (k == char "P") (p, rest))
+        property_at flags'.unicode_sets context.setting.table t ≡ Some (p, rest) → Holds (IsGood (c ∷ k ∷ t)) (property_atom context (k == char "P") (p, rest))
     property_holds c k t first (of_points members) rest found =
-        holds_some (IsGood (c ∷ k ∷ t)) (point_property ctx (k == char "P") members) rest (property_good c k t members rest first found)
+        holds_some (IsGood (c ∷ k ∷ t)) (point_property context (k == char "P") members) rest (property_good c k t members rest first found)
     property_holds c k t first (of_strings written) rest found =
         holds_if (IsGood (c ∷ k ∷ t)) (k == char "P") _ _ (holds_none (IsGood (c ∷ k ∷ t)))
         (holds_some (IsGood (c ∷ k ∷ t)) (string_property flags' written) rest (alike (string_property flags' written)))
 
     property_at_holds : (c k : ℕ) (t : Source) → (c == char "\\") ≡ true →
-        Holds (IsGood (c ∷ k ∷ t)) (property_at flags'.unicode_sets ctx.setting.table t >>= property_atom ctx (k == char "P"))
-    property_at_holds c k t first = by (property_at flags'.unicode_sets ctx.setting.table t) refl
+        Holds (IsGood (c ∷ k ∷ t)) (property_at flags'.unicode_sets context.setting.table t >>= property_atom context (k == char "P"))
+    property_at_holds c k t first = by (property_at flags'.unicode_sets context.setting.table t) refl
       where
-        by : (found : Found Property) → property_at flags'.unicode_sets ctx.setting.table t ≡ found →
-            Holds (IsGood (c ∷ k ∷ t)) (found >>= property_atom ctx (k == char "P"))
+        by : (found : Found Property) → property_at flags'.unicode_sets context.setting.table t ≡ found →
+            Holds (IsGood (c ∷ k ∷ t)) (found >>= property_atom context (k == char "P"))
         by None e = holds_none (IsGood (c ∷ k ∷ t))
         by (Some (p, rest)) e = property_holds c k t first p rest e
 
@@ -239,23 +248,23 @@ module _ (setting : Setting) (maps : HasCaseDataOfUnicode setting.table) (with_u
       literal_good : (c : ℕ) → IsGood s (literal flags' c)
       literal_good c = alike (literal flags' c)
 
-      character_good : (c : ℕ) (t : Source) → Holds (IsGood s) (character_at ctx c t)
-      character_good c t = holds_map (IsGood s) (literal flags') (character_escape_at ctx.dialect flags'.unicode (c ∷ t)) literal_good
+      character_good : (c : ℕ) (t : Source) → Holds (IsGood s) (character_at context c t)
+      character_good c t = holds_map (IsGood s) (literal flags') (character_escape_at context.dialect flags'.unicode (c ∷ t)) literal_good
 
-      number_good : (c : ℕ) (t : Source) → Holds (IsGood s) (number_reference_at ctx c t)
+      number_good : (c : ℕ) (t : Source) → Holds (IsGood s) (number_reference_at context c t)
       number_good c t =
-          holds_if (IsGood s) (nat_le (number 10 (front is_decimal (c ∷ t))) ctx.groups) _ _
+          holds_if (IsGood s) (nat_le (number 10 (front is_decimal (c ∷ t))) context.groups) _ _
           (holds_some (IsGood s) (back_reference flags' (by_number (number 10 (front is_decimal (c ∷ t))))) _ (alike (back_reference flags' (by_number _))))
           (holds_if (IsGood s) flags'.unicode _ _ (holds_none (IsGood s)) (character_good c t))
 
-      name_good : (t : Source) → Holds (IsGood s) (name_reference_at ctx t)
+      name_good : (t : Source) → Holds (IsGood s) (name_reference_at context t)
       name_good t =
-          holds_then (IsGood s) (group_name_at ctx.setting.table t) _
-          (λ x. holds_if (IsGood s) (has_name x.0 ctx.names) _ _
-          (holds_some (IsGood s) (back_reference flags' (named_target ctx.dialect x.0)) x.1 (alike (back_reference flags' (named_target ctx.dialect x.0))))
+          holds_then (IsGood s) (group_name_at context.setting.table t) _
+          (λ x. holds_if (IsGood s) (has_name x.0 context.names) _ _
+          (holds_some (IsGood s) (back_reference flags' (named_target context.dialect x.0)) x.1 (alike (back_reference flags' (named_target context.dialect x.0))))
           (holds_none (IsGood s)))
 
-    escapes_good : (c k : ℕ) (t : Source) → (c == char "\\") ≡ true → EachProduction (Holds (IsGood (c ∷ k ∷ t))) (escape_productions ctx k t)
+    escapes_good : (c k : ℕ) (t : Source) → (c == char "\\") ≡ true → EachProduction (Holds (IsGood (c ∷ k ∷ t))) (escape_productions context k t)
     escapes_good c k t first =
         (λ _. holds_some (IsGood (c ∷ k ∷ t)) (boundary flags' false) _ (alike (boundary flags' false)))
         also (λ _. holds_some (IsGood (c ∷ k ∷ t)) (boundary flags' true) _ (alike (boundary flags' true)))
@@ -266,23 +275,23 @@ module _ (setting : Setting) (maps : HasCaseDataOfUnicode setting.table) (with_u
         also (λ _. character_good (c ∷ k ∷ t) k t)
         also no_more
 
-    escaped_by-good : (c k : ℕ) (t : Source) → (c == char "\\") ≡ true → Holds (IsGood (c ∷ k ∷ t)) (escaped_by ctx k t)
+    escaped_by-good : (c k : ℕ) (t : Source) → (c == char "\\") ≡ true → Holds (IsGood (c ∷ k ∷ t)) (escaped_by context k t)
     escaped_by-good c k t first = by (class_letter k)
       where
         by : (letter : Option (CharacterClassType × Bool)) →
             Holds (IsGood (c ∷ k ∷ t)) (elim letter as (λ _. Found Atom) [
               | Some named ↦ Some (class_escape flags' named.0 named.1, t)
-              | None ↦ first_production (escape_productions ctx k t)
+              | None ↦ first_production (escape_productions context k t)
             ])
         by (Some named) = holds_some (IsGood (c ∷ k ∷ t)) (class_escape flags' named.0 named.1) t (alike (class_escape flags' named.0 named.1))
         by None =
-            first_production-has (Holds (IsGood (c ∷ k ∷ t))) (escape_productions ctx k t) (holds_none (IsGood (c ∷ k ∷ t))) (escapes_good c k t first)
+            first_production-has (Holds (IsGood (c ∷ k ∷ t))) (escape_productions context k t) (holds_none (IsGood (c ∷ k ∷ t))) (escapes_good c k t first)
 
-    escaped_good : (c : ℕ) (t : Source) → (c == char "\\") ≡ true → Holds (IsGood (c ∷ t)) (escaped_at ctx t)
+    escaped_good : (c : ℕ) (t : Source) → (c == char "\\") ≡ true → Holds (IsGood (c ∷ t)) (escaped_at context t)
     escaped_good c [] first = holds_none (IsGood (c ∷ []))
     escaped_good c (k ∷ t) first = escaped_by-good c k t first
 
-    atoms_good : (c : ℕ) (t : Source) → EachProduction (Holds (IsGood (c ∷ t))) (atom_productions ctx c t)
+    atoms_good : (c : ℕ) (t : Source) → EachProduction (Holds (IsGood (c ∷ t))) (atom_productions context c t)
     atoms_good c t =
         (λ _. holds_some (IsGood (c ∷ t)) (dot flags') t (alike (dot flags')))
         also (λ _. holds_some (IsGood (c ∷ t)) (anchor flags' StartOfLine) t (alike (anchor flags' StartOfLine)))
@@ -308,27 +317,27 @@ module _ (setting : Setting) (maps : HasCaseDataOfUnicode setting.table) (with_u
       map_good : {A : Type 0} (kind : A → Group) (found : Found A) → Holds (HeadIsGood s) (found_map (λ a. opens (kind a)) found)
       map_good kind found = holds_map (HeadIsGood s) (λ a. opens (kind a)) found (λ a. tt)
 
-      angle_good : (t : Source) → Holds (HeadIsGood s) (angle_at ctx.setting.table t)
+      angle_good : (t : Source) → Holds (HeadIsGood s) (angle_at context.setting.table t)
       angle_good t =
           holds_if (HeadIsGood s) (is_at 61 (drop 1 t)) _ _ (opens_good (look false backwards) (drop 2 t))
           (holds_if (HeadIsGood s) (is_at 33 (drop 1 t)) _ _ (opens_good (look true backwards) (drop 2 t))
-          (map_good (λ name. capture (Some name)) (group_name_at ctx.setting.table t)))
+          (map_good (λ name. capture (Some name)) (group_name_at context.setting.table t)))
 
-      question_mark_good : (t : Source) → Holds (HeadIsGood s) (after_question_mark_at ctx.setting.table t)
+      question_mark_good : (t : Source) → Holds (HeadIsGood s) (after_question_mark_at context.setting.table t)
       question_mark_good t =
           holds_if (HeadIsGood s) (is_at colon t) _ _ (opens_good grouping (drop 1 t))
           (holds_if (HeadIsGood s) (is_at 61 t) _ _ (opens_good (look false forwards) (drop 1 t))
           (holds_if (HeadIsGood s) (is_at 33 t) _ _ (opens_good (look true forwards) (drop 1 t))
           (holds_if (HeadIsGood s) (is_at 60 t) _ _ (angle_good t) (map_good modified (modifiers_at t)))))
 
-    head_good : (s : Source) → Holds (HeadIsGood s) (head_at ctx s)
+    head_good : (s : Source) → Holds (HeadIsGood s) (head_at context s)
     unfolding head_at
     head_good [] = holds_none (HeadIsGood [])
     head_good (c ∷ t) =
         holds_if (HeadIsGood (c ∷ t)) (c == opening) _ _
         (holds_if (HeadIsGood (c ∷ t)) (is_at question_mark t) _ _ (question_mark_good (c ∷ t) (drop 1 t)) (opens_good (c ∷ t) (capture None) t))
-        (single_good (c ∷ t) (atom_by ctx c t)
-        (first_production-has (Holds (IsGood (c ∷ t))) (atom_productions ctx c t) (holds_none (IsGood (c ∷ t))) (atoms_good c t)))
+        (single_good (c ∷ t) (atom_by context c t)
+        (first_production-has (Holds (IsGood (c ∷ t))) (atom_productions context c t) (holds_none (IsGood (c ∷ t))) (atoms_good c t)))
 
   -- ---- syntax trees
 
@@ -337,6 +346,13 @@ module _ (setting : Setting) (maps : HasCaseDataOfUnicode setting.table) (with_u
   table_inside (modified change) ctx = refl
   table_inside (capture name) ctx = refl
   table_inside (look negate direction) ctx = refl
+
+  atom_like : (ctx : Context) → ctx.setting.table ≡ setting.table → ctx.dialect ≡ Regress → (a : Atom) (t rest : Source) →
+      head_at ctx t ≡ Some (single a, rest) → Like a (atom_of ctx a t)
+  atom_like ctx same regress a t rest =
+      let Is : Dialect → Type 0 =
+      λ dialect. head_at (record ctx { dialect = dialect }) t ≡ Some (single a, rest) → Like a (atom_of (record ctx { dialect = dialect }) a t) in
+      subst Is (sym regress) (λ found. (head_good ctx same t).each (single a, rest) found)
 
   abbrev LikePatterns : Pattern → Pattern → Type 0
   LikePatterns p q = IsLike setting maps with_u all text is_text fuel enough p q
@@ -348,27 +364,28 @@ module _ (setting : Setting) (maps : HasCaseDataOfUnicode setting.table) (with_u
   LikeItems x y = IsLikeItem setting maps with_u all text is_text fuel enough x y
 
   mutual
-    pub derived_like : (ctx : Context) → ctx.setting.table ≡ setting.table → (p : Pattern) (t rest : Source) (derived : IsPattern ctx p t rest) →
+    pub derived_like : (ctx : Context) → ctx.setting.table ≡ setting.table → ctx.dialect ≡ Regress → (p : Pattern) (t rest : Source) (derived : IsPattern ctx p t rest) →
         LikePatterns p (with_char_sets ctx p t rest derived)
-    derived_like ctx same (one ts) t rest derived = like_one ts _ (terms_like ctx same ts t rest derived.0)
-    derived_like ctx same (either ts p) t rest derived =
-        like_either ts _ p _ (terms_like ctx same ts t _ derived.1) (derived_like ctx same p derived.0 rest derived.2)
+    derived_like ctx same regress (one ts) t rest derived = like_one ts _ (terms_like ctx same regress ts t rest derived.0)
+    derived_like ctx same regress (either ts p) t rest derived =
+        like_either ts _ p _ (terms_like ctx same regress ts t _ derived.1) (derived_like ctx same regress p derived.0 rest derived.2)
 
-    terms_like : (ctx : Context) → ctx.setting.table ≡ setting.table → (ts : Terms) (t rest : Source) (derived : AreTerms ctx ts t rest) →
+    terms_like : (ctx : Context) → ctx.setting.table ≡ setting.table → ctx.dialect ≡ Regress → (ts : Terms) (t rest : Source) (derived : AreTerms ctx ts t rest) →
         LikeTerms ts (terms_with_char_sets ctx ts t rest derived)
-    terms_like ctx same no_terms t rest derived = like_none
-    terms_like ctx same (more_terms x q xs) t rest derived =
-        like_more x _ q xs _ (item_like ctx same x t derived.0 derived.2) (terms_like ctx same xs derived.1 rest derived.4)
+    terms_like ctx same regress no_terms t rest derived = like_none
+    terms_like ctx same regress (more_terms x q xs) t rest derived =
+        like_more x _ q xs _ (item_like ctx same regress x t derived.0 derived.2) (terms_like ctx same regress xs derived.1 rest derived.4)
 
-    item_like : (ctx : Context) → ctx.setting.table ≡ setting.table → (x : Item) (t rest : Source) (derived : IsItem ctx x t rest) →
+    item_like : (ctx : Context) → ctx.setting.table ≡ setting.table → ctx.dialect ≡ Regress → (x : Item) (t rest : Source) (derived : IsItem ctx x t rest) →
         LikeItems x (item_with_char_sets ctx x t rest derived)
-    item_like ctx same (atom a) t rest derived = like_atom a _ ((head_good ctx same t).each (single a, rest) derived)
-    item_like ctx same (group kind p) t rest derived =
-        like_group kind p _ (derived_like (context_inside kind ctx) (table_inside kind ctx ∙ same) p derived.0 _ derived.2)
+    item_like ctx same regress (atom a) t rest derived = like_atom a _ (atom_like ctx same regress a t rest derived)
+    item_like ctx same regress (group kind p) t rest derived =
+        like_group kind p _
+        (derived_like (context_inside kind ctx) (table_inside kind ctx ∙ same) (dialect_inside kind ctx ∙ regress) p derived.0 _ derived.2)
 
 -- ---- the theorem, from the source
 
-module _ (ctx : Context) (p : Pattern) (t rest : Source) (derived : IsPattern ctx p t rest) (comparable : IsComparable ctx.setting p)
+module _ (ctx : Context) (regress : ctx.dialect ≡ Regress) (p : Pattern) (t rest : Source) (derived : IsPattern ctx p t rest) (comparable : IsComparable ctx.setting p)
     (text : List ℕ) (is_text : IsText text) where
   abbrev standard : Pattern
   standard = with_char_sets ctx p t rest derived
@@ -377,7 +394,7 @@ module _ (ctx : Context) (p : Pattern) (t rest : Source) (derived : IsPattern ct
       compile_pattern fuel ctx.setting.table ctx.setting.flags standard text index
       ≡ option_map (state_on text) (slice_get (meaning ctx.setting text forwards p (record { position = index; captures = replicate (length (names p)) None })) 0)
   source_outcome fuel enough index within =
-      let like = derived_like ctx.setting comparable.maps comparable.with_u (names p) text is_text fuel enough ctx refl p t rest derived in
+      let like = derived_like ctx.setting comparable.maps comparable.with_u (names p) text is_text fuel enough ctx refl regress p t rest derived in
       ap (λ (ns : List (Option Name)). compile_disjunction ctx.setting.table ns fuel ctx.setting.flags forwards 0 standard
       (record { input = text; end_index = index; captures = replicate (length ns) None }) accept)
       (names_like ctx.setting comparable.maps comparable.with_u (names p) text is_text fuel enough p standard like)
@@ -403,27 +420,30 @@ module _ (ctx : Context) (p : Pattern) (t rest : Source) (derived : IsPattern ct
 
 -- ---- the end of a class
 
-module _ (ctx : Context) (maps : HasCaseDataOfUnicode ctx.setting.table)
-    (with_u : ctx.setting.flags.unicode_sets ≡ true → ctx.setting.flags.unicode ≡ true) where
+module _ (given : Context) (maps : HasCaseDataOfUnicode given.setting.table)
+    (with_u : given.setting.flags.unicode_sets ≡ true → given.setting.flags.unicode ≡ true) where
+  abbrev around : Context
+  around = record given { dialect = Regress }
+
   -- Without i the same nodes are found.
   abbrev without_i : Flags
-  without_i = record ctx.setting.flags { icase = false }
+  without_i = record around.setting.flags { icase = false }
 
   abbrev EndsAt : Source → Bool → Source → Type 0
-  EndsAt t sets rest = (node : CharacterClass) × (character_class_at ctx.setting.table (class_parameters ctx) sets t ≡ Some (node, rest))
+  EndsAt t sets rest = (node : CharacterClass) × (character_class_at around.setting.table (class_parameters around) sets t ≡ Some (node, rest))
 
-  class_ends : (t : Source) (x : (Bool × CharSet) × Source) → class_at ctx.setting.table (class_parameters ctx) t ≡ Some x → EndsAt t false x.1
+  class_ends : (t : Source) (x : (Bool × CharSet) × Source) → class_at around.setting.table (class_parameters around) t ≡ Some x → EndsAt t false x.1
   class_ends t (read, rest) e =
-      let found = (class_follows ctx.setting.table maps without_i with_u (and_false ctx.setting.flags.unicode_sets) (class_parameters ctx) t).each read rest e in
+      let found = (class_follows around.setting.table maps without_i with_u (and_false around.setting.flags.unicode_sets) (class_parameters around) t).each read rest e in
       (found.value, found.found)
     where
       and_false : (b : Bool) → (b && false) ≡ false
       and_false true = refl
       and_false false = refl
 
-  class_set_ends : (t : Source) (x : (Bool × Value) × Source) → class_set_at ctx.setting.table (class_parameters ctx) t ≡ Some x → EndsAt t true x.1
+  class_set_ends : (t : Source) (x : (Bool × Value) × Source) → class_set_at around.setting.table (class_parameters around) t ≡ Some x → EndsAt t true x.1
   class_set_ends t (read, rest) e =
-      let found = (class_set_follows ctx.setting.table maps without_i with_u refl (class_parameters ctx) t).each read rest e in
+      let found = (class_set_follows around.setting.table maps without_i with_u refl (class_parameters around) t).each read rest e in
       (found.value, found.found)
 
   mapped_end : {A B : Type 0} (f : A → B) (found : Found A) (y : B) (rest : Source) → found_map f found ≡ Some (y, rest) →
@@ -433,25 +453,37 @@ module _ (ctx : Context) (maps : HasCaseDataOfUnicode ctx.setting.table)
       let same : (f x, t) ≡ (y, rest) = same_Some (f x, t) (y, rest) e in
       (x, ap (λ (u : Source). Some (x, u)) (ap (λ (z : B × Source). z.1) same))
 
-  brackets_end : (t rest : Source) (a : Atom) → brackets_at ctx t ≡ Some (a, rest) → EndsAt t ctx.setting.flags.unicode_sets rest
-  brackets_end t rest a e = by_test ctx.setting.flags.unicode_sets e
+  brackets_end : (t rest : Source) (a : Atom) → brackets_at around t ≡ Some (a, rest) → EndsAt t around.setting.flags.unicode_sets rest
+  brackets_end t rest a e = by_test around.setting.flags.unicode_sets e
     where
       by_test : (v : Bool) →
           (if v
-          then found_map (λ (negated, value). class_set ctx.setting.flags negated value) (class_set_at ctx.setting.table (class_parameters ctx) t)
-          else found_map (λ (inverted, members). class ctx.setting.flags inverted members) (class_at ctx.setting.table (class_parameters ctx) t))
+          then found_map (λ (negated, value). class_set around.setting.flags negated value) (class_set_at around.setting.table (class_parameters around) t)
+          else found_map (λ (inverted, members). class around.setting.flags inverted members) (class_at around.setting.table (class_parameters around) t))
           ≡ Some (a, rest) → EndsAt t v rest
       by_test true h =
-          let found = mapped_end (λ (negated, value). class_set ctx.setting.flags negated value) (class_set_at ctx.setting.table (class_parameters ctx) t) a rest h in
+          let found = mapped_end (λ (negated, value). class_set around.setting.flags negated value) (class_set_at around.setting.table (class_parameters around) t) a rest h in
           class_set_ends t (found.0, rest) found.1
       by_test false h =
-          let found = mapped_end (λ (inverted, members). class ctx.setting.flags inverted members) (class_at ctx.setting.table (class_parameters ctx) t) a rest h in
+          let found = mapped_end (λ (inverted, members). class around.setting.flags inverted members) (class_at around.setting.table (class_parameters around) t) a rest h in
           class_ends t (found.0, rest) found.1
 
-  pub node_ends : (t rest : Source) (a : Atom) → head_at ctx (char "[" ∷ t) ≡ Some (single a, rest) →
+  ends_in_regress : (t rest : Source) (a : Atom) → head_at around (char "[" ∷ t) ≡ Some (single a, rest) →
       (node : CharacterClass)
-      × (character_class_at ctx.setting.table (class_parameters ctx) ctx.setting.flags.unicode_sets t ≡ Some (node, rest))
+      × (character_class_at around.setting.table (class_parameters around) around.setting.flags.unicode_sets t ≡ Some (node, rest))
   unfolding head_at
-  node_ends t rest a e =
-      let found = mapped_end single (brackets_at ctx t) (single a) rest e in
+  ends_in_regress t rest a e =
+      let found = mapped_end single (brackets_at around t) (single a) rest e in
       brackets_end t rest found.0 found.1
+
+pub node_ends : (ctx : Context) → ctx.dialect ≡ Regress → HasCaseDataOfUnicode ctx.setting.table →
+    (ctx.setting.flags.unicode_sets ≡ true → ctx.setting.flags.unicode ≡ true) → (t rest : Source) (a : Atom) →
+    head_at ctx (char "[" ∷ t) ≡ Some (single a, rest) →
+    (node : CharacterClass)
+    × (character_class_at ctx.setting.table (class_parameters ctx) ctx.setting.flags.unicode_sets t ≡ Some (node, rest))
+node_ends ctx regress maps with_u t rest a =
+    let Ends : Dialect → Type 0 =
+    λ dialect. head_at (record ctx { dialect = dialect }) (char "[" ∷ t) ≡ Some (single a, rest) →
+    (node : CharacterClass)
+    × (character_class_at ctx.setting.table (class_parameters (record ctx { dialect = dialect })) ctx.setting.flags.unicode_sets t ≡ Some (node, rest)) in
+    subst Ends (sym regress) (λ found. ends_in_regress ctx maps with_u t rest a found)

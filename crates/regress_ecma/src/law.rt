@@ -3,6 +3,7 @@ ghost use Rattle.std.specs.Prelude.{◌≡◌, ◌<◌, ◌≤◌, ℕ, true, Li
 ghost use Rattle.regress_tree.specs.Reading.{Direction, forwards, IsText};
 ghost use Rattle.regress_tree.specs.Steps.{MatchState, IsStateOf, Setting};
 ghost use Rattle.regress_lexer.specs.Source.{Source, char};
+ghost use Rattle.regress_lexer.specs.declared.dialect.Dialect.TheVariants.{Regress};
 ghost use Rattle.regress_syntax.specs.Grammar.{IsPattern};
 ghost use Rattle.regress_syntax.specs.Meaning.{meaning};
 ghost use Rattle.regress_syntax.specs.Productions.{class_parameters, Context, head_at, single};
@@ -37,26 +38,27 @@ pub fn first_outcome_is_the_match()
         meaning setting text d p s ≡ [] }
 
     // The same with the CharSets of ECMA-262 for classes: those that CompileCharacterClass and CompileToCharSet return for the
-    // source of each. They take the place of what the syntax tree has.
-    ensures source { (ctx : Context) (p : Pattern) (t rest : Source) (derived : IsPattern ctx p t rest) → IsComparable ctx.setting p →
+    // source of each. They take the place of what the syntax tree has. This and the next three are about the dialect
+    // `Regress`.
+    ensures source { (ctx : Context) → ctx.dialect ≡ Regress → (p : Pattern) (t rest : Source) (derived : IsPattern ctx p t rest) → IsComparable ctx.setting p →
         (text : List ℕ) → IsText text → (fuel : ℕ) → length text < fuel → (index : ℕ) → index ≤ length text →
         compile_pattern fuel ctx.setting.table ctx.setting.flags (with_char_sets ctx p t rest derived) text index
         ≡ option_map (state_on text) (slice_get
         (meaning ctx.setting text forwards p (record { position = index; captures = replicate (length (names p)) None })) 0) }
 
     // So a search finds the same with them.
-    ensures search { (ctx : Context) (p : Pattern) (t rest : Source) (derived : IsPattern ctx p t rest) → IsComparable ctx.setting p →
+    ensures search { (ctx : Context) → ctx.dialect ≡ Regress → (p : Pattern) (t rest : Source) (derived : IsPattern ctx p t rest) → IsComparable ctx.setting p →
         (text : List ℕ) → IsText text → (index : ℕ) → index ≤ length text →
         builtin_exec ctx.setting (with_char_sets ctx p t rest derived) text index ≡ builtin_exec ctx.setting p text index }
 
     // A class ends where its parse node does.
-    ensures ends { (ctx : Context) → HasCaseDataOfUnicode ctx.setting.table →
+    ensures ends { (ctx : Context) → ctx.dialect ≡ Regress → HasCaseDataOfUnicode ctx.setting.table →
         (ctx.setting.flags.unicode_sets ≡ true → ctx.setting.flags.unicode ≡ true) →
         (t rest : Source) (a : Atom) → head_at ctx (char "[" ∷ t) ≡ Some (single a, rest) → (node : CharacterClass)
         × (character_class_at ctx.setting.table (class_parameters ctx) ctx.setting.flags.unicode_sets t ≡ Some (node, rest)) }
 
     // Each syntax tree of the grammar has the flags in force, and quantifiers in order.
-    ensures proper { (ctx : Context) (p : Pattern) (t rest : Source) → IsPattern ctx p t rest → IsProper ctx.setting.flags p }
+    ensures proper { (ctx : Context) → ctx.dialect ≡ Regress → (p : Pattern) (t rest : Source) → IsPattern ctx p t rest → IsProper ctx.setting.flags p }
 
     // The table of `unicode_tables` can be compared.
     ensures unicode { HasCaseDataOfUnicode unicode_table }

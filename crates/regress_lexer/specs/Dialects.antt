@@ -35,6 +35,16 @@ abbrev pub tries_references : Dialect → Bool
 tries_references Regress = true
 tries_references Ecma = false
 
+-- ---- classes with the flag i
+
+-- With the flag i a class has the characters that it has in ECMA-262 (CompileToCharSet, CharacterSetMatcher): without the
+-- flag u those with the upper case of a member, with u `\W` excludes the extra word characters too, and with v each
+-- operand is closed under case folding before a complement is taken. Otherwise a class is closed under case folding once
+-- it is built, with all flags.
+abbrev pub compiles_case : Dialect → Bool
+compiles_case Regress = false
+compiles_case Ecma = true
+
 -- ---- classes with the flag v
 
 -- Of the punctuators that are operators or may become such when doubled, no two follow each other. Otherwise no one

@@ -10,13 +10,14 @@ pub enum Dialect {
     Regress,
     /// These rules as in ECMA-262 with Annex B: the flag v implies the flag u, no quantifier may follow `\b` and `\B`,
     /// `\u{..}` is an escape only with the flag u, beside a group with a name `\k` is an error in a class, classes with the
-    /// flag v, and references to several groups of one name. The other rules are still those of `Regress`.
+    /// flag v, references to several groups of one name, and which characters a class has with the flag i. The other rules
+    /// are still those of `Regress`.
     Ecma,
 }
 
 impl Dialect {
     ghost use Rattle.std.specs.Prelude.{◌≡◌};
-    ghost use Rattle.regress_lexer.specs.Dialects.{flags_in_force, quantifies_boundaries, has_braces, tries_references, reserves_k, reserves_pairs, isolates_ampersand, judges_contents};
+    ghost use Rattle.regress_lexer.specs.Dialects.{flags_in_force, quantifies_boundaries, has_braces, tries_references, reserves_k, compiles_case, reserves_pairs, isolates_ampersand, judges_contents};
 
     /// Returns the flags in force for a pattern with the flags `given`.
     pub fn flags_in_force(self, given: Flags) -> Flags
@@ -65,6 +66,17 @@ impl Dialect {
     /// Returns whether in a class `\k` is a syntax error where some group has a name.
     pub fn reserves_k(self) -> bool
         ensures { result ≡ reserves_k self }
+    {
+        match self {
+            Dialect::Regress => false,
+            Dialect::Ecma => true,
+        }
+    }
+
+    /// Returns whether with the flag i a class has the characters of ECMA-262 (CompileToCharSet). Otherwise it is closed
+    /// under case folding once it is built, with all flags.
+    pub fn compiles_case(self) -> bool
+        ensures { result ≡ compiles_case self }
     {
         match self {
             Dialect::Regress => false,

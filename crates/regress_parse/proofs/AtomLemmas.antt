@@ -9,7 +9,7 @@ use Rattle.regress_lexer.specs.Source.{Source, Found}
 use Rattle.regress_lexer.specs.Reads.{ParsesAs}
 use Rattle.regress_lexer.proofs.lemmas.Sources.{on_rejected_then}
 use Rattle.regress_syntax.specs.Syntax.{Atom, class, nesting_of_atom}
-use Rattle.regress_syntax.specs.Productions.{Context, atom_allows, point_property}
+use Rattle.regress_syntax.specs.Productions.{Context, complements_first, atom_allows, point_property}
 use Rattle.regress_classes.specs.ClassProductions.{complement}
 use Rattle.regress_parse.specs.Parsing.{IsNode, ReadsAtom}
 
@@ -26,12 +26,12 @@ either_allows dialect false x y h k = k
 module _ (ctx : Context) where
   pub property-nesting : (negated : Bool) (members : List Bounds) → nesting_of_atom (point_property ctx negated members) ≤ 0
   property-nesting negated members =
-      nesting_of_either (negated && ctx.setting.flags.icase) (class ctx.setting.flags false (complement members))
+      nesting_of_either (negated && complements_first ctx) (class ctx.setting.flags false (complement members))
       (class ctx.setting.flags negated members) (omega arith) (omega arith)
 
   pub property-allows : (negated : Bool) (members : List Bounds) → atom_allows ctx.dialect (point_property ctx negated members) ≡ true
   property-allows negated members =
-      either_allows ctx.dialect (negated && ctx.setting.flags.icase) (class ctx.setting.flags false (complement members))
+      either_allows ctx.dialect (negated && complements_first ctx) (class ctx.setting.flags false (complement members))
       (class ctx.setting.flags negated members) refl refl
 
   -- An item without a nested class parses alike at each remaining depth.

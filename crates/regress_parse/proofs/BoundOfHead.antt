@@ -23,7 +23,7 @@ use Rattle.regress_classes.specs.ClassProductions.{complement, class_letter, cla
 use Rattle.regress_classes.specs.ClassSets.{class_set_at}
 use Rattle.regress_syntax.specs.Syntax.{Name, back_reference, Atom, class, class_set, class_escape, grouping, modified, capture, look, groups_named}
 use Rattle.regress_syntax.specs.Names.{group_name_at}
-use Rattle.regress_syntax.specs.Productions.{class_parameters, Context, Head, single, opens, angle_at, after_question_mark_at, group_at, has_names, has_name, character_at, property_atom, property_atom_at, number_reference_at, named_target, name_reference_at, escape_productions, escaped_by, escaped_at, brackets_at, atom_productions, atom_by, head_by}
+use Rattle.regress_syntax.specs.Productions.{class_parameters, class_flags, compared_members, complements_first, Context, Head, single, opens, angle_at, after_question_mark_at, group_at, has_names, has_name, character_at, property_atom, property_atom_at, number_reference_at, named_target, name_reference_at, escape_productions, escaped_by, escaped_at, brackets_at, atom_productions, atom_by, head_by}
 use Rattle.regress_parse.specs.TreeOf.{references, alternation, concatenation, strings_or_points, tree_of_atom}
 use Rattle.regress_parse.specs.Bound.{opens_name, nodes_at}
 use Rattle.regress_parse.proofs.BoundOfSource.{nodes_at-some}
@@ -119,7 +119,7 @@ module _ (table : Table) (ctx : Context) (most : ℕ) (few : (name : Name) → l
       finds_map (λ _. Unit {0}) (AtMost 1) _ (character_escape_at ctx.dialect ctx.setting.flags.unicode (c ∷ t)) (λ x _. omega arith) (any_found _)
 
   property_atom-one : (negated : Bool) (x : Property × Source) → Finds (AtMost 1) (property_atom ctx negated x)
-  property_atom-one negated (of_points members, t) = alone _ t (by (negated && ctx.setting.flags.icase) false negated (complement members) members)
+  property_atom-one negated (of_points members, t) = alone _ t (by (negated && complements_first ctx) false negated (complement members) members)
     where
       by : (b : Bool) (i j : Bool) (ms ns : List Bounds) →
           AtMost 1 (cond b (class ctx.setting.flags i ms) (class ctx.setting.flags j ns))
@@ -173,7 +173,7 @@ module _ (table : Table) (ctx : Context) (most : ℕ) (few : (name : Name) → l
     where
       by : (letter : Option (CharacterClassType × Bool)) →
           Finds (AtMost (escaped c)) (elim letter as (λ _. Found Atom) [
-            | Some named ↦ Some (class_escape ctx.setting.flags named.0 named.1, t)
+            | Some named ↦ Some (class_escape (class_flags ctx) named.0 named.1, t)
             | None ↦ first_production (escape_productions ctx c t)
           ])
       by (Some named) = escape-one c _ (alone _ t (omega arith))
@@ -198,7 +198,7 @@ module _ (table : Table) (ctx : Context) (most : ℕ) (few : (name : Name) → l
       by : (sets : Bool) → Finds (AtMost (cond sets 5 1))
           (cond sets (found_map (λ (negated, value). class_set ctx.setting.flags negated value)
           (class_set_at ctx.setting.table (class_parameters ctx) t))
-          (found_map (λ (inverted, members). class ctx.setting.flags inverted members)
+          (found_map (λ (inverted, members). class (class_flags ctx) inverted (compared_members ctx members))
           (class_at ctx.setting.table (class_parameters ctx) t)))
       by true = finds_map (λ _. Unit {0}) (AtMost 5) _ _ (λ x _. class-nodes _ _ _ _ _) (any_found _)
       by false = finds_map (λ _. Unit {0}) (AtMost 1) _ _ (λ x _. omega arith) (any_found _)

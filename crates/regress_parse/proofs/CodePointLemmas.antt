@@ -16,7 +16,7 @@ use Rattle.regress_classes.specs.Properties.{Property, of_points, of_strings, pr
 use Rattle.regress_lexer.specs.Quantifiers.{quantifier_at}
 use Rattle.regress_lexer.specs.declared.dialect.Dialect.{Dialect}
 use Rattle.regress_lexer.specs.declared.dialect.Dialect.TheVariants.{Regress, Ecma}
-use Rattle.regress_syntax.specs.Productions.{named_target, class_parameters, Context, Head, single, opens, angle_at, after_question_mark_at, group_at, property_atom, property_atom_at, has_name, character_at, number_reference_at, name_reference_at, escape_productions, escaped_by, escaped_at, brace_by, brackets_at, atom_productions, atom_by, head_at}
+use Rattle.regress_syntax.specs.Productions.{named_target, class_parameters, class_flags, compared_members, complements_first, Context, Head, single, opens, angle_at, after_question_mark_at, group_at, property_atom, property_atom_at, has_name, character_at, number_reference_at, name_reference_at, escape_productions, escaped_by, escaped_at, brace_by, brackets_at, atom_productions, atom_by, head_at}
 use Rattle.regress_lexer.specs.Source.{Source, Found, IsCodePoint, opening, colon, question_mark, is_at, first_production}
 use Rattle.regress_syntax.specs.Syntax.{Name, Target, by_number, by_name, by_name_if_set, Atom, literal, dot, anchor, boundary, class_escape, class, class_set, string_property, back_reference, Group, grouping, modified, capture, look}
 use Rattle.regress_lexer.proofs.lemmas.After.{Ends, after_all}
@@ -116,7 +116,7 @@ module _ (ctx : Context) (lawful : IsValidTable ctx.setting.table) (n : ℕ) (wi
 
   property_atom-good : (negated : Bool) (x : Property × Source) → PropertyInRange x.0 → Finds (IsGoodAtom n) (property_atom ctx negated x)
   property_atom-good negated (of_points members, t) h =
-      elim (negated && ctx.setting.flags.icase) as (λ b. Finds (IsGoodAtom n) (Some (
+      elim (negated && complements_first ctx) as (λ b. Finds (IsGoodAtom n) (Some (
         cond b (class ctx.setting.flags false (complement members)) (class ctx.setting.flags negated members),
         t,
       ))) [ true ↦ finds_some _ _ tt | false ↦ finds_some _ _ tt ]
@@ -156,7 +156,7 @@ module _ (ctx : Context) (lawful : IsValidTable ctx.setting.table) (n : ℕ) (wi
       by_letter : (letter : Option (CharacterClassType × Bool)) →
           Finds (IsGoodAtom n)
           (elim letter as (λ _. Found Atom) [
-            | Some named ↦ Some (class_escape ctx.setting.flags named.0 named.1, t)
+            | Some named ↦ Some (class_escape (class_flags ctx) named.0 named.1, t)
             | None ↦ first_production (escape_productions ctx c t)
           ])
       by_letter (Some named) = finds_some _ _ tt
@@ -176,7 +176,7 @@ module _ (ctx : Context) (lawful : IsValidTable ctx.setting.table) (n : ℕ) (wi
       (λ _. finds_map (λ (found : Bool × Value). OfCodePoints found.1.strings) (IsGoodAtom n)
       (λ (negated, value). class_set ctx.setting.flags negated value) _ (λ found h. h)
       (class_set_at-in_range ctx.setting.table lawful (class_parameters ctx) t all.each))
-      (λ _. finds_map (λ (_ : Bool × List Bounds). Unit {0}) (IsGoodAtom n) (λ (inverted, members). class ctx.setting.flags inverted members) _
+      (λ _. finds_map (λ (_ : Bool × List Bounds). Unit {0}) (IsGoodAtom n) (λ (inverted, members). class (class_flags ctx) inverted (compared_members ctx members)) _
       (λ x holds. tt) (finds_any (class_at ctx.setting.table (class_parameters ctx) t)))
 
   atom_productions-good : (c : ℕ) (t : Source) → IsCodePoint c → AreCodePoints t → EachProduction (Finds (IsGoodAtom n)) (atom_productions ctx c t)

@@ -8,7 +8,7 @@ use Rattle.regress_lexer.specs.Dialects.{quantifies_boundaries}
 use Rattle.regress_lexer.specs.Source.{Source, Found, first_production, is_one_of}
 use Rattle.regress_classes.specs.ClassProductions.{class_letter}
 use Rattle.regress_syntax.specs.Syntax.{Atom, literal, boundary, class_escape}
-use Rattle.regress_syntax.specs.Productions.{Context, is_lone_backslash, begins_number, has_names, character_at, number_reference_at, name_reference_at, property_atom_at, escape_productions, escaped_by, escaped_at}
+use Rattle.regress_syntax.specs.Productions.{Context, class_flags, is_lone_backslash, begins_number, has_names, character_at, number_reference_at, name_reference_at, property_atom_at, escape_productions, escaped_by, escaped_at}
 use Rattle.regress_parse.specs.Parsing.{is_lone_boundary}
 
 -- ---- whether a quantifier may follow
@@ -24,19 +24,19 @@ lone_unless false = refl
 module _ (ctx : Context) (s : Source) (c : ℕ) (t : Source) (front : s ≡ c ∷ t) where
   by_letter : (letter : Option (CharacterClassType × Bool)) → class_letter c ≡ letter →
       escaped_at ctx s ≡ elim letter as (λ _. Found Atom) [
-        | Some named ↦ Some (class_escape ctx.setting.flags named.0 named.1, t)
+        | Some named ↦ Some (class_escape (class_flags ctx) named.0 named.1, t)
         | None ↦ first_production (escape_productions ctx c t)
       ]
   by_letter letter e =
       ap (escaped_at ctx) front
       ∙ ap (λ (o : Option (CharacterClassType × Bool)). elim o as (λ _. Found Atom) [
-        | Some named ↦ Some (class_escape ctx.setting.flags named.0 named.1, t)
+        | Some named ↦ Some (class_escape (class_flags ctx) named.0 named.1, t)
         | None ↦ first_production (escape_productions ctx c t)
       ]) e
 
   -- a class escape
   pub class_read : (named : CharacterClassType × Bool) → class_letter c ≡ Some named →
-      escaped_at ctx s ≡ Some (class_escape ctx.setting.flags named.0 named.1, t)
+      escaped_at ctx s ≡ Some (class_escape (class_flags ctx) named.0 named.1, t)
   class_read named letter = by_letter (Some named) letter
 
   -- No quantifier may follow `\b` and `\B` in some dialects; one may follow every other escape.

@@ -11,7 +11,7 @@ ghost use Rattle.regress_lexer.specs.Dialects.{tries_references};
 ghost use Rattle.regress_lexer.specs.Source.{IsCodePoint};
 ghost use Rattle.regress_classes.specs.ClassProductions.{members_of};
 ghost use Rattle.regress_syntax.specs.Syntax.{dot, anchor, boundary};
-ghost use Rattle.regress_syntax.specs.Productions.{point_property};
+ghost use Rattle.regress_syntax.specs.Productions.{class_flags, compared_members, point_property};
 ghost use Rattle.regress_syntax.specs.Views.{context_of, names_in, group_of};
 ghost use Rattle.regress_classes.specs.ClassViews.{IsValue, HasMembers, strings_of};
 ghost use Rattle.regress_parse.specs.ClassParts.{strings_part, bracket_part, empty_part};
@@ -21,10 +21,12 @@ ghost use Rattle.regress_parse.specs.Parsing.{alternatives, Pushes};
 use regress_base::charclasses::CharacterClassType;
 use regress_base::codepointset::CodePointSet;
 use regress_base::sets::set_is_canonical;
-use regress_base::types::{BracketContents, CaptureGroupID};
+use regress_base::types::{BracketContents, CaptureGroupID, Flags};
 use regress_syntax::{Group, Name, Scope, Value, class_escape_set, name_text};
 use regress_tree::ir::{AnchorType, Node, NodeList, Quantifier};
-use regress_unicode::{add_icase_code_points, expand_code_point};
+use regress_unicode::{
+    Tables, add_icase_code_points, add_uppercase_code_points, expand_code_point,
+};
 use std::alloc::{AllocError, Global};
 use std::cmp::Reverse;
 use std::ops::Range;
@@ -154,9 +156,10 @@ pub(crate) fn make_class_escape(
     scope: &Scope,
 ) -> Result<Node, AllocError>
     ensures { IfOk result (λ node. tree node ≡
-        leaf (bracket false (intervals_of (is_in_class (table_of scope.now.tables.now) scope.now.flags negated (members_of kind))))) }
+        leaf (bracket false (intervals_of (is_in_class (table_of scope.now.tables.now) (class_flags (context_of scope.now)) negated (members_of kind))))) }
 {
-    let closed = close(class_escape_set(alloc, kind)?, scope)?;
+    let flags = scope.class_flags();
+    let closed = close(class_escape_set(alloc, kind)?, flags, scope.tables)?;
     Ok(Node::Bracket(BracketContents {
         invert: false,
         cps: complement_if(closed, negated)?,
@@ -169,16 +172,43 @@ pub(crate) fn make_class(
     set: CodePointSet,
     scope: &Scope,
 ) -> Result<Node, AllocError>
+    ensures { (members : List Bounds) → HasMembers members set → IfOk result (λ node. tree node
+        ≡ leaf (bracket inverted (intervals_of
+        (is_in_class (table_of scope.now.tables.now) (class_flags (context_of scope.now)) false (compared_members (context_of scope.now) members))))) }
+{
+    let compared = compare(set, scope)?;
+    make_set(inverted, compared, scope.class_flags(), scope.tables)
+}
+
+/// Returns the set, and where classes are compared by upper cases all characters with the upper case of a member.
+fn compare(set: CodePointSet, scope: &Scope) -> Result<CodePointSet, AllocError>
+    ensures { IfOk result (λ compared. (members : List Bounds) → HasMembers members set →
+        HasMembers (compared_members (context_of scope.now) members) compared) }
+{
+    if scope.compares_upper_cases() {
+        add_uppercase_code_points(set, scope.tables)
+    } else {
+        Ok(set)
+    }
+}
+
+/// Returns the node of a set with these flags.
+fn make_set(
+    inverted: bool,
+    set: CodePointSet,
+    flags: Flags,
+    tables: &Tables,
+) -> Result<Node, AllocError>
     ensures { (members : List Bounds) → HasMembers members set → IfOk result (λ node. tree node ≡
-        leaf (bracket inverted (intervals_of (is_in_class (table_of scope.now.tables.now) scope.now.flags false members)))) }
+        leaf (bracket inverted (intervals_of (is_in_class (table_of tables.now) flags false members)))) }
 {
     Ok(Node::Bracket(BracketContents {
         invert: inverted,
-        cps: close(set, scope)?,
+        cps: close(set, flags, tables)?,
     }))
 }
 
-/// Returns the node of a property of code points. With the flag i the complement is taken before the closure.
+/// Returns the node of a property of code points.
 pub(crate) fn make_property(
     set: CodePointSet,
     negated: bool,
@@ -187,11 +217,11 @@ pub(crate) fn make_property(
     ensures { IfOk result (λ node. tree node ≡ tree_of_atom (table_of scope.now.tables.now) (names_in scope.now.groups.now)
         (point_property (context_of scope.now) negated set)) }
 {
-    if negated && scope.flags.icase {
-        return make_class(false, set.inverted()?, scope);
+    if negated && scope.complements_first() {
+        return make_set(false, set.inverted()?, scope.flags, scope.tables);
     }
     set_is_canonical(&set);
-    make_class(negated, set, scope)
+    make_set(negated, set, scope.flags, scope.tables)
 }
 
 /// Returns the node of a class with the flag v: its strings of two or more characters, longest first, then its code
@@ -212,7 +242,7 @@ pub(crate) fn make_class_set(
     sort_longest_first(&mut strings)?;
     let contents = BracketContents {
         invert: negated,
-        cps: close(value.set, scope)?,
+        cps: close(value.set, scope.flags, scope.tables)?,
     };
     let mut parts = Vec::new(alloc);
     push_strings(&mut parts, strings, scope.flags.icase)?;
@@ -290,12 +320,12 @@ fn complement_if(set: CodePointSet, negated: bool) -> Result<CodePointSet, Alloc
 }
 
 /// Returns the set, with the flag i its closure.
-fn close(set: CodePointSet, scope: &Scope) -> Result<CodePointSet, AllocError>
+fn close(set: CodePointSet, flags: Flags, tables: &Tables) -> Result<CodePointSet, AllocError>
     ensures { IfOk result (λ closed. (members : List Bounds) → HasMembers members set →
-        closed ≡ intervals_of (is_in_class (table_of scope.now.tables.now) scope.now.flags false members)) }
+        closed ≡ intervals_of (is_in_class (table_of tables.now) flags false members)) }
 {
-    if scope.flags.icase {
-        add_icase_code_points(set, scope.tables)
+    if flags.icase {
+        add_icase_code_points(set, tables)
     } else {
         Ok(set)
     }

@@ -91,10 +91,10 @@ module _ {table : Table} where
       by : (letter : Option (CharacterClassType × Bool)) →
           Leads false table (class_escape 0 0) (c ∷ t) (class 0 0)
           (elim letter as (λ _. Found ClassAtom) [
-            | Some named ↦ Some (set (class_members named), t)
+            | Some named ↦ Some (set (class_members table parameters named), t)
             | None ↦ first_production (class_escape_productions table parameters c t)
           ])
-      by (Some named) = leads_some (set (class_members named), t) (pass_escaped (in_class 0 0) c t)
+      by (Some named) = leads_some (set (class_members table parameters named), t) (pass_escaped (in_class 0 0) c t)
       by None = first_production-has (Leads false table (class_escape 0 0) (c ∷ t) (class 0 0)) (class_escape_productions table parameters c t) leads_none
           (class_escape_productions_lead parameters c t)
 

@@ -19,7 +19,7 @@ use Rattle.regress_lexer.specs.Modifiers.{is_modifier, letters_off, after_letter
 use Rattle.regress_syntax.specs.Names.{is_dollar_or_underscore, begins_name, continues_name, name_character_at, rest_of_name_by, name_at, group_name_at}
 use Rattle.regress_syntax.specs.Syntax.{Name, Atom, literal, Group, modified, capture}
 use Rattle.regress_syntax.specs.Syntax as Syntax
-use Rattle.regress_syntax.specs.Productions.{class_parameters, Context, Head, single, opens, angle_at, modified_at, after_question_mark_at, group_at, has_name, character_at, property_atom, property_atom_at, number_reference_at, name_reference_at, escape_productions, escaped_by, escaped_at, brace_by, brackets_at, atom_productions, atom_by, head_at, no_quantifier_at, this_quantifier, optional_quantifier_at}
+use Rattle.regress_syntax.specs.Productions.{class_parameters, class_flags, compared_members, complements_first, Context, Head, single, opens, angle_at, modified_at, after_question_mark_at, group_at, has_name, character_at, property_atom, property_atom_at, number_reference_at, name_reference_at, escape_productions, escaped_by, escaped_at, brace_by, brackets_at, atom_productions, atom_by, head_at, no_quantifier_at, this_quantifier, optional_quantifier_at}
 use Rattle.regress_syntax.specs.Scan.{Mode, plain, escape, class, opened_at, tokens, is_insignificant}
 use Rattle.regress_syntax.specs.GroupTokens.{GroupToken, captures, token_of_group, tokens_of_atom}
 use Rattle.regress_syntax.specs.GroupTokens as GroupTokens
@@ -153,7 +153,7 @@ module _ (ctx : Context) (lawful : IsValidTable ctx.setting.table) where
       (lead_character_escape_at in_text ctx.dialect ctx.setting.flags.unicode (c ∷ t))
 
   gives_property_atom : (negated : Bool) (x : Property × Source) → Gives (tokens_in ctx plain x.1) (after_atom ctx) (property_atom ctx negated x)
-  gives_property_atom negated (of_points members, t) = gives_some (_, t) (by (negated && ctx.setting.flags.icase))
+  gives_property_atom negated (of_points members, t) = gives_some (_, t) (by (negated && complements_first ctx))
     where
       by : (b : Bool) → tokens_in ctx plain t ≡
           after_atom ctx (cond b (Syntax.class ctx.setting.flags false (complement members)) (Syntax.class ctx.setting.flags negated members)) t
@@ -211,7 +211,7 @@ module _ (ctx : Context) (lawful : IsValidTable ctx.setting.table) where
       by : (letter : Option (CharacterClassType × Bool)) →
           Gives (tokens_in ctx escape (c ∷ t)) (after_atom ctx)
           (elim letter as (λ _. Found Atom) [
-            | Some named ↦ Some (Syntax.class_escape ctx.setting.flags named.0 named.1, t)
+            | Some named ↦ Some (Syntax.class_escape (class_flags ctx) named.0 named.1, t)
             | None ↦ first_production (escape_productions ctx c t)
           ])
       by (Some named) = gives_some (_, t) (pass_escaped in_text c t).same
@@ -244,7 +244,7 @@ module _ (ctx : Context) (lawful : IsValidTable ctx.setting.table) where
       (cond sets
       (found_map (λ (x : Bool × Value). Syntax.class_set ctx.setting.flags x.0 x.1)
       (class_set_at ctx.setting.table (class_parameters ctx) t))
-      (found_map (λ (x : Bool × List Bounds). Syntax.class ctx.setting.flags x.0 x.1)
+      (found_map (λ (x : Bool × List Bounds). Syntax.class (class_flags ctx) x.0 (compared_members ctx x.1))
       (class_at ctx.setting.table (class_parameters ctx) t)))
   gives_class true t = gives_map _ _ _ (gives_class_set_at ctx.setting.table (class_parameters ctx) t) (λ x rest. refl)
   gives_class false t = gives_map _ _ _ (gives_leads (lead_class_at (class_parameters ctx) t)) (λ x rest. refl)

@@ -11,7 +11,7 @@ use Rattle.regress_lexer.specs.Source.{Source, Found, ◌>>=◌, found_map, is_a
 use Rattle.regress_classes.specs.declared.parameters.Parameters.{Parameters}
 use Rattle.regress_classes.specs.Properties.{Property, of_points, of_strings, property_at}
 use Rattle.regress_classes.specs.ClassProductions.{class_letter, class_members, one_point, points_between}
-use Rattle.regress_classes.specs.ClassSets.{Value, is_not_negatable, only, joined, folded_left, common, without, value_of_strings, nested, unless_negated_strings, Operand, character, value_of, is_set_syntax, begins_pair, is_reserved, escaped_character_at, set_character_at, strings_by, quoted_at, property_operand, operand_productions, escaped_operand_at, operand_at, next_operand_at, range_of, part_after, parts_by, are_at, operands_by, contents_after, contents_at, class_set_by, class_set_at}
+use Rattle.regress_classes.specs.ClassSets.{Value, is_not_negatable, only, joined, folded_left, common, without, value_of_strings, nested, unless_negated_strings, Operand, closed_value_of, character, value_of, is_set_syntax, begins_pair, is_reserved, escaped_character_at, set_character_at, strings_by, quoted_at, property_operand, operand_productions, escaped_operand_at, operand_at, next_operand_at, range_of, part_after, parts_by, are_at, operands_by, contents_after, contents_at, closed_contents_at, class_set_by, class_set_at}
 use Rattle.regress_classes.specs.ClassSets as ClassSets
 use Rattle.regress_classes.proofs.lemmas.ClassStrings.{level_of_strings}
 use Rattle.regress_classes.proofs.lemmas.ClassSets.{parts_joined, operands_joined}
@@ -139,7 +139,7 @@ module _ (table : Table) where
         (λ _. gives_none)
 
     gives_property_operand : (depth before nesting : ℕ) (in_negated negated : Bool) (x : Property × Source) →
-        Gives (within table depth before nesting x.1) (after_operand table depth before nesting) (property_operand in_negated negated x)
+        Gives (within table depth before nesting x.1) (after_operand table depth before nesting) (property_operand table parameters in_negated negated x)
     gives_property_operand depth before nesting in_negated negated (of_points members, t) =
         gives_some (_, t) (same_within depth before nesting (max nesting 0) t (omega arith))
     gives_property_operand depth before nesting in_negated negated (of_strings written, t) =
@@ -163,7 +163,7 @@ module _ (table : Table) where
     gives_escaped_by : (depth before nesting : ℕ) (in_negated : Bool) (c : ℕ) (t : Source) (letter : Option (CharacterClassType × Bool)) →
         Gives (tokens true table (after_backslash (at_nesting depth before nesting)) (c ∷ t)) (after_operand table depth before nesting)
         (elim letter as (λ _. Found Operand) [
-          | Some named ↦ Some (ClassSets.class (only (class_members named)), t)
+          | Some named ↦ Some (ClassSets.class (only (class_members table parameters named)), t)
           | None ↦ first_production (operand_productions table parameters in_negated c t)
         ])
     gives_escaped_by depth before nesting in_negated c t (Some named) =
@@ -276,11 +276,11 @@ module _ (table : Table) where
           subst (Gives (within table depth before value.nesting t) (after_class table depth before))
           (sym (operands_joined table parameters inner in_negated n c f value t))
           (gives_then _ (next_operand_at table parameters inner in_negated c t) _ (gives_next_operand_at depth before value.nesting c t)
-          (λ x. gives_after (same_within depth before _ (f value (value_of x.0)).nesting x.1 (sym (deeper value (value_of x.0))))
-          (gives_cond (is_at 93 x.1) _ _ (λ e. gives_some (f value (value_of x.0), drop 1 x.1) (pass_close depth before _ x.1 e))
+          (λ x. gives_after (same_within depth before _ (f value (closed_value_of table parameters x.0)).nesting x.1 (sym (deeper value (closed_value_of table parameters x.0))))
+          (gives_cond (is_at 93 x.1) _ _ (λ e. gives_some (f value (closed_value_of table parameters x.0), drop 1 x.1) (pass_close depth before _ x.1 e))
           (λ _. gives_cond (are_at c x.1) _ _
           (λ e. gives_after (pass_signs depth before _ c x.1 quiet e)
-          (gives_operands_by n depth before c f (f value (value_of x.0)) (drop 2 x.1) quiet deeper))
+          (gives_operands_by n depth before c f (f value (closed_value_of table parameters x.0)) (drop 2 x.1) quiet deeper))
           (λ _. gives_none)))))
 
       gives_contents_after : (depth before : ℕ) (x : Operand × Source) →
@@ -289,10 +289,10 @@ module _ (table : Table) where
           gives_after (same_within depth before (max 0 (value_of first).nesting) (value_of first).nesting t (omega arith))
           (gives_cond (are_at 38 t) _ _
           (λ e. gives_after (pass_signs depth before (value_of first).nesting 38 t refl e)
-          (gives_operands_by (length (drop 2 t) + 1) depth before 38 common (value_of first) (drop 2 t) refl (λ a b. refl)))
+          (gives_operands_by (length (drop 2 t) + 1) depth before 38 common (closed_value_of table parameters first) (drop 2 t) refl (λ a b. refl)))
           (λ _. gives_cond (are_at 45 t) _ _
           (λ e. gives_after (pass_signs depth before (value_of first).nesting 45 t refl e)
-          (gives_operands_by (length (drop 2 t) + 1) depth before 45 without (value_of first) (drop 2 t) refl (λ a b. refl)))
+          (gives_operands_by (length (drop 2 t) + 1) depth before 45 without (closed_value_of table parameters first) (drop 2 t) refl (λ a b. refl)))
           (λ _. gives_cond (is_at 38 t && isolates_ampersand parameters.dialect) _ _
           (λ e. gives_after
           (pass_sign depth before (value_of first).nesting 38 t refl (and_both (is_at 38 t) _ e).0
@@ -311,6 +311,10 @@ module _ (table : Table) where
           (λ _. gives_then _ (operand_at table parameters inner in_negated t) _ (gives_operand_at depth before 0 t)
           (gives_contents_after depth before))
 
+      gives_closed_contents_at : (depth before : ℕ) (t : Source) →
+          Gives (within table depth before 0 t) (after_class table depth before) (closed_contents_at table parameters inner in_negated t)
+      gives_closed_contents_at depth before t = gives_map _ _ _ (gives_contents_at depth before t) (λ x rest. refl)
+
     gives_unless_of_strings : (depth before : ℕ) (negated : Bool) (x : Value × Source) →
         Gives (after_class table depth before x.0 x.1) (λ inside. after_class table depth before inside.1)
         (unless_negated_strings parameters.dialect negated x)
@@ -324,8 +328,8 @@ module _ (table : Table) where
       each = λ depth before t.
           gives_after (pass_caret (at_nesting depth before 0) t).same
           (gives_then (after_class table depth before)
-          (contents_at table parameters (class_set_by table parameters n) (is_at 94 t && judges_contents parameters.dialect) (cond (is_at 94 t) (drop 1 t) t)) _
-          (gives_contents_at (class_set_by table parameters n) (gives_class_set_by n) (is_at 94 t && judges_contents parameters.dialect) depth before
+          (closed_contents_at table parameters (class_set_by table parameters n) (is_at 94 t && judges_contents parameters.dialect) (cond (is_at 94 t) (drop 1 t) t)) _
+          (gives_closed_contents_at (class_set_by table parameters n) (gives_class_set_by n) (is_at 94 t && judges_contents parameters.dialect) depth before
           (cond (is_at 94 t) (drop 1 t) t))
           (gives_unless_of_strings depth before (is_at 94 t)));
     }

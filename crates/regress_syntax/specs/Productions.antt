@@ -2,14 +2,15 @@
 -- that apply, the first in the list is used.
 use Rattle.std.specs.Prelude.{ℕ, Bool, true, false, not, ◌&&◌, ◌||◌, [], ◌∷◌, drop, List, Option, Some, None, is_some, if◌then◌else◌, nat_le, ◌==◌}
 use Rattle.std.specs.List.{list_any}
-use Rattle.regress_base.specs.Intervals.{Bounds}
+use Rattle.regress_base.specs.Intervals.{Bounds, intervals_of}
+use Rattle.regress_base.specs.declared.types.Flags.{Flags}
 use Rattle.regress_base.specs.declared.types.AnchorType.TheVariants.{StartOfLine, EndOfLine}
 use Rattle.regress_base.specs.declared.types.Quantifier.{Quantifier}
 use Rattle.regress_tree.specs.Steps.{Setting}
 use Rattle.regress_tree.specs.Reading.{forwards, backwards}
 use Rattle.regress_base.specs.Table.{Table}
 use Rattle.regress_lexer.specs.declared.dialect.Dialect.{Dialect}
-use Rattle.regress_lexer.specs.Dialects.{quantifies_boundaries, tries_references}
+use Rattle.regress_lexer.specs.Dialects.{quantifies_boundaries, tries_references, compiles_case}
 use Rattle.regress_lexer.specs.Source.{Source, Found, ◌>>=◌, found_map, Production, when, otherwise, first_production, char, is_one_of, opening, full_stop, colon, question_mark, is_at, is_plain}
 use Rattle.regress_lexer.specs.Digits.{is_between, is_decimal, number, front, after}
 use Rattle.regress_lexer.specs.Escapes.{begins_with_letter, character_escape_at}
@@ -18,6 +19,7 @@ use Rattle.regress_classes.specs.declared.parameters.Parameters.{Parameters}
 use Rattle.regress_classes.specs.Properties.{Property, of_points, of_strings, property_at}
 use Rattle.regress_classes.specs.ClassProductions.{complement, class_letter, class_at}
 use Rattle.regress_classes.specs.ClassSets.{class_set_at}
+use Rattle.regress_unicode.specs.UppercaseClosure.{is_in_uppercase_closure}
 use Rattle.regress_lexer.specs.Modifiers.{changed, modifiers_at}
 use Rattle.regress_syntax.specs.Names.{group_name_at}
 use Rattle.regress_syntax.specs.Syntax.{Name, is_named, Target, by_number, by_name, by_name_if_set, Atom, literal, dot, anchor, boundary, class_escape, class, class_set, string_property, back_reference, Group, grouping, modified, capture, look, Item, atom, group}
@@ -117,7 +119,32 @@ named_target dialect name = if tries_references dialect then by_name name else b
 
 -- the parameters of the productions of a class
 abbrev pub class_parameters : Context → Parameters
-class_parameters ctx = record { dialect = ctx.dialect; unicode = ctx.setting.flags.unicode; named = has_names ctx.names }
+class_parameters ctx = record {
+  dialect = ctx.dialect;
+  icase = ctx.setting.flags.icase;
+  unicode = ctx.setting.flags.unicode;
+  named = has_names ctx.names;
+}
+
+-- Classes are compared by upper cases: with the flag i and without u, in some dialects.
+abbrev pub compares_upper_cases : Context → Bool
+compares_upper_cases ctx = compiles_case ctx.dialect && ctx.setting.flags.icase && not ctx.setting.flags.unicode
+
+-- The flags of a class or class escape. A class that is compared by upper cases has all its characters, and of the class
+-- escapes none has other variants, so the flag i is off.
+abbrev pub class_flags : Context → Flags
+class_flags ctx = if compares_upper_cases ctx then record ctx.setting.flags { icase = false } else ctx.setting.flags
+
+-- the members of a class, with all characters that have the same upper case where these are compared (ECMA-262,
+-- CharacterSetMatcher)
+abbrev pub compared_members : Context → List Bounds → List Bounds
+compared_members ctx members =
+    if compares_upper_cases ctx then intervals_of (is_in_uppercase_closure ctx.setting.table members) else members
+
+-- With the flag i the complement of a property is taken before the closure, and with v after it in some dialects
+-- (ECMA-262, CompileToCharSet).
+abbrev pub complements_first : Context → Bool
+complements_first ctx = ctx.setting.flags.icase && not (compiles_case ctx.dialect && ctx.setting.flags.unicode_sets)
 
 -- Without the flag u a backslash before a `c` that no letter follows is a literal, and the `c` is parsed next
 -- (ECMA-262, B.1.2).
@@ -129,10 +156,10 @@ module _ (ctx : Context) where
   abbrev pub character_at : ℕ → Source → Found Atom
   character_at c t = found_map (literal ctx.setting.flags) (character_escape_at ctx.dialect ctx.setting.flags.unicode (c ∷ t))
 
-  -- A property of code points. With the flag i the complement of a negated one is taken before the closure.
+  -- a property of code points
   abbrev pub point_property : (negated : Bool) → List Bounds → Atom
   point_property negated members =
-      if negated && ctx.setting.flags.icase
+      if negated && complements_first ctx
       then class ctx.setting.flags false (complement members)
       else class ctx.setting.flags negated members
 
@@ -178,7 +205,7 @@ module _ (ctx : Context) where
   abbrev pub escaped_by : ℕ → Source → Found Atom
   escaped_by c t =
       elim (class_letter c) [
-        | Some named ↦ Some (class_escape ctx.setting.flags named.0 named.1, t)
+        | Some named ↦ Some (class_escape (class_flags ctx) named.0 named.1, t)
         | None ↦ first_production (escape_productions c t)
       ]
 
@@ -199,7 +226,7 @@ module _ (ctx : Context) where
       if ctx.setting.flags.unicode_sets
       then found_map (λ (negated, value). class_set ctx.setting.flags negated value)
       (class_set_at ctx.setting.table (class_parameters ctx) t)
-      else found_map (λ (inverted, members). class ctx.setting.flags inverted members)
+      else found_map (λ (inverted, members). class (class_flags ctx) inverted (compared_members ctx members))
       (class_at ctx.setting.table (class_parameters ctx) t)
 
   -- the productions of an item without a body whose first code point is c

@@ -7,3 +7,4 @@ pub mod ConstructionErrors
 pub mod Shifts
 pub mod TableOf
 pub mod LaterTargets
+pub mod UppercaseClosure

@@ -1,10 +1,11 @@
-//! The closure of a set under simple case folding.
+//! The closures of a set under simple case folding and under upper case.
 ghost use Rattle.std.specs.Prelude.{◌≡◌, ℕ, ◌≤◌, ◌||◌, Bool, List, All, IsTrue, IfOk, OnOk};
 ghost use Rattle.regress_base.specs.Intervals.{Bounds, is_within, is_member, IsCanonical};
 ghost use Rattle.regress_unicode.specs.ValidEntries.{is_in_order, are_targets_in_range};
 ghost use Rattle.regress_unicode.specs.Shifts.{IsShift, maps_to, maps_to_by, forward, backward};
 ghost use Rattle.regress_base.specs.Table.{is_in_closure};
 ghost use Rattle.regress_unicode.specs.TableOf.{table_of};
+ghost use Rattle.regress_unicode.specs.UppercaseClosure.{is_in_uppercase_closure};
 
 use super::shift::Shift;
 use super::{FoldRange, Tables};
@@ -52,6 +53,40 @@ pub fn add_icase_code_points(
     let mut closure = input;
     add_targets(alloc, &mut closure, &tables.folds)?;
     add_sources(alloc, &mut closure, &tables.folds)?;
+    set_is_canonical(&closure);
+    Ok(closure)
+}
+
+/// Returns the closure of `input` under upper case: every code point whose upper case is the upper case of a member
+/// (ECMA-262, CharacterSetMatcher with the flag i and without the flag u).
+///
+/// # Errors
+/// Returns [`AllocError`] if an allocation fails. `input` is dropped.
+///
+/// # Complexity
+/// As of [`add_icase_code_points`].
+///
+/// # Examples
+/// ```
+/// let tables = Tables::small(alloc)?;
+/// let mut set = CodePointSet::new(alloc);
+/// set.add_one(0x6B)?;
+/// let closure = add_uppercase_code_points(set, &tables)?;
+/// assert!(rt; closure.contains(0x4B));
+/// assert!(rt; !closure.contains(0x212A));
+/// ```
+pub fn add_uppercase_code_points(
+    input: CodePointSet,
+    tables: &Tables,
+) -> Result<CodePointSet, AllocError>
+    ensures members { IfOk result (λ set. (c : ℕ) →
+        is_member set c ≡ is_in_uppercase_closure (table_of tables.now) input c) }
+    ensures canonical { IfOk result IsCanonical }
+{
+    let alloc = *tables.uppers.allocator();
+    let mut closure = input;
+    add_targets(alloc, &mut closure, &tables.uppers)?;
+    add_sources(alloc, &mut closure, &tables.uppers)?;
     set_is_canonical(&closure);
     Ok(closure)
 }

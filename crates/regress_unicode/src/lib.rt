@@ -20,7 +20,7 @@ mod small;
 mod tables_error;
 mod unfold;
 
-pub use closure::add_icase_code_points;
+pub use closure::{add_icase_code_points, add_uppercase_code_points};
 pub use fold_range::FoldRange;
 pub use mapping::{fold, uppercase};
 pub use range::CodePointRange;

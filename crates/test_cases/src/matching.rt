@@ -1,9 +1,10 @@
 //! The result of a test case for the matcher.
 
 use crate::linear::{instruction_limit, response_linear};
-use crate::outcome::{matcher_of, parse_question, response_question};
-use crate::parsing::parse_tree;
+use crate::outcome::{Question, matcher_of, parse_question, response_question};
+use crate::parsing::{parse_in_ecma, parse_tree};
 use crate::trees::optimize_watched;
+use regress_base::types::Flags;
 use regress_unicode::Tables;
 use std::alloc::Global;
 use std::sync::Arc;
@@ -84,6 +85,17 @@ fn difference_by(
         }
     }
     call.difference(expected)
+}
+
+/// Reports all matches of a pattern in the dialect `Ecma`.
+pub(crate) fn match_in_ecma(call: &mut Call, flags: Flags, tables: &Arc<Tables>) {
+    let read = parse_in_ecma(call, flags, tables);
+    let text = read_text(call);
+    if let Some(regex) = read
+        && let Some(matcher) = matcher_of(call, regex, tables, 0)
+    {
+        response_question(call, Question::All, &matcher, &text);
+    }
 }
 
 /// Splits a line into the fields of a call and the expected result, which is a text.

@@ -69,11 +69,24 @@ pub(crate) fn find_fault(call: &mut Call, flags: Flags, tables: &Tables) {
 
 /// Reports whether a pattern is accepted in the dialect `Ecma`.
 pub(crate) fn report_ecma(call: &mut Call, flags: Flags, tables: &Tables) {
+    if parse_in_ecma(call, flags, tables).is_some() {
+        call.say("accepted");
+    }
+}
+
+/// Returns the tree of a pattern in the dialect `Ecma`, or reports that it is rejected.
+pub(crate) fn parse_in_ecma(call: &mut Call, flags: Flags, tables: &Tables) -> Option<Regex> {
     let points = call.pattern();
     match try_parse_in(call.alloc(), &points, flags, tables, Dialect::Ecma) {
-        Ok(_) => call.say("accepted"),
-        Err(PlacedFault::Syntax { .. }) => call.say("rejected"),
-        Err(PlacedFault::Memory(_)) => call.fail(Fault::Memory),
+        Ok(regex) => Some(regex),
+        Err(PlacedFault::Syntax { .. }) => {
+            call.say("rejected");
+            None
+        }
+        Err(PlacedFault::Memory(_)) => {
+            call.fail(Fault::Memory);
+            None
+        }
     }
 }
 

@@ -9,7 +9,7 @@ use Rattle.regress_lexer.specs.Source.{Source, Found, ◌>>=◌, found_map, is_a
 use Rattle.regress_classes.specs.declared.parameters.Parameters.{Parameters}
 use Rattle.regress_classes.specs.Properties.{Property, of_points, of_strings, property_at}
 use Rattle.regress_classes.specs.ClassProductions.{class_letter, class_members, one_point}
-use Rattle.regress_classes.specs.ClassSets.{Value, has_strings, is_not_negatable, only, joined, folded_left, common, without, unless_negated_strings, Operand, character, class, value_of, is_set_syntax, begins_pair, is_reserved, escaped_character_at, set_character_at, strings_by, quoted_at, property_operand, operand_productions, escaped_operand_at, operand_at, next_operand_at, range_of, range_at, part_after, parts_by, parts_at, are_at, operands_by, operands_at, contents_after, contents_at, class_set_by, class_set_at}
+use Rattle.regress_classes.specs.ClassSets.{Value, has_strings, is_not_negatable, only, joined, folded_left, common, without, unless_negated_strings, Operand, character, class, value_of, closed_value, closed_value_of, is_set_syntax, begins_pair, is_reserved, escaped_character_at, set_character_at, strings_by, quoted_at, property_operand, operand_productions, escaped_operand_at, operand_at, next_operand_at, range_of, range_at, part_after, parts_by, parts_at, are_at, operands_by, operands_at, contents_after, contents_at, closed_contents_at, class_set_by, class_set_at}
 use Rattle.regress_classes.proofs.lemmas.Pieces.{property_at-ends}
 use Rattle.regress_lexer.proofs.lemmas.After.{IsSuffix, after_same, after_drop, Ends, ends_none, ends_some, one-ends, ends_after, ends_more, ends_then, ends_map, ends_cond, escape_at-ends}
 use Rattle.regress_lexer.proofs.lemmas.Sources.{EachProduction, no_more, ◌also◌, first_production-has, then_same}
@@ -46,9 +46,9 @@ module _ (table : Table) (parameters : Parameters) (inner : Source → Found (Bo
   pub operands_joined : (n c : ℕ) (f : Value → Value → Value) (held : Value) (t : Source) →
       found_map (folded_left f held) (operands_by table parameters inner in_negated (suc n) c t)
       ≡ next_operand_at table parameters inner in_negated c t >>= λ (x : Operand × Source).
-      cond (is_at 93 x.1) (Some (f held (value_of x.0), drop 1 x.1))
+      cond (is_at 93 x.1) (Some (f held (closed_value_of table parameters x.0), drop 1 x.1))
       (cond (are_at c x.1)
-      (found_map (folded_left f (f held (value_of x.0))) (operands_by table parameters inner in_negated n c (drop 2 x.1)))
+      (found_map (folded_left f (f held (closed_value_of table parameters x.0))) (operands_by table parameters inner in_negated n c (drop 2 x.1)))
       None)
   unfolding operands_by
   operands_joined n c f held t =
@@ -56,10 +56,10 @@ module _ (table : Table) (parameters : Parameters) (inner : Source → Found (Bo
       ∙ then_same (next_operand_at table parameters inner in_negated c t) _ _
       (λ x found.
       map_cond (folded_left f held) (is_at 93 x.1) _ _
-      ∙ ap (cond (is_at 93 x.1) (Some (f held (value_of x.0), drop 1 x.1)))
+      ∙ ap (cond (is_at 93 x.1) (Some (f held (closed_value_of table parameters x.0), drop 1 x.1)))
       (map_cond (folded_left f held) (are_at c x.1) _ _
       ∙ ap (λ y. cond (are_at c x.1) y None)
-      (map_map (folded_left f held) (λ others. value_of x.0 ∷ others) (operands_by table parameters inner in_negated n c (drop 2 x.1)))))
+      (map_map (folded_left f held) (λ others. closed_value_of table parameters x.0 ∷ others) (operands_by table parameters inner in_negated n c (drop 2 x.1)))))
 
 -- ---- negated classes
 
@@ -109,12 +109,12 @@ quoted_at-ends parameters t =
     (ends_map _ (strings_by (length t) parameters [] (drop 1 t)) (drop 1 t) (strings_by-ends (length t) parameters [] (drop 1 t))))
     (ends_none t)
 
-property_operand-ends : (in_negated negated : Bool) (x : Property × Source) → Ends (property_operand in_negated negated x) x.1
-property_operand-ends in_negated negated (of_points members, t) = ends_some _ t (after_same t)
-property_operand-ends in_negated negated (of_strings written, t) =
-    ends_cond (in_negated || negated) _ _ t (ends_none t) (ends_some _ t (after_same t))
-
 module _ (table : Table) (parameters : Parameters) where
+  property_operand-ends : (in_negated negated : Bool) (x : Property × Source) → Ends (property_operand table parameters in_negated negated x) x.1
+  property_operand-ends in_negated negated (of_points members, t) = ends_some _ t (after_same t)
+  property_operand-ends in_negated negated (of_strings written, t) =
+      ends_cond (in_negated || negated) _ _ t (ends_none t) (ends_some _ t (after_same t))
+
   operand_productions-end : (in_negated : Bool) (c : ℕ) (t : Source) → EachProduction (λ found. Ends found (c ∷ t)) (operand_productions table parameters in_negated c t)
   operand_productions-end in_negated c t =
       (λ _. ends_more _ c t (quoted_at-ends parameters t))
@@ -126,10 +126,10 @@ module _ (table : Table) (parameters : Parameters) where
   escaped_operand_at-ends in_negated [] = ends_none []
   escaped_operand_at-ends in_negated (c ∷ t) =
       elim (class_letter c) as (λ named. Ends (elim named as (λ _. Found Operand) [
-        | Some name ↦ Some (class (only (class_members name)), t)
+        | Some name ↦ Some (class (only (class_members table parameters name)), t)
         | None ↦ first_production (operand_productions table parameters in_negated c t)
       ]) (c ∷ t)) [
-        | Some name ↦ one-ends (class (only (class_members name))) c t
+        | Some name ↦ one-ends (class (only (class_members table parameters name))) c t
         | None ↦ first_production-has (λ found. Ends found (c ∷ t)) (operand_productions table parameters in_negated c t) (ends_none (c ∷ t)) (operand_productions-end in_negated c t)
       ]
 
@@ -195,8 +195,8 @@ module _ (table : Table) (parameters : Parameters) where
 
     pub contents_after-ends : (x : Operand × Source) → Ends (contents_after table parameters inner in_negated x) x.1
     contents_after-ends (first, t) =
-        ends_cond (are_at 38 t) _ _ t (operands_onto-ends 38 (folded_left common (value_of first)) t)
-        (ends_cond (are_at 45 t) _ _ t (operands_onto-ends 45 (folded_left without (value_of first)) t)
+        ends_cond (are_at 38 t) _ _ t (operands_onto-ends 38 (folded_left common (closed_value_of table parameters first)) t)
+        (ends_cond (are_at 45 t) _ _ t (operands_onto-ends 45 (folded_left without (closed_value_of table parameters first)) t)
         (ends_cond (is_at 38 t && isolates_ampersand parameters.dialect) _ _ t
         (ends_after _ t (drop 1 t) (after_drop 1 t)
         (parts_onto-ends (folded_left joined (joined (value_of first) (only (one_point 38)))) (drop 1 t)))
@@ -207,6 +207,9 @@ module _ (table : Table) (parameters : Parameters) where
     contents_at-ends t =
         ends_cond (is_at 93 t) _ _ t (ends_some _ t (after_drop 1 t))
         (ends_then (operand_at table parameters inner in_negated t) _ t (operand_at-ends t) contents_after-ends)
+
+    closed_contents_at-ends : (t : Source) → Ends (closed_contents_at table parameters inner in_negated t) t
+    closed_contents_at-ends t = ends_map (closed_value table parameters) (contents_at table parameters inner in_negated t) t (contents_at-ends t)
 
   unless_negated_strings-ends : (negated : Bool) (x : Value × Source) → Ends (unless_negated_strings parameters.dialect negated x) x.1
   unless_negated_strings-ends negated (v, t) =
@@ -221,8 +224,8 @@ module _ (table : Table) (parameters : Parameters) where
   class_set_by-ends (suc n) t =
       let inside = cond (is_at 94 t) (drop 1 t) t in
       ends_after _ t inside (inside-after t)
-      (ends_then (contents_at table parameters (class_set_by table parameters n) (is_at 94 t && judges_contents parameters.dialect) inside) _ inside
-      (contents_at-ends (class_set_by table parameters n) (class_set_by-ends n) (is_at 94 t && judges_contents parameters.dialect) inside)
+      (ends_then (closed_contents_at table parameters (class_set_by table parameters n) (is_at 94 t && judges_contents parameters.dialect) inside) _ inside
+      (closed_contents_at-ends (class_set_by table parameters n) (class_set_by-ends n) (is_at 94 t && judges_contents parameters.dialect) inside)
       (unless_negated_strings-ends (is_at 94 t)))
 
   pub class_set_at-ends : (t : Source) → Ends (class_set_at table parameters t) t

@@ -1,7 +1,7 @@
 -- The strings of a class with the flag v, and those of a property, consist of code points. The classes in a class nest
 -- no deeper than the bound.
-use Rattle.std.proofs.Common.{◌≡◌, ℕ, zero, suc, ◌+◌, ◌<◌, ◌≤◌, Bool, true, false, not, ◌&&◌, ◌||◌, ◌==◌, nat_le, cond, List, [], ◌∷◌, ◌++◌, length, drop, Option, Some, None, refl, arith, leb-true}
-use Rattle.std.proofs.lemmas.List.Elements.{All-head, All-nil, All-cons, All-append, All-drop, All-filter}
+use Rattle.std.proofs.Common.{◌≡◌, ℕ, zero, suc, ◌+◌, ◌<◌, ◌≤◌, Bool, true, false, not, ◌&&◌, ◌||◌, ◌==◌, nat_le, cond, List, [], ◌∷◌, ◌++◌, length, drop, map, if◌then◌else◌, Option, Some, None, refl, arith, leb-true}
+use Rattle.std.proofs.lemmas.List.Elements.{All-head, All-nil, All-cons, All-append, All-drop, All-filter, All-map, All-weaker}
 use Rattle.std.specs.List.{All, list_all}
 use Rattle.std.specs.Option.{IfSome, option_map, option_or}
 use Rattle.std.specs.Str.{bytes_eq}
@@ -13,8 +13,8 @@ use Rattle.regress_lexer.specs.Dialects.{isolates_ampersand, judges_contents}
 use Rattle.regress_lexer.specs.Source.{Source, Found, ◌>>=◌, found_map, IsCodePoint, is_at, first_production}
 use Rattle.regress_classes.specs.declared.parameters.Parameters.{Parameters}
 use Rattle.regress_classes.specs.Properties.{Property, of_points, of_strings, list_named, strings_named, lone_value, value_in, closed_property, property_at, property_word_at}
-use Rattle.regress_classes.specs.ClassProductions.{class_letter, class_members, one_point, complement_if}
-use Rattle.regress_classes.specs.ClassSets.{Value, is_not_negatable, nothing, only, joined, folded_left, common, without, is_among, value_of_string, value_of_strings, nested, unless_negated_strings, Operand, character, class, value_of, is_set_syntax, begins_pair, is_reserved, escaped_character_at, set_character_at, strings_by, quoted_at, property_operand, operand_productions, escaped_operand_at, operand_at, next_operand_at, range_of, part_after, parts_by, are_at, operands_by, contents_after, contents_at, class_set_by, class_set_at}
+use Rattle.regress_classes.specs.ClassProductions.{class_letter, closes, closed_members, class_members, one_point, complement_if}
+use Rattle.regress_classes.specs.ClassSets.{Value, is_not_negatable, nothing, only, joined, folded_left, common, without, is_among, value_of_string, value_of_strings, nested, unless_negated_strings, Operand, character, class, value_of, closed_value, closed_value_of, is_set_syntax, begins_pair, is_reserved, escaped_character_at, set_character_at, strings_by, quoted_at, property_operand, operand_productions, escaped_operand_at, operand_at, next_operand_at, range_of, part_after, parts_by, are_at, operands_by, contents_after, contents_at, closed_contents_at, class_set_by, class_set_at}
 use Rattle.regress_lexer.proofs.lemmas.Digits.{and_both}
 use Rattle.regress_lexer.proofs.lemmas.After.{Ends, ends_then, after_all}
 use Rattle.regress_lexer.proofs.lemmas.InRange.{Finds, finds_none, finds_some, finds_cond, finds_then, finds_map, escape_at-in_range}
@@ -40,6 +40,7 @@ record IsKept (P : Value → Type 0) : Type 0 where
   joins : (a b : Value) → P a → P b → P (joined a b)
   intersects : (a b : Value) → P a → P b → P (common a b)
   subtracts : (a b : Value) → P a → P b → P (without a b)
+  closes : (table : Table) → IsValidTable table → (parameters : Parameters) (v : Value) → P v → P (closed_value table parameters v)
 
 abbrev Holds : (Value → Type 0) → Operand → Type 0
 Holds P (character c) = IsCodePoint c
@@ -179,15 +180,19 @@ module _ (P : Value → Type 0) (kept : IsKept P) where
       (strings_by-in_range (length t) parameters [] (drop 1 t) (All-nil _) (All-drop IsCodePoint 1 t all)))
       (λ _. finds_none _)
 
-  property_operand-kept : (in_negated negated : Bool) (x : Property × Source) → PropertyInRange x.0 →
-      Finds (Holds P) (property_operand in_negated negated x)
-  property_operand-kept in_negated negated (of_points members, t) h =
-      finds_some _ (class (only (complement_if negated members)), t) (kept.points (complement_if negated members))
-  property_operand-kept in_negated negated (of_strings written, t) h =
-      finds_cond _ (in_negated || negated) _ _ (λ _. finds_none _)
-      (λ _. finds_some _ (class (value_of_strings written), t) (kept.strings written h))
-
   module _ (table : Table) (lawful : IsValidTable table) (parameters : Parameters) where
+    closed_value_of-kept : (x : Operand) → Holds P x → P (closed_value_of table parameters x)
+    closed_value_of-kept x h = kept.closes table lawful parameters (value_of x) (value_of-kept x h)
+
+    property_operand-kept : (in_negated negated : Bool) (x : Property × Source) → PropertyInRange x.0 →
+        Finds (Holds P) (property_operand table parameters in_negated negated x)
+    property_operand-kept in_negated negated (of_points members, t) h =
+        finds_some _ (class (only (complement_if negated (closed_members table parameters members))), t)
+        (kept.points (complement_if negated (closed_members table parameters members)))
+    property_operand-kept in_negated negated (of_strings written, t) h =
+        finds_cond _ (in_negated || negated) _ _ (λ _. finds_none _)
+        (λ _. finds_some _ (class (value_of_strings written), t) (kept.strings written h))
+
     operand_productions-kept : (in_negated : Bool) (c : ℕ) (t : Source) → All IsCodePoint (c ∷ t) →
         EachProduction (Finds (Holds P)) (operand_productions table parameters in_negated c t)
     operand_productions-kept in_negated c t all =
@@ -202,10 +207,10 @@ module _ (P : Value → Type 0) (kept : IsKept P) where
     escaped_operand_at-kept in_negated [] all = finds_none _
     escaped_operand_at-kept in_negated (c ∷ t) all =
         elim (class_letter c) as (λ named. Finds (Holds P) (elim named as (λ _. Found Operand) [
-          | Some name ↦ Some (class (only (class_members name)), t)
+          | Some name ↦ Some (class (only (class_members table parameters name)), t)
           | None ↦ first_production (operand_productions table parameters in_negated c t)
         ])) [
-          | Some name ↦ finds_some _ (class (only (class_members name)), t) (kept.points (class_members name))
+          | Some name ↦ finds_some _ (class (only (class_members table parameters name)), t) (kept.points (class_members table parameters name))
           | None ↦ first_production-has (Finds (Holds P)) (operand_productions table parameters in_negated c t) (finds_none _) (operand_productions-kept in_negated c t all)
         ]
 
@@ -262,11 +267,11 @@ module _ (P : Value → Type 0) (kept : IsKept P) where
           finds_next (Holds P) (All P) (next_operand_at table parameters inner in_negated c t) _ t (next_operand_at-kept c t all)
           (next_operand_at-ends table parameters inner inner_ends in_negated c t) all
           (λ x k rest.
-          let has = value_of-kept x.0 k in
-          finds_cond _ (is_at 93 x.1) _ _ (λ _. finds_some _ (value_of x.0 ∷ [], drop 1 x.1) (All-cons P (value_of x.0) [] has (All-nil P)))
+          let has = closed_value_of-kept x.0 k in
+          finds_cond _ (is_at 93 x.1) _ _ (λ _. finds_some _ (closed_value_of table parameters x.0 ∷ [], drop 1 x.1) (All-cons P (closed_value_of table parameters x.0) [] has (All-nil P)))
           (λ _. finds_cond _ (are_at c x.1) _ _
-          (λ _. finds_map (All P) (All P) (λ others. value_of x.0 ∷ others) (operands_by table parameters inner in_negated n c (drop 2 x.1))
-          (λ others. All-cons P (value_of x.0) others has) (operands_by-kept n c (drop 2 x.1) (All-drop IsCodePoint 2 x.1 rest)))
+          (λ _. finds_map (All P) (All P) (λ others. closed_value_of table parameters x.0 ∷ others) (operands_by table parameters inner in_negated n c (drop 2 x.1))
+          (λ others. All-cons P (closed_value_of table parameters x.0) others has) (operands_by-kept n c (drop 2 x.1) (All-drop IsCodePoint 2 x.1 rest)))
           (λ _. finds_none _)))
 
       -- A value with what is parsed after it.
@@ -279,12 +284,13 @@ module _ (P : Value → Type 0) (kept : IsKept P) where
           Finds P (contents_after table parameters inner in_negated x)
       contents_after-kept (first, t) h all =
           let held = value_of-kept first h in
+          let closed = closed_value_of-kept first h in
           let one = All-drop IsCodePoint 1 t all in
           let two = All-drop IsCodePoint 2 t all in
           finds_cond _ (are_at 38 t) _ _
-          (λ _. onto-kept common (value_of first) _ kept.intersects held (operands_by-kept _ 38 (drop 2 t) two))
+          (λ _. onto-kept common (closed_value_of table parameters first) _ kept.intersects closed (operands_by-kept _ 38 (drop 2 t) two))
           (λ _. finds_cond _ (are_at 45 t) _ _
-          (λ _. onto-kept without (value_of first) _ kept.subtracts held (operands_by-kept _ 45 (drop 2 t) two))
+          (λ _. onto-kept without (closed_value_of table parameters first) _ kept.subtracts closed (operands_by-kept _ 45 (drop 2 t) two))
           (λ _. finds_cond _ (is_at 38 t && isolates_ampersand parameters.dialect) _ _
           (λ _. onto-kept joined (joined (value_of first) (only (one_point 38))) _ kept.joins
           (kept.joins (value_of first) (only (one_point 38)) held (kept.points (one_point 38))) (parts_by-kept _ (drop 1 t) one))
@@ -297,6 +303,11 @@ module _ (P : Value → Type 0) (kept : IsKept P) where
           finds_cond _ (is_at 93 t) _ _ (λ _. finds_some _ (nothing, drop 1 t) (kept.points []))
           (λ _. finds_next (Holds P) P (operand_at table parameters inner in_negated t) _ t (operand_at-kept t all) (operand_ends t) all
           contents_after-kept)
+
+      closed_contents_at-kept : (t : Source) → All IsCodePoint t → Finds P (closed_contents_at table parameters inner in_negated t)
+      closed_contents_at-kept t all =
+          finds_map P P (closed_value table parameters) (contents_at table parameters inner in_negated t)
+          (λ v h. kept.closes table lawful parameters v h) (contents_at-kept t all)
 
 inside-in_range : (t : Source) → All IsCodePoint t → All IsCodePoint (cond (is_at 94 t) (drop 1 t) t)
 inside-in_range t all =
@@ -321,6 +332,17 @@ value_of_strings-in_range (s ∷ ss) h =
     (value_of_string-in_range s (All-head (All IsCodePoint) s ss h))
     (value_of_strings-in_range ss (All-drop (All IsCodePoint) 1 (s ∷ ss) h))
 
+folded-in_range : (table : Table) → IsValidTable table → (s : List ℕ) → All IsCodePoint s → All IsCodePoint (map table.fold s)
+folded-in_range table lawful s all = All-map IsCodePoint table.fold s (All-weaker IsCodePoint (λ c. IsCodePoint (table.fold c)) (λ c h. lawful.fold.in_range c h) s all)
+
+closed_value-in_range : (table : Table) → IsValidTable table → (parameters : Parameters) (v : Value) → ValueInRange v →
+    ValueInRange (closed_value table parameters v)
+closed_value-in_range table lawful parameters v all = by (closes parameters)
+  where
+    by : (b : Bool) → OfCodePoints (if b then map (map table.fold) v.strings else v.strings)
+    by true = All-map (All IsCodePoint) (map table.fold) v.strings (All-weaker (All IsCodePoint) (λ s. All IsCodePoint (map table.fold s)) (folded-in_range table lawful) v.strings all)
+    by false = all
+
 strings_kept : IsKept ValueInRange
 strings_kept = record {
   points = λ members. All-nil _;
@@ -328,6 +350,7 @@ strings_kept = record {
   joins = λ a b. All-append (All IsCodePoint) a.strings b.strings;
   intersects = λ a b h k. All-filter (is_among b.strings) (All IsCodePoint) a.strings h;
   subtracts = λ a b h k. All-filter (λ s. not (is_among b.strings s)) (All IsCodePoint) a.strings h;
+  closes = closed_value-in_range;
 }
 
 -- ---- nesting depth
@@ -348,6 +371,7 @@ nesting_kept n = record {
   joins = λ a b h k. omega (arith, h, k);
   intersects = λ a b h k. omega (arith, h, k);
   subtracts = λ a b h k. omega (arith, h, k);
+  closes = λ table lawful parameters v h. h;
 }
 
 -- ---- classes
@@ -358,7 +382,7 @@ module _ (table : Table) (lawful : IsValidTable table) (parameters : Parameters)
   class_set_by-in_range zero t all = finds_none _
   class_set_by-in_range (suc n) t all =
       finds_then ValueInRange _ _ _
-      (contents_at-kept ValueInRange strings_kept table lawful parameters (class_set_by table parameters n) (class_set_by-ends table parameters n)
+      (closed_contents_at-kept ValueInRange strings_kept table lawful parameters (class_set_by table parameters n) (class_set_by-ends table parameters n)
       (λ found. ValueInRange found.1) (λ found h. h) (class_set_by-in_range n) (is_at 94 t && judges_contents parameters.dialect) (cond (is_at 94 t) (drop 1 t) t) (inside-in_range t all))
       (unless_negated_strings-kept ValueInRange parameters.dialect (is_at 94 t))
 
@@ -373,7 +397,7 @@ module _ (table : Table) (lawful : IsValidTable table) (parameters : Parameters)
   class_set_by-nesting zero t all = finds_none _
   class_set_by-nesting (suc n) t all =
       finds_then (λ value. value.nesting ≤ n) _ _ _
-      (contents_at-kept (λ value. value.nesting ≤ n) (nesting_kept n) table lawful parameters (class_set_by table parameters n)
+      (closed_contents_at-kept (λ value. value.nesting ≤ n) (nesting_kept n) table lawful parameters (class_set_by table parameters n)
       (class_set_by-ends table parameters n) (λ found. found.1.nesting < n) (λ found h. omega (arith, h)) (class_set_by-nesting n)
       (is_at 94 t && judges_contents parameters.dialect)
       (cond (is_at 94 t) (drop 1 t) t) (inside-in_range t all))

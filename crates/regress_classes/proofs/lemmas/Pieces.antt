@@ -90,7 +90,7 @@ module _ (table : Table) (parameters : Parameters) where
     where
       by : (letter : Option (CharacterClassType × Bool)) →
           Ends (elim letter as (λ _. Found ClassAtom) [
-            | Some named ↦ Some (set (class_members named), t)
+            | Some named ↦ Some (set (class_members table parameters named), t)
             | None ↦ first_production (class_escape_productions table parameters c t)
           ]) (c ∷ t)
       by (Some named) = one-ends _ c t

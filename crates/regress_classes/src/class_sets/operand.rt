@@ -1,11 +1,12 @@
 //! Operands of a class with the flag v.
-ghost use Rattle.std.specs.Prelude.{◌≡◌, true, All, IfOk};
-ghost use Rattle.regress_classes.specs.ClassProductions.{class_members, complement_if};
-ghost use Rattle.regress_classes.specs.ClassSets.{Operand as Written, only, value_of, value_of_strings, property_operand_at, escaped_operand_at};
+ghost use Rattle.std.specs.Prelude.{◌≡◌, true, All, IfOk, List};
+ghost use Rattle.regress_base.specs.Intervals.{Bounds};
+ghost use Rattle.regress_classes.specs.ClassProductions.{class_members, closed_members, complement_if};
+ghost use Rattle.regress_classes.specs.ClassSets.{Operand as Written, only, value_of, closed_value_of, value_of_strings, property_operand_at, escaped_operand_at};
 ghost use Rattle.regress_lexer.specs.Fault.{FailsByNoLimit};
 ghost use Rattle.regress_lexer.specs.Reads.{ParsesAs};
 ghost use Rattle.regress_lexer.specs.Source.{IsCodePoint};
-ghost use Rattle.regress_classes.specs.ClassViews.{strings_of, IsValue, IsOperand};
+ghost use Rattle.regress_classes.specs.ClassViews.{HasMembers, strings_of, IsValue, IsOperand};
 ghost use Rattle.regress_lexer.specs.Views.{source};
 ghost use Rattle.regress_unicode.specs.TableOf.{table_of};
 
@@ -13,7 +14,8 @@ use super::OperandContext;
 use super::character::read_escaped_character;
 use super::strings::read_quoted;
 use super::value::Value;
-use crate::class_escape::{class_letter, class_members};
+use crate::class_escape::{class_escape_set, class_letter};
+use crate::closing::close;
 use crate::property::{Property, is_property_letter, parse_property};
 use regress_base::charclasses::CharacterClassType;
 use regress_base::codepointset::CodePointSet;
@@ -33,7 +35,7 @@ pub enum Operand {
 
 impl Operand {
     /// Returns the contents of the operand.
-    pub(super) fn into_value(self, alloc: Global) -> Result<Value, AllocError>
+    fn into_value(self, alloc: Global) -> Result<Value, AllocError>
         requires { (operand : Written) × IsOperand self operand }
         ensures { IfOk result (λ held. (operand : Written) → IsOperand self operand → IsValue held (value_of operand)) }
     {
@@ -41,6 +43,20 @@ impl Operand {
             Operand::Character(c) => Value::of_point(alloc, c),
             Operand::Class(value) => Ok(value),
         }
+    }
+
+    /// Returns the contents of the operand as operators have them.
+    pub(super) fn into_closed_value(
+        self,
+        alloc: Global,
+        around: &OperandContext,
+    ) -> Result<Value, AllocError>
+        requires { (operand : Written) × IsOperand self operand }
+        ensures { IfOk result (λ held. (operand : Written) → IsOperand self operand →
+            IsValue held (closed_value_of (table_of around.now.tables.now) around.now.parameters.now operand)) }
+    {
+        self.into_value(alloc)?
+            .into_closed(around.tables, around.parameters)
     }
 }
 
@@ -60,7 +76,7 @@ pub(super) fn read_escaped_operand(
     let c = *c;
     if let Some((kind, negated)) = class_letter(c) {
         cursor.rest = rest;
-        Ok(Operand::Class(class_value(cursor.alloc, kind, negated)?))
+        Ok(Operand::Class(class_value(cursor.alloc, kind, negated, around)?))
     } else if c == u32::from('q') {
         cursor.rest = rest;
         read_quoted(cursor, around.parameters, begin)
@@ -74,12 +90,15 @@ pub(super) fn read_escaped_operand(
 }
 
 /// Returns a class escape, or its complement if `negated`.
-fn class_value(alloc: Global, kind: CharacterClassType, negated: bool) -> Result<Value, AllocError>
-    ensures { IfOk result (λ held. IsValue held (only (class_members (kind, negated)))) }
+fn class_value(
+    alloc: Global,
+    kind: CharacterClassType,
+    negated: bool,
+    around: &OperandContext,
+) -> Result<Value, AllocError>
+    ensures { IfOk result (λ held. IsValue held (only (class_members (table_of around.now.tables.now) around.now.parameters.now (kind, negated)))) }
 {
-    let set = class_members(alloc, kind, negated)?;
-    set_is_canonical(&set);
-    Ok(Value::of_set(alloc, set))
+    point_value(alloc, class_escape_set(alloc, kind)?, negated, around)
 }
 
 /// Parses a property after its `\p` or `\P`.
@@ -90,12 +109,13 @@ fn read_property_operand(
     begin: usize,
 ) -> Result<Operand, Fault>
     ensures value { ParsesAs IsOperand (source cursor.new) result
-        (property_operand_at (table_of around.now.tables.now) around.now.negated negated (source cursor.old)) }
+        (property_operand_at (table_of around.now.tables.now) around.now.parameters.now around.now.negated negated (source cursor.old)) }
     ensures kind { FailsByNoLimit result }
 {
     match parse_property(cursor, true, around.tables)? {
         Property::Points(set) => {
-            let value = point_value(cursor.alloc, set, negated)?;
+            set_is_canonical(&set);
+            let value = point_value(cursor.alloc, set, negated, around)?;
             Ok(Operand::Class(value))
         }
         Property::Strings(strings) => {
@@ -108,13 +128,26 @@ fn read_property_operand(
     }
 }
 
-/// Returns a property of code points, or its complement if `negated`.
-fn point_value(alloc: Global, set: CodePointSet, negated: bool) -> Result<Value, AllocError>
-    ensures { IfOk result (λ held. IsValue held (only (complement_if negated set))) }
+/// Returns these code points, or their complement if `negated`. They are closed before.
+fn point_value(
+    alloc: Global,
+    set: CodePointSet,
+    negated: bool,
+    around: &OperandContext,
+) -> Result<Value, AllocError>
+    ensures { IfOk result (λ held. (members : List Bounds) → HasMembers members set →
+        IsValue held (only (complement_if negated (closed_members (table_of around.now.tables.now) around.now.parameters.now members)))) }
 {
-    let set = if negated { set.inverted()? } else { set };
-    set_is_canonical(&set);
+    let closed = close(set, around.tables, around.parameters)?;
+    let set = complement_if(closed, negated)?;
     Ok(Value::of_set(alloc, set))
+}
+
+/// Returns the set, or its complement if `negated`.
+fn complement_if(set: CodePointSet, negated: bool) -> Result<CodePointSet, AllocError>
+    ensures { IfOk result (λ other. (members : List Bounds) → HasMembers members set → HasMembers (complement_if negated members) other) }
+{
+    if negated { set.inverted() } else { Ok(set) }
 }
 
 /// Returns a property of strings.

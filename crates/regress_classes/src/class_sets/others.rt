@@ -4,10 +4,14 @@ ghost use Rattle.std.specs.BTreeSet.{contains_by};
 ghost use Rattle.std.specs.Cmp.Lexicographic.{slice_cmp};
 ghost use Rattle.std.specs.Ordering.{nat_cmp};
 ghost use Rattle.regress_base.specs.Intervals.{Bounds};
-ghost use Rattle.regress_classes.specs.ClassSets.{Value as Written, only, joined, is_among};
+ghost use Rattle.regress_classes.specs.ClassSets.{Value as Written, only, joined, closed_value, is_among};
 ghost use Rattle.regress_classes.specs.ClassViews.{HasOthers, AreKeptStrings, strings_of, applied, kept, may_be_left};
+ghost use Rattle.regress_unicode.specs.TableOf.{table_of};
 
 use super::Operator;
+use crate::closing::fold_strings;
+use crate::parameters::Parameters;
+use regress_unicode::Tables;
 use std::alloc::{AllocError, Global};
 use std::collections::BTreeSet;
 
@@ -35,6 +39,23 @@ impl Others {
             may_have_strings: false,
             nesting: 0,
         }
+    }
+
+    /// Returns the contents with folded strings, if the parameters ask for that.
+    pub(super) fn into_folded(
+        self,
+        tables: &Tables,
+        parameters: &Parameters,
+    ) -> Result<Others, AllocError>
+        ensures { IfOk result (λ folded. (value : Written) → HasOthers value self →
+            HasOthers (closed_value (table_of tables.now) parameters.now value) folded) }
+    {
+        Ok(Others {
+            strings: fold_strings(self.strings, tables, parameters)?,
+            has_empty: self.has_empty,
+            may_have_strings: self.may_have_strings,
+            nesting: self.nesting,
+        })
     }
 
     /// Adds the strings of `other`.

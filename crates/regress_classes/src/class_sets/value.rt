@@ -2,14 +2,18 @@
 ghost use Rattle.std.specs.Prelude.{◌≡◌, ◌&&◌, ℕ, All, List, IfOk, OnOk};
 ghost use Rattle.regress_base.specs.Intervals.{Bounds, is_member, IsCanonical};
 ghost use Rattle.regress_classes.specs.ClassProductions.{one_point};
-ghost use Rattle.regress_classes.specs.ClassSets.{Value as Written, nothing, has_strings, is_not_negatable, only, joined, value_of_string};
+ghost use Rattle.regress_classes.specs.ClassSets.{Value as Written, nothing, has_strings, is_not_negatable, only, joined, closed_value, value_of_string};
 ghost use Rattle.regress_lexer.specs.Source.{IsCodePoint};
 ghost use Rattle.regress_classes.specs.ClassViews.{HasMembers, IsValue, applied, kept};
+ghost use Rattle.regress_unicode.specs.TableOf.{table_of};
 
 use super::Operator;
 use super::others::Others;
+use crate::closing::close;
+use crate::parameters::Parameters;
 use regress_base::codepointset::CodePointSet;
 use regress_lexer::Dialect;
+use regress_unicode::Tables;
 use std::alloc::{AllocError, Global};
 
 /// The contents of a class with the flag v: code points and strings.
@@ -37,6 +41,22 @@ impl Value {
             set,
             others: Others::new(alloc),
         }
+    }
+
+    /// Returns the contents with closed code points and folded strings, if the parameters ask for that.
+    pub(super) fn into_closed(
+        self,
+        tables: &Tables,
+        parameters: &Parameters,
+    ) -> Result<Value, AllocError>
+        ensures { IfOk result (λ held. (value : Written) → IsValue self value →
+            IsValue held (closed_value (table_of tables.now) parameters.now value)) }
+    {
+        let Value { set, others } = self;
+        Ok(Value {
+            set: close(set, tables, parameters)?,
+            others: others.into_folded(tables, parameters)?,
+        })
     }
 
     /// Returns whether there is a string, which may be the empty one.

@@ -14,7 +14,7 @@ use Rattle.regress_lexer.specs.Quantifiers.{quantifier_at, is_ordered}
 use Rattle.regress_classes.specs.Properties.{Property, of_points, of_strings, property_at}
 use Rattle.regress_classes.specs.ClassProductions.{class_letter, class_at}
 use Rattle.regress_classes.specs.ClassSets.{class_set_at}
-use Rattle.regress_syntax.specs.Productions.{class_parameters, Context, Head, single, angle_at, after_question_mark_at, group_at, has_name, is_lone_backslash, character_at, property_atom, property_atom_at, number_reference_at, name_reference_at, escape_productions, escaped_by, escaped_at, brace_by, brackets_at, atom_productions, atom_by, head_by, head_at, no_quantifier_at, this_quantifier, optional_quantifier_at}
+use Rattle.regress_syntax.specs.Productions.{class_parameters, class_flags, Context, Head, single, angle_at, after_question_mark_at, group_at, has_name, is_lone_backslash, character_at, property_atom, property_atom_at, number_reference_at, name_reference_at, escape_productions, escaped_by, escaped_at, brace_by, brackets_at, atom_productions, atom_by, head_by, head_at, no_quantifier_at, this_quantifier, optional_quantifier_at}
 use Rattle.regress_lexer.proofs.lemmas.After.{after_same, after_drop, after_front, after_shorter, Ends, ends_none, ends_some, one-ends, ends_after, ends_more, ends_then, ends_map, ends_cond, character_escape_at-ends, quantifier_at-ends}
 use Rattle.regress_syntax.proofs.lemmas.NameEnds.{group_name_at-ends, modifiers_at-ends}
 use Rattle.regress_classes.proofs.lemmas.Pieces.{property_at-ends, class_at-ends}
@@ -89,7 +89,7 @@ module _ (ctx : Context) where
     where
       by : (letter : Option (CharacterClassType × Bool)) →
           Ends (elim letter as (λ _. Found Atom) [
-            | Some named ↦ Some (class_escape ctx.setting.flags named.0 named.1, t)
+            | Some named ↦ Some (class_escape (class_flags ctx) named.0 named.1, t)
             | None ↦ first_production (escape_productions ctx c t)
           ]) (c ∷ t)
       by (Some named) = one-ends _ c t

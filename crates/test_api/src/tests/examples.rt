@@ -17,7 +17,8 @@ use regress_front::parse::{
 };
 use regress_front::types::Flags;
 use regress_front::unicode::{
-    FoldRange, Tables, add_icase_code_points, expand_code_point, fold, unfold_char, uppercase,
+    FoldRange, Tables, add_icase_code_points, add_uppercase_code_points, expand_code_point, fold,
+    unfold_char, uppercase,
 };
 use regress_front::util::code_points;
 use regress_properties::general_category;
@@ -211,6 +212,18 @@ fn a_set_is_closed_under_case_folding(rt: HostRuntime) -> Result<(), Fail> {
     let closure = add_icase_code_points(set, &tables)?;
     assert!(rt; closure.contains(0x4B));
     assert!(rt; closure.contains(0x212A));
+    Ok(())
+}
+
+#[test]
+fn a_set_is_closed_under_upper_case(rt: HostRuntime) -> Result<(), Fail> {
+    let alloc = rt.alloc();
+    let tables = Tables::small(alloc)?;
+    let mut set = CodePointSet::new(alloc);
+    set.add_one(0x6B)?;
+    let closure = add_uppercase_code_points(set, &tables)?;
+    assert!(rt; closure.contains(0x4B));
+    assert!(rt; !closure.contains(0x212A));
     Ok(())
 }
 

@@ -1,4 +1,4 @@
-use Rattle.std.proofs.Common.{◌∙◌, [], ap, chars, option_map, sym}
+use Rattle.std.proofs.Common.{◌∙◌, [], ap, chars, option_map, refl, sym}
 use Rattle.regress_front.specs.Accepted.{own_context}
 use Rattle.regress_ecma.specs.Exec.{found_in_bytes}
 use Rattle.regress_ecma.proofs.lemmas.Searches.{decoded}
@@ -15,5 +15,5 @@ pub returns-clause-source : goal.returns-clause-source
 returns-clause-source c setting pattern r compiled comparable text utf8 index within found finds =
     finds_match_from setting pattern r compiled comparable text utf8 index within found finds
     ∙ ap (option_map found_in_bytes)
-    (sym (c.first_outcome_is_the_match.ensures.search (own_context setting compiled.tree.pattern) compiled.tree.pattern pattern []
+    (sym (c.first_outcome_is_the_match.ensures.search (own_context setting compiled.tree.pattern) refl compiled.tree.pattern pattern []
     compiled.tree.accepted.derived comparable (chars text) (decoded text utf8) index within))

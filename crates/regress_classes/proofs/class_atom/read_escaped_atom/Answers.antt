@@ -1,5 +1,5 @@
 -- Each branch is the production that the grammar selects, and what remains of a list of code points is one too.
-use Rattle.std.proofs.Common.{◌≡◌, ℕ, false, not, ◌&&◌, ◌||◌, ◌==◌, ◌∷◌, sym, ap, ◌∙◌, subst}
+use Rattle.std.proofs.Common.{◌≡◌, ℕ, false, not, ◌&&◌, ◌||◌, ◌==◌, ◌∷◌, Some, sym, ap, ◌∙◌, subst}
 use Rattle.std.proofs.lemmas.Bool.{ne_eqb, and_left, and_right}
 use Rattle.std.specs.List.{All}
 use Rattle.std.proofs.lemmas.List.Elements.{All-tail}
@@ -60,13 +60,14 @@ invariant_of-cursor-else-is_reserved c = record {
       c.args.cursor.now.in_range;
 }
 
-pub returns-in-Some-class_letter-clause-value : goal.returns-in-Some-class_letter-clause-value
-returns-in-Some-class_letter-clause-value c =
+pub returns-in_ok-escape_atom-clause-value : goal.returns-in_ok-escape_atom-clause-value
+returns-in_ok-escape_atom-clause-value c =
     let letter = c.in-Some.c.now in
     let front = c.in-Some.ensures.cases.0 in
     let named = c.in-Some-class_letter in
     set_read (table_of c.args.tables.now) c.args.parameters.now (source c.args.cursor.now) letter c.in-Some.rest.now front
     (named.kind, named.negated) (sym c.class_letter.ensures ∙ named.is)
+    ∙ ap (λ atom. Some (atom, c.in-Some.rest.now)) (sym c.in_ok-escape_atom.ensures.value)
 
 pub returns-then-c-from-clause-value : goal.returns-then-c-from-clause-value
 returns-then-c-from-clause-value c =

@@ -5,11 +5,11 @@ use Rattle.std.proofs.lemmas.Result.{err_from_is_err_and}
 use Rattle.regress_unicode.specs.TableOf.{table_of}
 use Rattle.regress_classes.specs.declared.class_sets.OperandContext.{OperandContext}
 use Rattle.regress_classes.specs.ClassProductions.{one_point}
-use Rattle.regress_classes.specs.ClassSets.{Value, nothing, is_not_negatable, only, joined, nested, unless_negated_strings, set_character_at, character, class, value_of, are_at}
+use Rattle.regress_classes.specs.ClassSets.{Value, nothing, is_not_negatable, only, joined, nested, unless_negated_strings, set_character_at, character, class, value_of, closed_value, closed_value_of, contents_at, are_at}
 use Rattle.regress_lexer.specs.declared.dialect.Dialect.{Dialect}
 use Rattle.regress_lexer.specs.Dialects.{isolates_ampersand}
 use Rattle.regress_lexer.specs.Reads.{ParsesAs}
-use Rattle.regress_lexer.specs.Source.{Source, is_at}
+use Rattle.regress_lexer.specs.Source.{Source, found_map, is_at}
 use Rattle.regress_classes.specs.ClassViews.{IsValue, IsUnion, IsChain, IsOperand, inner_of, symbol_of, applied}
 use Rattle.regress_lexer.specs.Views.{source}
 use Rattle.regress_lexer.proofs.lemmas.Sources.{on_rejected, on_rejected_then, on_kind_then}
@@ -118,7 +118,7 @@ parse_after_first_operand-returns-in_ok-value-clause-value t c = λ operand is.
     (source c.args.cursor.now) (source c.try_consume_twice.new.cursor)
     (sym c.try_consume_twice.ensures.found ∙ c.if-try_consume_twice.true)
     (c.try_consume_twice.ensures.moves ∙ cond-true _ _ _ c.if-try_consume_twice.true)))
-    (c.parse_operands.ensures.value (value_of operand) (c.in_ok-value.ensures operand is))
+    (c.parse_operands.ensures.value (closed_value_of (table_of around.tables.now) around.parameters.now operand) (c.in_ok-value.ensures operand is))
 
 pub parse_after_first_operand-returns-in_ok-value-2-clause-value : goal.parse_after_first_operand-returns-in_ok-value-2-clause-value
 parse_after_first_operand-returns-in_ok-value-2-clause-value t c = λ operand is.
@@ -131,7 +131,7 @@ parse_after_first_operand-returns-in_ok-value-2-clause-value t c = λ operand is
     (source second.new.cursor) (sym c.try_consume_twice.ensures.found ∙ c.if-try_consume_twice.false)
     (ap (are_at 45) (sym same) ∙ sym second.ensures.found ∙ c.if-try_consume_twice-2.true)
     (second.ensures.moves ∙ cond-true _ _ _ c.if-try_consume_twice-2.true ∙ ap (λ (u : Source). drop 2 u) same)))
-    (c.parse_operands-then-try_consume_twice-2.ensures.value (value_of operand) (c.in_ok-value-2.ensures operand is))
+    (c.parse_operands-then-try_consume_twice-2.ensures.value (closed_value_of (table_of around.tables.now) around.parameters.now operand) (c.in_ok-value-2.ensures operand is))
 
 pub parse_after_first_operand-returns-in_ok-add_point-clause-value : goal.parse_after_first_operand-returns-in_ok-add_point-clause-value
 parse_after_first_operand-returns-in_ok-add_point-clause-value t c = λ operand is.
@@ -293,14 +293,14 @@ parse_operands-returns-then-try_consume-clause-value t c = λ held is.
     let l = c.loop-chain in
     let so_far = (l.invariant.0 held is).1 in
     let operand = c.in_ok-parse_next_operand.ensures.value in (
-      applied c.args.operator so_far.value (value_of operand.0),
+      applied c.args.operator so_far.value (closed_value_of (table_of around.tables.now) around.parameters.now operand.0),
       so_far.whole
           ∙ last_read (table_of around.tables.now) around.parameters.now (inner_of around) (ends around) around.negated (symbol_of c.args.operator)
           (applied c.args.operator) so_far.value (source l.cursor) (operand.0, source c.parse_next_operand.new.cursor) (source c.try_consume.new.self)
           operand.1 (sym c.try_consume.ensures.found ∙ c.if-try_consume.true)
           (c.try_consume.ensures.moves ∙ cond-true _ _ _ c.if-try_consume.true),
-      subst (λ operator. IsValue c.in_ok-finish.field-0 (applied operator so_far.value (value_of operand.0))) (l.invariant.0 held is).0
-          (c.in_ok-finish.ensures so_far.value (value_of operand.0) so_far.is (c.in_ok-operand.ensures operand.0 operand.2)),
+      subst (λ operator. IsValue c.in_ok-finish.field-0 (applied operator so_far.value (closed_value_of (table_of around.tables.now) around.parameters.now operand.0))) (l.invariant.0 held is).0
+          (c.in_ok-finish.ensures so_far.value (closed_value_of (table_of around.tables.now) around.parameters.now operand.0) so_far.is (c.in_ok-operand.ensures operand.0 operand.2)),
     )
 
 pub parse_operands-returns-in_err-consume_operator-clause-value : goal.parse_operands-returns-in_err-consume_operator-clause-value
@@ -344,20 +344,35 @@ parse_operands-loop-chain-preserved t c = (
       let operator_is = (l.invariant.0 held is).0 in
       let pushed = c.in_ok-chain.ensures in (
         pushed.0 ∙ operator_is,
-        read_on IsChain _ held (applied c.args.operator so_far.value (value_of operand.0)) (source c.args.cursor.now) (source l.cursor)
+        read_on IsChain _ held (applied c.args.operator so_far.value (closed_value_of (table_of around.tables.now) around.parameters.now operand.0)) (source c.args.cursor.now) (source l.cursor)
             (source c.consume_operator.new.cursor) l.chain c.in_ok-chain.chain so_far
             (more_read (table_of around.tables.now) around.parameters.now (inner_of around) (ends around) around.negated (symbol_of c.args.operator)
             (applied c.args.operator) so_far.value (source l.cursor) (operand.0, source c.parse_next_operand.new.cursor)
             (source c.consume_operator.new.cursor) operand.1 (sym c.try_consume.ensures.found ∙ c.if-try_consume.false)
             (ap (are_at (symbol_of c.args.operator)) (sym same) ∙ c.in_ok-consume_operator.ensures.ok.0)
             (c.in_ok-consume_operator.ensures.ok.1 ∙ ap (λ (u : Source). drop 2 u) same))
-            (subst (λ operator. IsChain c.in_ok-chain.chain (applied operator so_far.value (value_of operand.0))) operator_is
-            (pushed.1 so_far.value (value_of operand.0) so_far.is (c.in_ok-operand.ensures operand.0 operand.2))),
+            (subst (λ operator. IsChain c.in_ok-chain.chain (applied operator so_far.value (closed_value_of (table_of around.tables.now) around.parameters.now operand.0))) operator_is
+            (pushed.1 so_far.value (closed_value_of (table_of around.tables.now) around.parameters.now operand.0) so_far.is (c.in_ok-operand.ensures operand.0 operand.2))),
       ),
   omega (arith, c.loop-chain.invariant.1, parse_operands-loop-chain-smaller t c),
 )
 
 -- ---- classes
+
+pub parse_closed_contents-returns-in_err-value-clause-value : goal.parse_closed_contents-returns-in_err-value-clause-value
+parse_closed_contents-returns-in_err-value-clause-value t c =
+    let p = err_from_is_err_and c.from_residual.result c.from_residual.ensures.1 in
+    let around = c.args.around.now in
+    rw (p.1, p.2) (on_rejected_then c.in_err-value.field-0.0
+    (λ none. ap (found_map (closed_value (table_of around.tables.now) around.parameters.now)) none)
+    c.in_err-value.ensures.value)
+
+pub parse_closed_contents-returns-clause-value : goal.parse_closed_contents-returns-clause-value
+parse_closed_contents-returns-clause-value t c =
+    let around = c.args.around.now in
+    let found = c.in_ok-value.ensures.value in
+    let close : Value → Value = closed_value (table_of around.tables.now) around.parameters.now in
+    (close found.0, ap (found_map close) found.1, c.in_ok-into_closed.ensures found.0 found.2)
 
 pub parse_class_set-returns-then-nesting-eq0-clause-value : goal.parse_class_set-returns-then-nesting-eq0-clause-value
 parse_class_set-returns-then-nesting-eq0-clause-value t c =
@@ -375,7 +390,7 @@ parse_class_set-returns-in_err-value-clause-value t c =
 pub parse_class_set-returns-then-is_not_negatable-clause-value : goal.parse_class_set-returns-then-is_not_negatable-clause-value
 parse_class_set-returns-then-is_not_negatable-clause-value t c =
     let found = c.in_ok-value.ensures.value in
-    let rest = source c.parse_contents.new.cursor in
+    let rest = source c.parse_closed_contents.new.cursor in
     on_rejected c.rejected-then-is_not_negatable.result
     (class_read (table_of c.args.tables.now) c.args.parameters.now c.args.nesting (c.args.nesting - 1) (source c.args.cursor.now)
     (source c.try_consume-negated.new.self) c.try_consume-negated.result c.is_judged.result (Some (found.0, rest)) (omega (arith, c.if-nesting-eq0.false))
@@ -391,7 +406,7 @@ kept_class dialect negated value t allowed = cond-false _ _ _ allowed
 pub parse_class_set-returns-clause-value : goal.parse_class_set-returns-clause-value
 parse_class_set-returns-clause-value t c =
     let found = c.in_ok-value.ensures.value in
-    let rest = source c.parse_contents.new.cursor in
+    let rest = source c.parse_closed_contents.new.cursor in
     let allowed : (c.try_consume-negated.result && is_not_negatable c.args.parameters.now.dialect found.0) ≡ false =
     elim c.else-negated.branch [
       | parse_class_set-else-negated-via-then-negated+else-is_not_negatable w ↦
@@ -411,7 +426,7 @@ parse_class_set-returns-clause-nesting t c =
     let tables = c.args.tables.now in
     let read = parse_class_set-returns-clause-value t c in
     let fewer = (class_set_by-nesting (table_of tables) tables.sound.lawful c.args.parameters.now c.args.nesting (source c.args.cursor.now)
-    c.args.cursor.now.in_range).each (read.0, source c.parse_contents.new.cursor) read.1 in
+    c.args.cursor.now.in_range).each (read.0, source c.parse_closed_contents.new.cursor) read.1 in
     omega (arith, fewer, read.2.1.others.nesting)
 
 -- ---- nesting depth
@@ -498,6 +513,9 @@ parse_after_first_operand-returns-in_err-add_operand-clause-value t c = let p = 
 
 pub parse_after_first_operand-returns-in_err-add_point-clause-value : goal.parse_after_first_operand-returns-in_err-add_point-clause-value
 parse_after_first_operand-returns-in_err-add_point-clause-value t c = let p = err_from_is_err_and c.from_residual-in_err-add_point.result c.from_residual-in_err-add_point.ensures.1 in λ _ _. rw (p.1, p.2) tt
+
+pub parse_closed_contents-returns-in_err-into_closed-clause-value : goal.parse_closed_contents-returns-in_err-into_closed-clause-value
+parse_closed_contents-returns-in_err-into_closed-clause-value t c = let p = err_from_is_err_and c.from_residual-in_err-into_closed.result c.from_residual-in_err-into_closed.ensures.1 in rw (p.1, p.2) tt
 
 pub parse_operand-returns-in_err-into_nested-clause-value : goal.parse_operand-returns-in_err-into_nested-clause-value
 parse_operand-returns-in_err-into_nested-clause-value t c = let p = err_from_is_err_and c.from_residual-in_err-into_nested.result c.from_residual-in_err-into_nested.ensures.1 in rw (p.1, p.2) tt

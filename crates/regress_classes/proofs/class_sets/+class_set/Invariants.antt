@@ -31,6 +31,9 @@ decreases-parse_after_first_operand l = 8 * l.around.now.nesting + 4
 abbrev pub decreases-parse_contents : goal.decreases-parse_contents
 decreases-parse_contents l = 8 * l.around.now.nesting + 5
 
+abbrev pub decreases-parse_closed_contents : goal.decreases-parse_closed_contents
+decreases-parse_closed_contents l = 8 * l.around.now.nesting + 6
+
 abbrev pub invariant-parse_parts-loop-union : goal.invariant-parse_parts-loop-union
 invariant-parse_parts-loop-union l =
     ((held : Value) → IsUnion l.fn.union held →

@@ -1,4 +1,4 @@
-use Rattle.std.proofs.Common.{List, [], length, sym, subst}
+use Rattle.std.proofs.Common.{List, [], length, refl, sym, subst}
 use Rattle.std.specs.List.{All}
 use Rattle.regress_tree.specs.Tree.{tree}
 use Rattle.regress_syntax.specs.Meaning.{setting_of}
@@ -37,6 +37,6 @@ returns-clause-comparable c = λ none maps with_u p accepted. record {
   maps = maps;
   with_u = with_u;
   proper =
-      c.first_outcome_is_the_match.ensures.proper (own_context (setting_of c.args.flags c.args.tables.now) p) p c.args.pattern.now [] accepted.derived;
+      c.first_outcome_is_the_match.ensures.proper (own_context (setting_of c.args.flags c.args.tables.now) p) refl p c.args.pattern.now [] accepted.derived;
   same = returns-clause-none c none p accepted;
 }

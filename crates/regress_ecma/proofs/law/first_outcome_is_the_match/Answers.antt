@@ -20,12 +20,12 @@ pub returns-clause-unicode : goal.returns-clause-unicode
 returns-clause-unicode c = unicode_case_data
 
 pub returns-clause-source : goal.returns-clause-source
-returns-clause-source c ctx p t rest derived comparable text is_text fuel enough index within =
-    source_outcome ctx p t rest derived comparable text is_text fuel enough index within
+returns-clause-source c ctx regress p t rest derived comparable text is_text fuel enough index within =
+    source_outcome ctx regress p t rest derived comparable text is_text fuel enough index within
 
 pub returns-clause-search : goal.returns-clause-search
-returns-clause-search c ctx p t rest derived comparable text is_text index within =
-    source_search ctx p t rest derived comparable text is_text index within
+returns-clause-search c ctx regress p t rest derived comparable text is_text index within =
+    source_search ctx regress p t rest derived comparable text is_text index within
 
 pub returns-clause-ends : goal.returns-clause-ends
-returns-clause-ends c ctx maps with_u t rest a e = node_ends ctx maps with_u t rest a e
+returns-clause-ends c = node_ends

@@ -1,5 +1,5 @@
 -- A class, without or with the flag v.
-use Rattle.std.proofs.Common.{◌<◌, ◌∙◌, inr, refl, sym, ap, subst, arith}
+use Rattle.std.proofs.Common.{Bool, ◌<◌, ◌∙◌, inr, refl, sym, ap, subst, arith}
 use Rattle.std.specs.Option.{IfSome}
 use Rattle.std.proofs.lemmas.Bool.{cond-true, cond-false}
 use Rattle.regress_lexer.specs.Source.{Found, found_map}
@@ -12,23 +12,24 @@ use Rattle.regress_classes.specs.declared.parameters.Parameters.{Parameters}
 use Rattle.regress_classes.specs.ClassProductions.{class_at}
 use Rattle.regress_classes.specs.ClassSets.{class_set_at}
 use Rattle.regress_syntax.specs.Syntax.{Atom, class, class_set, nesting_of_atom}
-use Rattle.regress_syntax.specs.Views.{names_in}
+use Rattle.regress_syntax.specs.Productions.{class_flags, compared_members}
+use Rattle.regress_syntax.specs.Views.{context_of, names_in}
 use Rattle.regress_unicode.specs.TableOf.{table_of}
 use Rattle.regress_parse.specs.TreeOf.{tree_of_atom}
 use Rattle.regress_parse.proofs.atom.read_brackets.Goals as goal
 
 pub returns-then-not-scope-clause-value : goal.returns-then-not-scope-clause-value
 returns-then-not-scope-clause-value c =
-    let flags = c.args.scope.now.flags in
+    let ctx = context_of c.args.scope.now in
     let found = c.in_ok-class.ensures.value in
-    let same = ap (λ inverted. class flags inverted found.0.1) found.2.0 in (
-      class flags found.0.0 found.0.1,
+    let atom : Bool → Atom = λ inverted. class (class_flags ctx) inverted (compared_members ctx found.0.1) in (
+      atom found.0.0,
       cond-false _ _ _ c.if-not-scope.true
-          ∙ ap (found_map (λ (inverted, members). class flags inverted members))
+          ∙ ap (found_map (λ (inverted, members). class (class_flags ctx) inverted (compared_members ctx members)))
           (ap (λ (p : Parameters). class_at (table_of c.args.scope.now.tables.now) p (source c.args.cursor.now)) (sym c.class_parameters-parameters.ensures) ∙ found.1),
       record {
         node = c.in_ok-make_class.ensures found.0.1 found.2.1 ∙ ap (tree_of_atom (table_of c.args.scope.now.tables.now)
-            (names_in c.args.scope.now.groups.now)) same;
+            (names_in c.args.scope.now.groups.now)) (ap atom found.2.0);
         nesting = omega arith;
         allows = refl;
       },

@@ -6,7 +6,7 @@ use Rattle.std.proofs.lemmas.List.Elements.{All-tail}
 use Rattle.std.specs.List.{All}
 use Rattle.regress_lexer.specs.Source.{Source, IsCodePoint}
 use Rattle.regress_lexer.specs.Views.{source}
-use Rattle.regress_syntax.specs.Productions.{number_reference_at, character_at, property_atom_at, escaped_at}
+use Rattle.regress_syntax.specs.Productions.{class_flags, number_reference_at, character_at, property_atom_at, escaped_at}
 use Rattle.regress_syntax.specs.Syntax.{literal, boundary, class_escape}
 use Rattle.regress_syntax.specs.Views.{context_of}
 use Rattle.regress_parse.specs.Parsing.{IsNode}
@@ -21,7 +21,7 @@ returns-in_ok-make_class_escape-clause-value c =
     let rest = c.in-Some.rest.now in
     let front = c.in-Some.ensures.cases.0 in
     let named = c.in-Some-class_letter in (
-      class_escape ctx.setting.flags named.kind named.negated,
+      class_escape (class_flags ctx) named.kind named.negated,
       class_read ctx t letter rest front (named.kind, named.negated) (sym c.class_letter.ensures ∙ named.is),
       record {
         node = c.in_ok-make_class_escape.ensures;

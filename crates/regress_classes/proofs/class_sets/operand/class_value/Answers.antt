@@ -1,7 +1,8 @@
-use Rattle.regress_classes.specs.ClassProductions.{class_members}
+-- The members of the class escape are closed and then complemented.
+use Rattle.std.proofs.lemmas.Result.{IfOk-weaker}
+use Rattle.regress_classes.specs.ClassProductions.{members_of}
 use Rattle.regress_classes.proofs.class_sets.operand.class_value.Goals as goal
 
 pub returns : goal.returns
 returns c =
-    c.of_set.ensures (class_members (c.args.kind, c.args.negated))
-    (record { canonical = c.set_is_canonical.ensures; each = c.in_ok-set.ensures })
+    IfOk-weaker c.point_value.result _ _ (λ held is. is (members_of c.args.kind) c.in_ok-class_escape_set.ensures) c.point_value.ensures

@@ -45,10 +45,10 @@ returns-in_ok-class_value-clause-value c =
     let letter = c.in-Some.c.now in
     let front = c.in-Some.ensures.cases.0 in
     let named : CharacterClassType × Bool = (c.in-Some-class_letter.kind, c.in-Some-class_letter.negated) in (
-      class (only (class_members named)),
+      class (only (class_members (table_of around.tables.now) around.parameters.now named)),
       class_escape_read (table_of around.tables.now) around.parameters.now around.negated (source c.args.cursor.now) letter c.in-Some.rest.now front named
           (sym c.class_letter.ensures ∙ c.in-Some-class_letter.is),
-      (only (class_members named), refl, c.in_ok-class_value.ensures),
+      (only (class_members (table_of around.tables.now) around.parameters.now named), refl, c.in_ok-class_value.ensures),
     )
 
 pub returns-then-c-from-clause-value : goal.returns-then-c-from-clause-value
@@ -69,7 +69,7 @@ returns-then-is_property_letter-clause-value c =
     let list = property_operand_read (table_of around.tables.now) around.parameters.now around.negated (source c.args.cursor.now) letter c.in-Some.rest.now front
     (sym c.is_property_letter.ensures ∙ c.if-is_property_letter.true) in
     subst (ParsesAs IsOperand (source c.read_property_operand.new.cursor) c.read_property_operand.result)
-    (ap (λ d. property_operand_at (table_of around.tables.now) around.negated (letter == d) c.in-Some.rest.now) c.from-then-is_property_letter.ensures
+    (ap (λ d. property_operand_at (table_of around.tables.now) around.parameters.now around.negated (letter == d) c.in-Some.rest.now) c.from-then-is_property_letter.ensures
     ∙ sym list)
     c.read_property_operand.ensures.value
 
