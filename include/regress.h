@@ -58,14 +58,15 @@ typedef struct regress_matches {
 
 /* Statuses. docs/c-api.md lists when each is returned, and what to do. Those of regress_front.h have the same
    numbers. */
-#define REGRESS_OK 0u           /* success: the result is written */
-#define REGRESS_NO_MATCH 1u     /* the text has no match, or no further one */
-#define REGRESS_MEMORY 2u       /* an allocation failed; the same call may succeed later */
-#define REGRESS_ROOM 3u         /* the buffer is too small and unchanged: `needed` is the size that it has to have */
-#define REGRESS_BAD_INPUT 4u    /* invalid arguments: invalid UTF-8, an unknown bit, a NULL pointer, a zero handle */
-#define REGRESS_SYNTAX 5u       /* the pattern is rejected: a syntax error */
-#define REGRESS_TOO_LARGE 6u    /* the pattern may have more nodes than allowed, or too many instructions */
-#define REGRESS_OUT_OF_STEPS 7u /* the search takes more steps than allowed */
+#define REGRESS_OK 0u              /* success: the result is written */
+#define REGRESS_NO_MATCH 1u        /* the text has no match, or no further one */
+#define REGRESS_MEMORY 2u          /* an allocation failed; the same call may succeed later */
+#define REGRESS_ROOM 3u            /* the buffer is too small and unchanged: `needed` is the size that it has to have */
+#define REGRESS_BAD_INPUT 4u       /* invalid arguments: invalid UTF-8, an unknown bit, a NULL pointer, a zero handle */
+#define REGRESS_SYNTAX 5u          /* the pattern is rejected: a syntax error */
+#define REGRESS_TOO_LARGE 6u       /* the pattern may have more nodes than allowed, or too many instructions */
+#define REGRESS_OUT_OF_STEPS 7u    /* the search takes more steps than allowed */
+#define REGRESS_TOO_MUCH_MEMORY 8u /* the search needs more memory than allowed */
 
 /* Flags of a pattern, independent of each other: the flag v of JavaScript is UNICODE and UNICODE_SETS together. */
 #define REGRESS_ICASE 1u         /* i */
@@ -77,19 +78,22 @@ typedef struct regress_matches {
    properties; letters in names are those of ASCII and from U+00C0 to U+00F6. */
 #define REGRESS_SMALL_TABLE 32u
 
-/* The limits of a compiled pattern; 0 is the default of each, so {0, 0, 0, 0} are the default limits.
+/* The limits of a compiled pattern; 0 is the default of each, so {0} are the default limits.
 
    - steps: the steps of a search that is not linear, by default a billion, about a minute at most.
    - nodes: the nodes of the tree of the pattern, as regress_front_node_bound_utf8 bounds them, by default a million.
    - instructions: those of its program, where the body of a loop {n,m} counts m times, or if it is one character, about
      m / 64 times; by default 250,000.
    - linear_instructions: the number of instructions up to which a search may be linear, by default a thousand. It takes
-     up to two bits of memory for each instruction and byte of the text. */
+     up to two bits of memory for each instruction and byte of the text.
+   - memory: the bytes that the tables of one search may take, by default 256 MiB: a quarter of a byte for each
+     instruction, and 8 bytes, for each byte of the text, and once more. */
 typedef struct regress_limits {
     uint64_t steps;
     size_t nodes;
     size_t instructions;
     size_t linear_instructions;
+    size_t memory;
 } regress_limits;
 
 /* What a group without a capture has as its start and its end. */
@@ -178,7 +182,7 @@ uint32_t regress_abi_version(void);
 REGRESS_INLINE uint32_t regress_compile(const uint8_t *pattern, size_t length, uint32_t flags,
                                         const regress_limits *limits, regress_regex *handle, uint32_t *kind,
                                         size_t *position) {
-    const regress_limits defaults = {0, 0, 0, 0};
+    const regress_limits defaults = {0, 0, 0, 0, 0};
     uint32_t no_kind = 0;
     size_t no_position = 0;
     uint8_t no_byte = 0;
@@ -262,10 +266,10 @@ REGRESS_INLINE uint64_t regress_find_steps_per_byte(const regress_regex *handle)
    What precedes `from` is text too: ^ does not match there, and a lookbehind may match it. `from` may be off a
    character boundary; past the end of the text there is no match.
 
-   Returns OK, NO_MATCH, ROOM, OUT_OF_STEPS, MEMORY or BAD_INPUT. With OK `spans`, a buffer of `room` numbers, begins
-   with the start and the end of the match, and then those of each group in the order of the opening parentheses: byte
-   offsets, or REGRESS_UNSET twice for a group that is unset. `needed` is the number of these, 2 for the match and for
-   each group, with OK and ROOM, else 0: 2 * (regress_group_count + 1). */
+   Returns OK, NO_MATCH, ROOM, OUT_OF_STEPS, TOO_MUCH_MEMORY, MEMORY or BAD_INPUT. With OK `spans`, a buffer of `room`
+   numbers, begins with the start and the end of the match, and then those of each group in the order of the opening
+   parentheses: byte offsets, or REGRESS_UNSET twice for a group that is unset. `needed` is the number of these, 2 for
+   the match and for each group, with OK and ROOM, else 0: 2 * (regress_group_count + 1). */
 REGRESS_INLINE uint32_t regress_find(const regress_regex *handle, const uint8_t *text, size_t length, size_t from,
                                      size_t *spans, size_t room, size_t *needed) {
     regress_regex own;
@@ -284,9 +288,9 @@ REGRESS_INLINE uint32_t regress_find(const regress_regex *handle, const uint8_t 
    match. The step limit is for all of them together. Prefer it to calls of regress_find in a loop, each of which decodes
    the whole text.
 
-   Returns OK, ROOM, OUT_OF_STEPS, MEMORY or BAD_INPUT. With OK `spans` begins with the numbers of each match, as
-   regress_find writes them, one match after the other. `needed` is their number with OK and ROOM, else 0; it is 0 if
-   there is no match. */
+   Returns OK, ROOM, OUT_OF_STEPS, TOO_MUCH_MEMORY, MEMORY or BAD_INPUT. With OK `spans` begins with the numbers of each
+   match, as regress_find writes them, one match after the other. `needed` is their number with OK and ROOM, else 0; it
+   is 0 if there is no match. */
 REGRESS_INLINE uint32_t regress_find_all(const regress_regex *handle, const uint8_t *text, size_t length, size_t from,
                                          size_t *spans, size_t room, size_t *needed) {
     regress_regex own;
@@ -304,8 +308,8 @@ REGRESS_INLINE uint32_t regress_find_all(const regress_regex *handle, const uint
    from: no buffer is sized in advance, and nothing is searched twice. What `matches` had before is not freed. It needs
    neither the handle nor the text any more.
 
-   Returns OK, OUT_OF_STEPS, MEMORY or BAD_INPUT. With OK `matches` is written, also if there is no match, and has to be
-   freed by regress_matches_free; else it is unchanged. */
+   Returns OK, OUT_OF_STEPS, TOO_MUCH_MEMORY, MEMORY or BAD_INPUT. With OK `matches` is written, also if there is no
+   match, and has to be freed by regress_matches_free; else it is unchanged. */
 REGRESS_INLINE uint32_t regress_matches_new(const regress_regex *handle, const uint8_t *text, size_t length,
                                             size_t from, regress_matches *matches) {
     regress_regex own;
@@ -347,7 +351,8 @@ REGRESS_INLINE void regress_matches_free(regress_matches *matches) {
     }
 }
 
-/* Returns whether the pattern matches somewhere in the text: OK or NO_MATCH; or OUT_OF_STEPS, MEMORY or BAD_INPUT. */
+/* Returns whether the pattern matches somewhere in the text: OK or NO_MATCH; or OUT_OF_STEPS, TOO_MUCH_MEMORY, MEMORY or
+   BAD_INPUT. */
 REGRESS_INLINE uint32_t regress_is_match(const regress_regex *handle, const uint8_t *text, size_t length) {
     regress_regex own;
     uint8_t no_byte = 0;
@@ -365,8 +370,8 @@ REGRESS_INLINE uint32_t regress_is_match(const regress_regex *handle, const uint
    $' the text after it, $1 to $99 the capture of a group, and $<name> that of the group with this name. An unset group
    is empty. Everything else is taken as it is, and no template is rejected.
 
-   Returns OK, ROOM, OUT_OF_STEPS, MEMORY or BAD_INPUT: the last if the text or the template is not UTF-8. `needed` is
-   the length of the result in bytes with OK and ROOM, else 0. */
+   Returns OK, ROOM, OUT_OF_STEPS, TOO_MUCH_MEMORY, MEMORY or BAD_INPUT: the last if the text or the template is not
+   UTF-8. `needed` is the length of the result in bytes with OK and ROOM, else 0. */
 REGRESS_INLINE uint32_t regress_replace(const regress_regex *handle, const uint8_t *text, size_t length,
                                         const uint8_t *replacement, size_t replacement_length, uint8_t *out,
                                         size_t room, size_t *needed) {

@@ -52,8 +52,8 @@ static size_t spans[ROOM + 1];
 static size_t needed, position;
 static uint32_t kind;
 
-static const regress_limits default_limits = {0, 0, 0, 0};
-static const regress_limits one_step = {1, 0, 0, 0};
+static const regress_limits default_limits = {0, 0, 0, 0, 0};
+static const regress_limits one_step = {1, 0, 0, 0, 0};
 
 static uint32_t compiled_within(const regress_limits *limits, const char *pattern, regress_regex *regex) {
     return regress_compile((const uint8_t *)pattern, strlen(pattern), SMALL, limits, regex, &kind, &position);
@@ -514,7 +514,8 @@ static void errors(void) {
 
 static void limits(void) {
     regress_regex regex;
-    regress_limits nodes = {0, 5, 0, 0}, instructions = {0, 0, 5, 0}, tables = {1, 0, 0, 1};
+    regress_limits nodes = {0, 5, 0, 0, 0}, instructions = {0, 0, 5, 0, 0}, tables = {1, 0, 0, 1, 0},
+                   memory = {0, 0, 0, 0, 100};
     CHECK(compiled_within(&nodes, "ab", &regex) == REGRESS_OK);
     regress_free(&regex);
     CHECK(compiled_within(&nodes, "abc", &regex) == REGRESS_TOO_LARGE);
@@ -531,6 +532,17 @@ static void limits(void) {
     CHECK(regress_find_steps_per_byte(&regex) == 0);
     CHECK(regress_nonlinear(&regex) == REGRESS_NONLINEAR_TOO_MANY_INSTRUCTIONS);
     CHECK(found(&regex, "aaaaaaaaaaaaaaaaaaaaaaaaaaaaaaaa", 0, ROOM) == REGRESS_OUT_OF_STEPS);
+    regress_free(&regex);
+    /* tables that are too large are not made */
+    CHECK(compiled_within(&memory, "(a*)*b", &regex) == REGRESS_OK);
+    CHECK(found(&regex, "aab", 0, ROOM) == REGRESS_OK && ARE(0, 3, 0, 2));
+    CHECK(found(&regex, "aaaaaaaaaaaaaaaaaaaaaaaaaaaaaaaa", 0, ROOM) == REGRESS_TOO_MUCH_MEMORY && needed == 0
+          && spans[0] == MARK);
+    CHECK(found_all(&regex, "aaaaaaaaaaaaaaaaaaaaaaaaaaaaaaaa", ROOM) == REGRESS_TOO_MUCH_MEMORY);
+    regress_free(&regex);
+    memory.memory = 1000;
+    CHECK(compiled_within(&memory, "(a*)*b", &regex) == REGRESS_OK);
+    CHECK(found(&regex, "aaaaaaaaaaaaaaaaaaaaaaaaaaaaaaaa", 0, ROOM) == REGRESS_NO_MATCH);
     regress_free(&regex);
     CHECK(compiled("(a*)*b", SMALL, &regex) == REGRESS_OK);
     CHECK(regress_is_linear(&regex) == 1 && regress_steps_per_byte(&regex) > 0);

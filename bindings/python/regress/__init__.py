@@ -35,7 +35,8 @@ a str or bytes of a bytes. A lone surrogate in a str, or bytes that are not UTF-
 A search takes linear time, unless the pattern has a back reference or more than a thousand instructions, or a group in
 a lookaround that is not negated, for a search for all matches (Pattern.nonlinear, Pattern.is_find_linear). Then it
 backtracks within a limit of steps, so that it also ends for untrusted patterns and texts: at the limit it raises the
-exception error of the kind 'OutOfSteps'. Ctrl-C takes effect when the search has ended. Any number of threads may use
+exception error of the kind 'OutOfSteps'. Its tables take at most 256 MiB: a search that needs more raises error of the
+kind 'TooMuchMemory'. Ctrl-C takes effect when the search has ended. Any number of threads may use
 a pattern at the same time, and other threads run while a long text is searched.
 
 The module calls the library in its folder by the extension module _regress, or without that by ctypes; or by ctypes the
@@ -57,7 +58,7 @@ __all__ = ['compile', 'search', 'match', 'fullmatch', 'finditer', 'findall', 'su
            'MULTILINE', 'S', 'DOTALL', 'U', 'UNICODE', 'V', 'SETS']
 __version__ = '0.1.0'
 
-_OK, _NO_MATCH, _MEMORY, _ROOM, _BAD_INPUT, _SYNTAX, _TOO_LARGE, _OUT_OF_STEPS = range(8)
+_OK, _NO_MATCH, _MEMORY, _ROOM, _BAD_INPUT, _SYNTAX, _TOO_LARGE, _OUT_OF_STEPS, _TOO_MUCH_MEMORY = range(9)
 _ABI_VERSION = 4
 
 # Why searches are not linear, by the numbers of the library.
@@ -98,15 +99,16 @@ _KINDS = (
 
 
 class error(Exception):
-    """Raised if a pattern or its flags are rejected, if a search takes too many steps, or if a text is not Unicode.
+    """Raised if a pattern or its flags are rejected, if a search takes too many steps or too much memory, or if a text is
+    not Unicode.
 
     Attributes:
         msg: what is wrong
         pattern: the pattern
         pos: the position of a syntax error in the pattern, else None
         kind: the kind of the syntax error, such as 'UnbalancedParenthesis' (docs/errors.md lists them); or 'Flags',
-            'TooLarge' if the pattern needs more nodes than allowed, or its program more instructions; 'OutOfSteps'; or
-            'Unicode' for a lone surrogate, and for bytes that are not UTF-8
+            'TooLarge' if the pattern needs more nodes than allowed, or its program more instructions; 'OutOfSteps';
+            'TooMuchMemory'; or 'Unicode' for a lone surrogate, and for bytes that are not UTF-8
     """
 
     def __init__(self, msg, pattern=None, pos=None, kind=None):
@@ -117,7 +119,7 @@ class error(Exception):
         self.kind = kind
 
 
-def compile(pattern, flags='', *, steps=None, nodes=None, instructions=None, linear_instructions=None):
+def compile(pattern, flags='', *, steps=None, nodes=None, instructions=None, linear_instructions=None, memory=None):
     """Compiles a pattern to a Pattern.
 
     flags are JavaScript's letters, or constants such as I. A Pattern is returned as it is, if no flags are given. The
@@ -131,6 +133,8 @@ def compile(pattern, flags='', *, steps=None, nodes=None, instructions=None, lin
         linear_instructions
                       the instructions up to which a search may take linear time; a thousand by default. It takes up to
                       two bits of memory for each instruction and byte of the text
+        memory        the bytes that the tables of one search may take, 256 MiB by default: a quarter of a byte for each
+                      instruction, and 8 bytes, for each byte of the text in UTF-8, and once more
 
     Raises error if the pattern or the flags are rejected.
     """
@@ -138,7 +142,7 @@ def compile(pattern, flags='', *, steps=None, nodes=None, instructions=None, lin
         if flags:
             raise ValueError('flags are not allowed with a compiled pattern')
         return pattern
-    return Pattern(pattern, flags, steps, nodes, instructions, linear_instructions)
+    return Pattern(pattern, flags, steps, nodes, instructions, linear_instructions, memory)
 
 
 # The patterns of the calls below.
@@ -290,10 +294,11 @@ class Pattern:
         groupindex: a dict from the names of groups to their numbers; if groups share a name, that of the first
     """
 
-    def __init__(self, pattern, flags='', steps=None, nodes=None, instructions=None, linear_instructions=None):
+    def __init__(self, pattern, flags='', steps=None, nodes=None, instructions=None, linear_instructions=None,
+                 memory=None):
         self.pattern = _pattern_text(pattern)
         self.flags = _letters(flags, self.pattern)
-        self._limits = (steps, nodes, instructions, linear_instructions)
+        self._limits = (steps, nodes, instructions, linear_instructions, memory)
         self._program = program = _Program(_utf8(self.pattern), _bits(self.flags), self._limits, self.pattern)
         # The call of fullmatch, after the first.
         self._full = None
@@ -594,7 +599,7 @@ class _Limits(ctypes.Structure):
     """The regress_limits of regress.h. 0 is the default of each."""
 
     _fields_ = [('steps', ctypes.c_uint64), ('nodes', ctypes.c_size_t), ('instructions', ctypes.c_size_t),
-                ('linear_instructions', ctypes.c_size_t)]
+                ('linear_instructions', ctypes.c_size_t), ('memory', ctypes.c_size_t)]
 
 
 class _Difference(ctypes.Structure):
@@ -656,6 +661,9 @@ class _Program:
             return error('the pattern is too large', self._source, kind='TooLarge')
         if status == _OUT_OF_STEPS:
             return error('the search takes too many steps', self._source, kind='OutOfSteps')
+        if status == _TOO_MUCH_MEMORY:
+            return error('the search needs more memory than the option memory allows', self._source,
+                         kind='TooMuchMemory')
         if status == _BAD_INPUT and isinstance(self._source, bytes):
             return error('the text is not UTF-8', self._source, kind='Unicode')
         return _failure(status)

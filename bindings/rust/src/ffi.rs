@@ -12,6 +12,7 @@ pub(crate) const BAD_INPUT: u32 = 4;
 pub(crate) const SYNTAX: u32 = 5;
 pub(crate) const TOO_LARGE: u32 = 6;
 pub(crate) const OUT_OF_STEPS: u32 = 7;
+pub(crate) const TOO_MUCH_MEMORY: u32 = 8;
 
 /// What an unset group has as its start and its end.
 pub(crate) const UNSET: usize = usize::MAX;
@@ -38,6 +39,7 @@ pub(crate) struct Limits {
     pub(crate) nodes: usize,
     pub(crate) instructions: usize,
     pub(crate) linear_instructions: usize,
+    pub(crate) memory: usize,
 }
 
 /// A `regress_difference` of the library.

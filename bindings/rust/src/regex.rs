@@ -88,6 +88,9 @@ pub struct Options {
     /// The number of instructions up to which a search may be linear. By default a thousand. It takes up to two bits of
     /// memory for each instruction and byte of the text.
     pub linear_instructions: usize,
+    /// The memory in bytes that the tables of one search may take: a quarter of a byte for each instruction, and 8
+    /// bytes, for each byte of the text, and once more. By default 256 MiB.
+    pub memory: usize,
     pub table: Table,
 }
 
@@ -98,6 +101,7 @@ impl Default for Options {
             nodes: 1_000_000,
             instructions: 250_000,
             linear_instructions: 1_000,
+            memory: 256 << 20,
             table: Table::Whole,
         }
     }
@@ -136,6 +140,7 @@ impl Regex {
             nodes: options.nodes,
             instructions: options.instructions,
             linear_instructions: options.linear_instructions,
+            memory: options.memory,
         };
         let bits = bits(flags, options.table);
         let handle = ffi::compile(pattern, bits, &limits)
@@ -187,6 +192,7 @@ impl Regex {
     ///
     /// # Errors
     /// - [`SearchError::OutOfSteps`] if the search takes more steps than [`Options`] allow.
+    /// - [`SearchError::TooMuchMemory`] if it needs more memory than [`Options::memory`] allows.
     /// - [`SearchError::Memory`] if the library is out of memory.
     pub fn find_at<'t>(
         &self,

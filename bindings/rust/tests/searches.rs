@@ -437,6 +437,19 @@ fn linear_searches_have_no_step_limit() {
     assert!(!regex.is_linear());
     assert_eq!(regex.steps_per_byte(), None);
     assert_eq!(regex.is_match(&text), Err(SearchError::OutOfSteps));
+    let memory = Options {
+        memory: 1000,
+        ..Options::default()
+    };
+    let regex = within("(a*)*b", memory).unwrap();
+    assert_eq!(regex.is_match("aab"), Ok(true));
+    assert_eq!(regex.is_match(&text), Err(SearchError::TooMuchMemory));
+    assert_eq!(
+        regex.find_all(&text).unwrap_err(),
+        SearchError::TooMuchMemory
+    );
+    let linear = LinearRegex::with_options("(a*)*b", Flags::default(), memory).unwrap();
+    assert!(!linear.is_match(&text));
     let regex = Regex::new(r"(a)\1").unwrap();
     assert!(!regex.is_linear() && !regex.is_find_linear());
     assert_eq!(regex.find_steps_per_byte(), None);

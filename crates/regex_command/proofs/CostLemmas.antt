@@ -19,6 +19,7 @@ module _ (r : Regex) (text : List ℕ) where
   costly_find setting source own errors.Memory linear costs = tt
   costly_find setting source own errors.OutOfSteps linear costs =
       (r, own, record { linear = linear refl; text = text; costs = inr (costs refl) })
+  costly_find setting source own errors.TooMuchMemory linear costs = tt
 
 -- an accepted pattern
 pub found_large : (setting : Setting) (source : List ℕ) → IsAcceptedPattern setting (chars source) → (failure : Failure) → IsRejected setting source failure →

@@ -13,6 +13,7 @@ module _ (r : Regex) (text : List ℕ) where
       IsSearchError (IsCostly r) error
   costly_error errors.Memory linear costs = tt
   costly_error errors.OutOfSteps linear costs = record { linear = linear refl; text = text; costs = inr (costs refl) }
+  costly_error errors.TooMuchMemory linear costs = tt
 
   pub costly_all : {X : Type 0} (result : Result X SearchError) → IfErr result (λ error. error ≡ errors.OutOfSteps → factor_of r ≡ None) →
       IfErr result (λ error. error ≡ errors.OutOfSteps → AllCostLimit r text 0) → IfErr result (IsSearchError (IsCostly r))
@@ -25,7 +26,9 @@ module _ (r : Regex) (text : List ℕ) where
   costly_one (Ok x) linear costs = tt
   costly_one (Err errors.Memory) linear costs = tt
   costly_one (Err errors.OutOfSteps) linear costs = record { linear = linear refl; text = text; costs = inl (costs refl) }
+  costly_one (Err errors.TooMuchMemory) linear costs = tt
 
 pub searched : (costly : Type 0) (error : SearchError) → IsSearchError costly error → IsSearchFailure costly (search_failure error)
 searched costly errors.Memory h = tt
 searched costly errors.OutOfSteps h = h
+searched costly errors.TooMuchMemory h = tt

@@ -46,11 +46,13 @@ IsCostlyPattern setting text = (r : Regex) × IsOwn setting text r × IsCostly r
 abbrev pub search_failure : SearchError → Failure
 search_failure errors.Memory = Memory
 search_failure errors.OutOfSteps = OutOfSteps
+search_failure errors.TooMuchMemory = Memory
 
--- A search may be out of memory, and out of steps if the pattern is costly.
+-- A search may be out of memory or need too much, and be out of steps if the pattern is costly.
 abbrev pub IsSearchError : (costly : Type 0) → SearchError → Type 0
 IsSearchError costly errors.Memory = ⊤
 IsSearchError costly errors.OutOfSteps = costly
+IsSearchError costly errors.TooMuchMemory = ⊤
 
 -- A failure that may occur while inputs are searched: the search may be out of steps if the pattern is costly.
 abbrev pub IsSearchFailure : (costly : Type 0) → Failure → Type 0

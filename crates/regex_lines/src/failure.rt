@@ -75,6 +75,7 @@ impl<'a> From<SearchError> for Failure<'a> {
         match error {
             SearchError::Memory => Failure::Memory,
             SearchError::OutOfSteps => Failure::OutOfSteps,
+            SearchError::TooMuchMemory => Failure::Memory,
         }
     }
 }

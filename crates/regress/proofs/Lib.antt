@@ -1,6 +1,7 @@
 pub mod lemmas
 mod CompiledLemmas
 mod EcmaLemmas
+mod FaultLemmas
 mod FoundLemmas
 mod LettersLemmas
 mod ReplacedLemmas

@@ -1,6 +1,6 @@
 -- A loop that replaces matches by what a closure returns.
 use Rattle.std.proofs.Common.{◌≡◌, ◌∙◌, ℕ, ◌+◌, ◌<◌, ◌≤◌, List, [], ◌∷◌, ◌++◌, All, take, drop, get_or, length, map, slice_range, string_bytes, refl, sym, ap, subst, append_assoc, append-nil}
-use Rattle.std.specs.Prelude.{Result, Ok, String}
+use Rattle.std.specs.Prelude.{Result, Ok, Err, String}
 use Rattle.std.specs.Borrow.{Bor}
 use Rattle.std.specs.declared.alloc.Global.{Global}
 use Rattle.std.specs.Fn.{CalledAt, Mut}
@@ -13,7 +13,7 @@ use Rattle.regress_replace.specs.Expansion.{end_of}
 use Rattle.regress_replace.specs.Replaced.{joined, split_pieces}
 use Rattle.regress_replace.proofs.lemmas.Order.{IsBefore, before_first, before_next, next_match}
 use Rattle.regress.specs.Compiled.{match_of}
-use Rattle.regress.specs.Replaced.{IsReplacedBy}
+use Rattle.regress.specs.Replaced.{HasReturned, IsReplacedBy}
 use Rattle.regress.specs.declared.failure.SearchError.{SearchError}
 use Rattle.regress.specs.declared.found.Match.{Match}
 
@@ -73,6 +73,17 @@ module _ {F : Type 0} (g : Mut F (Bor Match × Unit {0}) (Result (String Global)
               (sym (append_assoc (map (λ c. string_bytes c.1) sofar.calls) (string_bytes w ∷ []) more)
               ∙ ap (λ zs. zs ++ more) (sym (map-append (λ c. string_bytes c.1) sofar.calls ((m, w) ∷ []))));
         }
+
+    -- the next call returned an error
+    pub has_returned : (m : Match) (error : SearchError) (after : F) → CalledAt g now m (Err error) after → HasReturned g before error
+    has_returned m error after call = record {
+      calls = sofar.calls;
+      before = now;
+      called = sofar.called;
+      last = m;
+      after = after;
+      returned = call;
+    }
 
     -- all matches are replaced, and the rest of the text follows
     pub all_replaced : length ms ≤ i → IsReplacedBy g before text ms (done ++ drop from text)

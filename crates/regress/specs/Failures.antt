@@ -1,10 +1,12 @@
--- Why a pattern was not compiled.
+-- Why a pattern was not compiled, and why a search has no memory.
 use Rattle.std.specs.Prelude.{◌⊎◌, ℕ, ◌<◌, List, string_bytes}
 use Rattle.regress_front.specs.Bound.{node_bound}
 use Rattle.regress_front.specs.Steps.{Setting}
 use Rattle.regress_front.specs.Source.{Source}
 use Rattle.regress_front.specs.declared.parse.PlacedFault.{PlacedFault}
 use Rattle.regress_front.specs.declared.parse.PlacedFault.TheVariants as fault
+use Rattle.regress_found.specs.declared.fault.MemoryFault.{MemoryFault}
+use Rattle.regress_found.specs.declared.fault.MemoryFault.TheVariants as memory_fault
 use Rattle.regress_front.specs.Tree.{Tree}
 use Rattle.regress_front.specs.Settled.{IsSyntaxError}
 use Rattle.regress_program.specs.Size.{program_size}
@@ -16,6 +18,8 @@ use Rattle.regress.specs.Letters.{AreFlags, flags_of}
 use Rattle.regress.specs.Limits.{default_options}
 use Rattle.regress.specs.declared.failure.Error.{Error}
 use Rattle.regress.specs.declared.failure.Error.TheVariants.{Flags, Syntax, TooLarge, Memory}
+use Rattle.regress.specs.declared.failure.SearchError.{SearchError}
+use Rattle.regress.specs.declared.failure.SearchError.TheVariants as search_error
 use Rattle.regress.specs.declared.limits.Options.{Options}
 
 -- an error of the parser as an error of `Regex`
@@ -27,6 +31,11 @@ error_of (fault.Memory e) = Memory
 abbrev pub compile_error_of : CompileFault → Error
 compile_error_of (compile_fault.Memory e) = Memory
 compile_error_of compile_fault.TooLong = TooLarge
+
+-- a search that has not the memory that it needs, as an error of `Regex`
+abbrev pub search_error_of : MemoryFault → SearchError
+search_error_of memory_fault.Memory = search_error.Memory
+search_error_of memory_fault.TooMuchMemory = search_error.TooMuchMemory
 
 -- The program of an accepted pattern, by its tree, has more instructions than the limit.
 pub record IsTooLong (setting : Setting) (source : Source) (limit : ℕ) : Type 0 where

@@ -7,15 +7,18 @@ use Rattle.regress_match.specs.Matcher.{IsFactorOf, IsFindFactorOf, IsNonlinearO
 use Rattle.regress_program.specs.Size.{program_size}
 use Rattle.regress.specs.Compiled.{tree_of}
 use Rattle.regress.specs.Costs.{factor_of, find_factor_of, limit_of, nonlinear_of}
+use Rattle.regress.specs.Memory.{instructions_of, memory_of}
 use Rattle.regress.specs.declared.limits.Options.{Options}
 use Rattle.regress.specs.declared.pattern.Regex.{Regex}
 
 -- A regular expression that was compiled with these options: its tree and its program are within them, its searches have
--- their step limit, and are linear exactly within their limit on tables.
+-- their limits of steps and of memory, and are linear exactly within their limit on tables.
 pub record Keeps (options : Options) (flags : Flags) (source : Source) (r : Regex) : Type 0 where
   pub small : options.nodes < 2 ^ 64 - 1 → HasAtMost flags source options.nodes
   pub within : program_size (tree_of r) ≤ options.instructions
   pub limit : limit_of r ≡ options.steps
+  pub memory : memory_of r ≡ options.memory
+  pub instructions : instructions_of r ≡ program_size (tree_of r)
   pub linear : IsFactorOf options.linear_instructions (tree_of r) (factor_of r)
   pub find_linear : IsFindFactorOf options.linear_instructions (tree_of r) (find_factor_of r)
   pub find_linear_tree : is_some (find_factor_of r) ≡ is_find_linear_tree options.linear_instructions (tree_of r)

@@ -6,6 +6,7 @@ pub mod Inside
 pub mod Kept
 pub mod Letters
 pub mod Limits
+pub mod Memory
 pub mod Replaced
 pub mod Required
 pub mod Searched

@@ -9,11 +9,12 @@ use Rattle.regress_match.specs.Pattern.{capture_of}
 use Rattle.regress_match.specs.Costs.{IsWithinFindCost}
 use Rattle.regress_match.specs.Iterated.{HasCounted, iterated_from, iterated_matcher, iterated_outcomes, iterated_text, step_limit, steps_remaining, steps_taken}
 use Rattle.regress_match.specs.Matcher.{factor_of}
+use Rattle.regress_match.specs.Memory.{TablesNeedMore}
 use Rattle.regress_match.specs.declared.matcher.Matcher.{Matcher}
 use Rattle.regress_found.specs.Repeated.{next_offset}
 use Rattle.regress.specs.Compiled.{groups_in, match_of}
 use Rattle.regress.specs.declared.failure.SearchError.{SearchError}
-use Rattle.regress.specs.declared.failure.SearchError.TheVariants.{OutOfSteps}
+use Rattle.regress.specs.declared.failure.SearchError.TheVariants.{OutOfSteps, TooMuchMemory}
 use Rattle.regress.specs.declared.found.Match.{Match}
 use Rattle.regress.specs.declared.search.Matches.{Matches}
 
@@ -91,11 +92,17 @@ pub record IsTooCostly (m : Matches) : Type 0 where
   pub linear : searched_factor m ≡ None
   pub costs : IsWithinFindCost (searched_matcher m) (searched_text m) (next_from m) (search_remaining m)
 
+-- An error of the search for the next match is due: it may be out of steps, or the tables of the text take more memory than
+-- they may. Out of memory it states nothing.
+pub record IsDue (m : Matches) (error : SearchError) : Type 0 where
+  pub steps : error ≡ OutOfSteps → IsTooCostly m
+  pub memory : error ≡ TooMuchMemory → TablesNeedMore (searched_matcher m) (searched_text m)
+
 -- What a search for the next match returns. An error leaves it where it was.
 abbrev pub Returns : Matches → Result (Option Match) SearchError → Matches → Type 0
 Returns old (Ok (Some m)) new = IsNext old m new
 Returns old (Ok None) new = IsOver old
-Returns old (Err e) new = (next_from new ≡ next_from old) × (e ≡ OutOfSteps → IsTooCostly old)
+Returns old (Err e) new = (next_from new ≡ next_from old) × IsDue old e
 
 pub record Proceeds (old : Matches) (r : Result (Option Match) SearchError) (new : Matches) : Type 0 where
   pub same : IsSameSearch old new
@@ -106,7 +113,7 @@ pub record Proceeds (old : Matches) (r : Result (Option Match) SearchError) (new
 -- was no error before.
 abbrev pub Yields : Matches → Option (Result Match SearchError) → Matches → Type 0
 Yields old (Some (Ok m)) new = IsNext old m new × (has_failed new ≡ false)
-Yields old (Some (Err e)) new = (has_failed new ≡ true) × (e ≡ OutOfSteps → IsTooCostly old)
+Yields old (Some (Err e)) new = (has_failed new ≡ true) × IsDue old e
 Yields old None new = has_failed old ≡ false → IsOver old
 
 -- A call of the iterator. After an error it returns nothing more.

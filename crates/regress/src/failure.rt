@@ -1,6 +1,6 @@
 //! Errors of compiling and of searching.
 ghost use Rattle.std.specs.Prelude.{◌≡◌};
-ghost use Rattle.regress.specs.Failures.{compile_error_of, error_of};
+ghost use Rattle.regress.specs.Failures.{compile_error_of, error_of, search_error_of};
 ghost use Rattle.regress.specs.declared.failure.Error.TheVariants.{Flags, Memory};
 ghost use Rattle.regress.specs.declared.failure.SearchError.TheVariants.{Memory as SearchMemory};
 
@@ -97,14 +97,19 @@ pub enum SearchError {
     /// The search takes more steps than [`Options`](crate::Options) allow.
     #[error("the search takes too many steps")]
     OutOfSteps,
+    /// The search needs tables that take more memory than `memory` of [`Options`](crate::Options) allows.
+    #[error("the search needs more memory than the option memory allows")]
+    TooMuchMemory,
 }
 
-/// The searches of a `Regex` have no limit of memory, so they need too much only where no memory could hold it.
 impl From<MemoryFault> for SearchError {
-    ghost from_gives = { λ _ error. error ≡ SearchMemory };
+    ghost from_gives = { λ fault error. error ≡ search_error_of fault };
 
-    fn from(_: MemoryFault) -> SearchError {
-        SearchError::Memory
+    fn from(fault: MemoryFault) -> SearchError {
+        match fault {
+            MemoryFault::Memory => SearchError::Memory,
+            MemoryFault::TooMuchMemory => SearchError::TooMuchMemory,
+        }
     }
 }
 

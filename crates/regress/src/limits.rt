@@ -1,4 +1,5 @@
 //! Limits for untrusted patterns and texts.
+use regress_match::Limits;
 
 /// The limits of a regular expression.
 #[derive(Clone, Copy, Debug, PartialEq, Eq)]
@@ -17,6 +18,10 @@ pub struct Options {
     /// needs take up to two bits for each instruction and byte of the text. A thousand by default, so at most 250 times
     /// the length of the text.
     pub linear_instructions: usize,
+    /// The memory in bytes that the tables of one search may take: a quarter of a byte for each instruction, and 8 bytes,
+    /// for each byte of the text, and once more. A search that needs larger tables ends with
+    /// [`SearchError::TooMuchMemory`](crate::SearchError::TooMuchMemory). 256 MiB by default.
+    pub memory: usize,
 }
 
 impl Default for Options {
@@ -31,6 +36,7 @@ impl Default for Options {
             nodes: 1_000_000,
             instructions: 250_000,
             linear_instructions: 1_000,
+            memory: Limits::default().memory,
         }
     }
 }

@@ -65,6 +65,7 @@ impl Regex {
     ghost use Rattle.regress_replace.specs.Order.{AreInOrder};
     ghost use Rattle.regress.specs.Costs.{AllCostLimit, CostsLimit, factor_of, find_factor_of, limit_of, matcher_of, nonlinear_of};
     ghost use Rattle.regress.specs.Kept.{Keeps};
+    ghost use Rattle.regress.specs.Memory.{TablesNeedMore, instructions_of, memory_of};
     ghost use Rattle.regress.specs.Compiled.{IsCompiled, IsCompiledFrom, groups_of, outcomes_of, setting_of, source_of, tree_of, groups_in, match_of};
     ghost use Rattle.regress.specs.Unicode.{unicode_setting};
     ghost use Rattle.regress.specs.Source.{text_of};
@@ -74,7 +75,7 @@ impl Regex {
     ghost use Rattle.regress.specs.Letters.{AreFlags, flags_of, no_flags};
     ghost use Rattle.regress.specs.Limits.{default_options};
     ghost use Rattle.regress.specs.Required.{RequiresLiteral};
-    ghost use Rattle.regress.specs.declared.failure.SearchError.TheVariants.{OutOfSteps};
+    ghost use Rattle.regress.specs.declared.failure.SearchError.TheVariants.{OutOfSteps, TooMuchMemory};
 
     /// Compiles a pattern without flags, under the table of all of Unicode, within the default [`Options`].
     ///
@@ -140,6 +141,8 @@ impl Regex {
         ensures small { IfOk result (λ _. options.nodes < usize.MAX → HasAtMost flags (chars pattern.now) options.nodes) }
         ensures within { IfOk result (λ regex. program_size (tree_of regex) ≤ options.instructions) }
         ensures limit { IfOk result (λ regex. limit_of regex ≡ options.steps) }
+        ensures memory { IfOk result (λ regex. memory_of regex ≡ options.memory) }
+        ensures instructions { IfOk result (λ regex. instructions_of regex ≡ program_size (tree_of regex)) }
         ensures linear { IfOk result (λ regex. IsFactorOf options.linear_instructions (tree_of regex) (factor_of regex)) }
         ensures find_linear { IfOk result (λ regex. IsFindFactorOf options.linear_instructions (tree_of regex) (find_factor_of regex)) }
         ensures find_linear_tree { IfOk result (λ regex. is_some (find_factor_of regex) ≡ is_find_linear_tree options.linear_instructions (tree_of regex)) }
@@ -174,6 +177,8 @@ impl Regex {
         ensures small { IfOk result (λ _. options.nodes < usize.MAX → HasAtMost flags pattern.now options.nodes) }
         ensures within { IfOk result (λ regex. program_size (tree_of regex) ≤ options.instructions) }
         ensures limit { IfOk result (λ regex. limit_of regex ≡ options.steps) }
+        ensures memory { IfOk result (λ regex. memory_of regex ≡ options.memory) }
+        ensures instructions { IfOk result (λ regex. instructions_of regex ≡ program_size (tree_of regex)) }
         ensures linear { IfOk result (λ regex. IsFactorOf options.linear_instructions (tree_of regex) (factor_of regex)) }
         ensures find_linear { IfOk result (λ regex. IsFindFactorOf options.linear_instructions (tree_of regex) (find_factor_of regex)) }
         ensures find_linear_tree { IfOk result (λ regex. is_some (find_factor_of regex) ≡ is_find_linear_tree options.linear_instructions (tree_of regex)) }
@@ -206,6 +211,8 @@ impl Regex {
         ensures small { IfOk result (λ _. options.nodes < usize.MAX → HasAtMost flags pattern.now options.nodes) }
         ensures within { IfOk result (λ regex. program_size (tree_of regex) ≤ options.instructions) }
         ensures limit { IfOk result (λ regex. limit_of regex ≡ options.steps) }
+        ensures memory { IfOk result (λ regex. memory_of regex ≡ options.memory) }
+        ensures instructions { IfOk result (λ regex. instructions_of regex ≡ program_size (tree_of regex)) }
         ensures linear { IfOk result (λ regex. IsFactorOf options.linear_instructions (tree_of regex) (factor_of regex)) }
         ensures find_linear { IfOk result (λ regex. IsFindFactorOf options.linear_instructions (tree_of regex) (find_factor_of regex)) }
         ensures find_linear_tree { IfOk result (λ regex. is_some (find_factor_of regex) ≡ is_find_linear_tree options.linear_instructions (tree_of regex)) }
@@ -220,7 +227,7 @@ impl Regex {
         let limits = Limits {
             instructions: options.instructions,
             linear_instructions: options.linear_instructions,
-            memory: usize::MAX,
+            memory: options.memory,
         };
         let matcher = Matcher::new(alloc, compiled, tables, limits)?;
         Ok(Regex {
@@ -271,6 +278,7 @@ impl Regex {
         ensures linear { IfErr result (λ error. error ≡ OutOfSteps → factor_of self.now ≡ None) }
         ensures bounded { IfErr result (λ error. error ≡ OutOfSteps → find_factor_of self.now ≡ None) }
         ensures costs { IfErr result (λ error. error ≡ OutOfSteps → CostsLimit self.now text.now 0) }
+        ensures too_much { IfErr result (λ error. error ≡ TooMuchMemory → TablesNeedMore self.now text.now) }
     {
         let found = self.find(alloc, text)?;
         Ok(found.is_some())
@@ -287,6 +295,7 @@ impl Regex {
         ensures linear { IfErr result (λ error. error ≡ OutOfSteps → factor_of self.now ≡ None) }
         ensures bounded { IfErr result (λ error. error ≡ OutOfSteps → find_factor_of self.now ≡ None) }
         ensures costs { IfErr result (λ error. error ≡ OutOfSteps → CostsLimit self.now text.now 0) }
+        ensures too_much { IfErr result (λ error. error ≡ TooMuchMemory → TablesNeedMore self.now text.now) }
     {
         self.find_at(alloc, text, 0)
     }
@@ -301,6 +310,8 @@ impl Regex {
     /// # Errors
     /// - [`SearchError::OutOfSteps`] if the search takes more than `steps` of [`Options`], and never if
     ///   [`Regex::is_find_linear`].
+    /// - [`SearchError::TooMuchMemory`] if the search needs tables that take more bytes than `memory` of [`Options`]:
+    ///   (n / 4 + 8) (length + 1) for a program of n instructions, with n / 4 rounded up. They are not made then.
     /// - [`SearchError::Memory`] if an allocation fails.
     ///
     /// # Complexity
@@ -321,6 +332,7 @@ impl Regex {
         ensures linear { IfErr result (λ error. error ≡ OutOfSteps → factor_of self.now ≡ None) }
         ensures bounded { IfErr result (λ error. error ≡ OutOfSteps → find_factor_of self.now ≡ None) }
         ensures costs { IfErr result (λ error. error ≡ OutOfSteps → CostsLimit self.now text.now start) }
+        ensures too_much { IfErr result (λ error. error ≡ TooMuchMemory → TablesNeedMore self.now text.now) }
     {
         let found = search::find(alloc, &self.matcher, text, start, self.steps)?;
         match found {
@@ -381,7 +393,7 @@ impl Regex {
     /// # Errors
     /// - [`SearchError::OutOfSteps`] if the matches together take more than `steps` of [`Options`], and never if
     ///   [`Regex::is_linear`].
-    /// - [`SearchError::Memory`] if an allocation fails.
+    /// - [`SearchError::TooMuchMemory`] and [`SearchError::Memory`] as for [`Regex::find_at`].
     pub fn find_all<'r>(
         &'r self,
         alloc: Global,
@@ -392,6 +404,7 @@ impl Regex {
         ensures groups { IfOk result (λ all. All (λ m. groups_in m ≡ groups_of self.now) all.items) }
         ensures linear { IfErr result (λ error. error ≡ OutOfSteps → factor_of self.now ≡ None) }
         ensures costs { IfErr result (λ error. error ≡ OutOfSteps → AllCostLimit self.now text.now 0) }
+        ensures too_much { IfErr result (λ error. error ≡ TooMuchMemory → TablesNeedMore self.now text.now) }
     {
         let mut all = Vec::new(alloc);
         for found in self.find_iter(alloc, text) {
@@ -408,6 +421,7 @@ impl Regex {
         ensures order { IfOk result (λ all. AreInOrder 0 all.items) }
         ensures linear { IfErr result (λ error. error ≡ OutOfSteps → factor_of self.now ≡ None) }
         ensures costs { IfErr result (λ error. error ≡ OutOfSteps → AllCostLimit self.now text.now 0) }
+        ensures too_much { IfErr result (λ error. error ≡ TooMuchMemory → TablesNeedMore self.now text.now) }
     {
         search::find_all(alloc, &self.matcher, text, self.steps)
     }

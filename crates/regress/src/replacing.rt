@@ -5,8 +5,9 @@ ghost use Rattle.regress_replace.specs.Expansion.{expansion};
 ghost use Rattle.regress_replace.specs.Order.{AreInOrder};
 ghost use Rattle.regress.specs.Compiled.{groups_of, outcomes_of, match_of};
 ghost use Rattle.regress.specs.Costs.{AllAreTooCostly, AllCostLimit, CostsLimit, IsTooCostly, factor_of, find_factor_of};
+ghost use Rattle.regress.specs.Memory.{TablesNeedMore};
 ghost use Rattle.regress.specs.Replaced.{HasReturned, IsReplacedBy, ReplacesAll, ReplacesAllWith, ReplacesFirst, ReplacesFirstN, ReplacesFirstWith};
-ghost use Rattle.regress.specs.declared.failure.SearchError.TheVariants.{OutOfSteps};
+ghost use Rattle.regress.specs.declared.failure.SearchError.TheVariants.{OutOfSteps, TooMuchMemory};
 
 use crate::failure::SearchError;
 use crate::found::Match;
@@ -39,6 +40,7 @@ impl Regex {
         ensures linear { IfErr result (λ error. error ≡ OutOfSteps → factor_of self.now ≡ None) }
         ensures bounded { IfErr result (λ error. error ≡ OutOfSteps → find_factor_of self.now ≡ None) }
         ensures costs { IfErr result (λ error. error ≡ OutOfSteps → CostsLimit self.now text.now 0) }
+        ensures too_much { IfErr result (λ error. error ≡ TooMuchMemory → TablesNeedMore self.now text.now) }
     {
         match self.find(alloc, text)? {
             Some(m) => Ok(replace_matches(
@@ -70,6 +72,7 @@ impl Regex {
             (λ m. expansion text.now m (groups_of self.now) template.now) (string_bytes out)) }
         ensures linear { IfErr result (λ error. error ≡ OutOfSteps → factor_of self.now ≡ None) }
         ensures costs { IfErr result (λ error. error ≡ OutOfSteps → AllCostLimit self.now text.now 0) }
+        ensures too_much { IfErr result (λ error. error ≡ TooMuchMemory → TablesNeedMore self.now text.now) }
     {
         let matches = self.all_matches(alloc, text)?;
         Ok(replace_matches(alloc, text, &matches, template, &self.groups)?)
@@ -99,6 +102,7 @@ impl Regex {
             (λ m. expansion text.now m (groups_of self.now) template.now) (string_bytes out.0) out.1) }
         ensures linear { IfErr result (λ error. error ≡ OutOfSteps → factor_of self.now ≡ None) }
         ensures costs { IfErr result (λ error. error ≡ OutOfSteps → AllCostLimit self.now text.now 0) }
+        ensures too_much { IfErr result (λ error. error ≡ TooMuchMemory → TablesNeedMore self.now text.now) }
     {
         let matches = self.first_matches(alloc, text, limit)?;
         let replaced = replace_matches(alloc, text, &matches, template, &self.groups)?;
@@ -128,6 +132,7 @@ impl Regex {
         requires { F.IsAlwaysCallable replacer }
         ensures replaced { IfOk result (λ out. ReplacesFirstWith text.now (outcomes_of self.now text.now) F.FnMut replacer (string_bytes out)) }
         ensures failed { IfErr result (λ error. error ≡ OutOfSteps → IsTooCostly self.now text.now 0 ⊎ HasReturned F.FnMut replacer error) }
+        ensures too_much { IfErr result (λ error. error ≡ TooMuchMemory → TablesNeedMore self.now text.now ⊎ HasReturned F.FnMut replacer error) }
     {
         match self.find(alloc, text)? {
             Some(m) => replace_each(alloc, text, slice::from_ref(&m), replacer),
@@ -163,6 +168,7 @@ impl Regex {
         requires { F.IsAlwaysCallable replacer }
         ensures replaced { IfOk result (λ out. ReplacesAllWith text.now (outcomes_of self.now text.now) F.FnMut replacer (string_bytes out)) }
         ensures failed { IfErr result (λ error. error ≡ OutOfSteps → AllAreTooCostly self.now text.now 0 ⊎ HasReturned F.FnMut replacer error) }
+        ensures too_much { IfErr result (λ error. error ≡ TooMuchMemory → TablesNeedMore self.now text.now ⊎ HasReturned F.FnMut replacer error) }
     {
         let matches = self.find_all(alloc, text)?;
         replace_each(alloc, text, &matches, replacer)
@@ -181,6 +187,7 @@ fn replace_each<F: FnMut(&Match) -> Result<String, SearchError>>(
     requires order { AreInOrder 0 (map match_of matches.now) }
     ensures replaced { IfOk result (λ out. IsReplacedBy F.FnMut replacer text.now matches.now (string_bytes out)) }
     ensures failed { IfErr result (λ error. error ≡ OutOfSteps → HasReturned F.FnMut replacer error) }
+    ensures too_much { IfErr result (λ error. error ≡ TooMuchMemory → HasReturned F.FnMut replacer error) }
 {
     let mut out = String::new(alloc);
     let mut from = 0;

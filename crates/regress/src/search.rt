@@ -4,12 +4,13 @@ ghost use Rattle.regress_front.specs.WellFormed.{IsWellFormed};
 ghost use Rattle.regress_match.specs.AllCosts.{CostsOfMatches};
 ghost use Rattle.regress_match.specs.Costs.{IsWithinFindCost};
 ghost use Rattle.regress_match.specs.Iterated.{iterated_matcher};
+ghost use Rattle.regress_match.specs.Memory.{TablesNeedMore};
 ghost use Rattle.regress_found.specs.Found.{IsInside, Finds};
 ghost use Rattle.regress_match.specs.Matcher.{factor_of, find_factor_of};
 ghost use Rattle.regress_match.specs.Pattern.{matcher_outcomes, matcher_tree};
 ghost use Rattle.regress_found.specs.Repeated.{AreAllMatches};
 ghost use Rattle.regress_replace.specs.Order.{AreInOrder};
-ghost use Rattle.regress.specs.declared.failure.SearchError.TheVariants.{OutOfSteps};
+ghost use Rattle.regress.specs.declared.failure.SearchError.TheVariants.{OutOfSteps, TooMuchMemory};
 
 use crate::failure::SearchError;
 use crate::found::Match;
@@ -29,6 +30,7 @@ pub(crate) fn find(
     ensures linear { IfErr result (λ error. error ≡ OutOfSteps → factor_of matcher.now ≡ None) }
     ensures bounded { IfErr result (λ error. error ≡ OutOfSteps → find_factor_of matcher.now ≡ None) }
     ensures costs { IfErr result (λ error. error ≡ OutOfSteps → IsWithinFindCost matcher.now text.now from steps) }
+    ensures too_much { IfErr result (λ error. error ≡ TooMuchMemory → TablesNeedMore matcher.now text.now) }
 {
     let found = matcher.find(alloc, text, from, steps)?;
     match found.outcome {
@@ -50,6 +52,7 @@ pub(crate) fn find_all(
     ensures order { IfOk result (λ all. AreInOrder 0 all.items) }
     ensures linear { IfErr result (λ error. error ≡ OutOfSteps → factor_of matcher.now ≡ None) }
     ensures costs { IfErr result (λ error. error ≡ OutOfSteps → CostsOfMatches matcher.now text.now 0 steps) }
+    ensures too_much { IfErr result (λ error. error ≡ TooMuchMemory → TablesNeedMore matcher.now text.now) }
 {
     match matcher.find_all(alloc, text, steps)? {
         Some(all) => Ok(all),
@@ -105,7 +108,7 @@ impl<'r> Matches<'r> {
     }
 
     /// Returns the number of steps that the search took so far. Of a call of `next` that returned
-    /// [`SearchError::Memory`] some are not counted.
+    /// [`SearchError::Memory`] or [`SearchError::TooMuchMemory`] some are not counted.
     pub fn steps(&self) -> u64
         ensures taken { result ≡ min (search_taken self.now) u64.MAX }
         ensures linear { IfSome (searched_factor self.now) (λ n. result ≤ n * (length (searched_text self.now) + 1)) }

@@ -7,8 +7,9 @@ ghost use Rattle.regress_replace.specs.Order.{AreInOrder};
 ghost use Rattle.regress_replace.specs.Split.{part_texts};
 ghost use Rattle.regress.specs.Compiled.{outcomes_of};
 ghost use Rattle.regress.specs.Costs.{AllCostLimit, factor_of};
+ghost use Rattle.regress.specs.Memory.{TablesNeedMore};
 ghost use Rattle.regress.specs.Replaced.{AreFirstMatches, ArePartSpans, IsSplit, IsSplitWithCaptures, IsSplitWithin};
-ghost use Rattle.regress.specs.declared.failure.SearchError.TheVariants.{OutOfSteps};
+ghost use Rattle.regress.specs.declared.failure.SearchError.TheVariants.{OutOfSteps, TooMuchMemory};
 
 use crate::failure::SearchError;
 use crate::pattern::Regex;
@@ -39,6 +40,7 @@ impl Regex {
             (map (λ (piece : Bor (List ℕ)). piece.now) pieces.items)) }
         ensures linear { IfErr result (λ error. error ≡ OutOfSteps → factor_of self.now ≡ None) }
         ensures costs { IfErr result (λ error. error ≡ OutOfSteps → AllCostLimit self.now text.now 0) }
+        ensures too_much { IfErr result (λ error. error ≡ TooMuchMemory → TablesNeedMore self.now text.now) }
     {
         let matches = self.all_matches(alloc, text)?;
         Ok(split_at_matches(alloc, text, &matches)?)
@@ -59,6 +61,7 @@ impl Regex {
             (map (λ (piece : Bor (List ℕ)). piece.now) pieces.items)) }
         ensures linear { IfErr result (λ error. error ≡ OutOfSteps → factor_of self.now ≡ None) }
         ensures costs { IfErr result (λ error. error ≡ OutOfSteps → AllCostLimit self.now text.now 0) }
+        ensures too_much { IfErr result (λ error. error ≡ TooMuchMemory → TablesNeedMore self.now text.now) }
     {
         if limit == 0 {
             return Ok(Vec::new(alloc));
@@ -92,6 +95,7 @@ impl Regex {
         ensures split { IfOk result (λ parts. IsSplitWithCaptures text.now (outcomes_of self.now text.now) limit (part_texts parts.items)) }
         ensures linear { IfErr result (λ error. error ≡ OutOfSteps → factor_of self.now ≡ None) }
         ensures costs { IfErr result (λ error. error ≡ OutOfSteps → AllCostLimit self.now text.now 0) }
+        ensures too_much { IfErr result (λ error. error ≡ TooMuchMemory → TablesNeedMore self.now text.now) }
     {
         let matches = self.all_matches(alloc, text)?;
         Ok(split_with_captures(alloc, text, &matches, limit)?)
@@ -111,6 +115,7 @@ impl Regex {
         ensures split { IfOk result (λ spans. ArePartSpans text.now (outcomes_of self.now text.now) limit spans.items) }
         ensures linear { IfErr result (λ error. error ≡ OutOfSteps → factor_of self.now ≡ None) }
         ensures costs { IfErr result (λ error. error ≡ OutOfSteps → AllCostLimit self.now text.now 0) }
+        ensures too_much { IfErr result (λ error. error ≡ TooMuchMemory → TablesNeedMore self.now text.now) }
     {
         let matches = self.all_matches(alloc, text)?;
         Ok(split_spans(alloc, text.len(), &matches, limit)?)
@@ -128,6 +133,7 @@ impl Regex {
         ensures order { IfOk result (λ first. AreInOrder 0 first.items) }
         ensures linear { IfErr result (λ error. error ≡ OutOfSteps → factor_of self.now ≡ None) }
         ensures costs { IfErr result (λ error. error ≡ OutOfSteps → AllCostLimit self.now text.now 0) }
+        ensures too_much { IfErr result (λ error. error ≡ TooMuchMemory → TablesNeedMore self.now text.now) }
     {
         let mut first = Vec::new(alloc);
         let mut matches = self.find_iter(alloc, text);

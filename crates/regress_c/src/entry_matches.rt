@@ -2,6 +2,7 @@
 ghost use Rattle.std.specs.Prelude.{◌≡◌, IfSome, IsUtf8, None, length};
 ghost use Rattle.regress.specs.Compiled.{groups_of, outcomes_of};
 ghost use Rattle.regress.specs.Costs.{AllAreTooCostly};
+ghost use Rattle.regress.specs.Memory.{TablesNeedMore};
 ghost use Rattle.regress_capi.specs.ListResults.{ListResult, Returns, left, width_of};
 ghost use Rattle.regress_capi.specs.PartResults.{AreEndsOfParts};
 ghost use Rattle.regress_capi.specs.Spans.{AreEndsOfAll};
@@ -17,8 +18,8 @@ use std::alloc::Global;
 /// handle that was there before is not freed.
 ///
 /// # Errors
-/// Returns a status: 0 for success, 2 if an allocation failed, 4 if the text is not UTF-8, and 7 if the search takes more
-/// steps than allowed. `matches` is changed only with 0.
+/// Returns a status: 0 for success, 2 if an allocation failed, 4 if the text is not UTF-8, 7 if the search takes more steps
+/// than allowed, and 8 if it needs more memory than allowed. `matches` is changed only with 0.
 ///
 /// # Preconditions
 /// The handle is one of a compiled pattern.
@@ -34,7 +35,7 @@ pub extern "C" fn regress_matches_new_raw(
     ensures same { handle.new.value ≡ handle.old.value }
     ensures status { IfSome handle.old.value (λ regex. ListResult (IsUtf8 text.now)
         (AreEndsOfAll text.now (outcomes_of regex text.now) from) (width_of (groups_of regex)) (AllAreTooCostly regex text.now from)
-        matches.old.value result matches.new.value) }
+        (TablesNeedMore regex text.now) matches.old.value result matches.new.value) }
 {
     let regex = handle.take(alloc);
     let status = write_list(alloc, &regex, Searched { text, from }, matches);
@@ -61,7 +62,7 @@ pub extern "C" fn regress_split_raw(
     requires { handle.old.value ≡ None → ⊥ }
     ensures same { handle.new.value ≡ handle.old.value }
     ensures status { IfSome handle.old.value (λ regex. ListResult (IsUtf8 text.now) (AreEndsOfParts regex text.now limit) 2
-        (AllAreTooCostly regex text.now 0) parts.old.value result parts.new.value) }
+        (AllAreTooCostly regex text.now 0) (TablesNeedMore regex text.now) parts.old.value result parts.new.value) }
 {
     let regex = handle.take(alloc);
     let status = write_parts(alloc, &regex, Split { text, limit }, parts);

@@ -2,6 +2,7 @@
 ghost use Rattle.std.specs.Prelude.{◌≡◌, if◌then◌else◌, IfSome, IsUtf8, None, is_some, length, min, option_map, unwrap_or};
 ghost use Rattle.regress.specs.Costs.{AllAreTooCostly, IsTooCostly, factor_of, find_factor_of, nonlinear_of};
 ghost use Rattle.regress.specs.Compiled.{groups_of, outcomes_of};
+ghost use Rattle.regress.specs.Memory.{TablesNeedMore};
 ghost use Rattle.regress.specs.Searched.{MatchesSomewhere};
 ghost use Rattle.regress_capi.specs.CompileResults.{CompileResult, limits_of};
 ghost use Rattle.regress_capi.specs.Fault.{HasKind, IsTextOf};
@@ -59,8 +60,8 @@ pub extern "C" fn regress_compile_raw(
 ///
 /// # Errors
 /// Returns a status: 0 for success, 1 if there is no match, 2 if an allocation failed, 3 if `spans` is too small, 4 if
-/// the text is not UTF-8, and 7 if the search takes more steps than allowed. `spans` is changed only with 0, and
-/// `needed` is 0 unless the status is 0 or 3.
+/// the text is not UTF-8, 7 if the search takes more steps than allowed, and 8 if it needs more memory than allowed.
+/// `spans` is changed only with 0, and `needed` is 0 unless the status is 0 or 3.
 ///
 /// # Preconditions
 /// The handle is one of a compiled pattern.
@@ -77,7 +78,7 @@ pub extern "C" fn regress_find_raw(
     ensures same { handle.new.value ≡ handle.old.value }
     ensures status { IfSome handle.old.value (λ regex. SearchResult (IsUtf8 text.now)
         (AreEndsOfFirst text.now (outcomes_of regex text.now) from) (Finds text.now (outcomes_of regex text.now) from None)
-        (IsTooCostly regex text.now from) spans.old result needed.new spans.new) }
+        (IsTooCostly regex text.now from) (TablesNeedMore regex text.now) spans.old result needed.new spans.new) }
 {
     let regex = handle.take(alloc);
     let status = searches::write_first(alloc, &regex, Searched { text, from }, spans, needed);
@@ -105,7 +106,8 @@ pub extern "C" fn regress_find_all_raw(
     requires { handle.old.value ≡ None → ⊥ }
     ensures same { handle.new.value ≡ handle.old.value }
     ensures status { IfSome handle.old.value (λ regex. SearchResult (IsUtf8 text.now)
-        (AreEndsOfAll text.now (outcomes_of regex text.now) from) ⊥ (AllAreTooCostly regex text.now from) spans.old result needed.new spans.new) }
+        (AreEndsOfAll text.now (outcomes_of regex text.now) from) ⊥ (AllAreTooCostly regex text.now from) (TablesNeedMore regex text.now)
+        spans.old result needed.new spans.new) }
 {
     let regex = handle.take(alloc);
     let status = searches::write_all(alloc, &regex, Searched { text, from }, spans, needed);
@@ -116,8 +118,8 @@ pub extern "C" fn regress_find_all_raw(
 /// Returns whether the pattern matches somewhere, as a status.
 ///
 /// # Errors
-/// Returns a status: 0 if it matches, 1 if it does not, 2 if an allocation failed, 4 if the text is not UTF-8, and 7 if
-/// the search takes more steps than allowed.
+/// Returns a status: 0 if it matches, 1 if it does not, 2 if an allocation failed, 4 if the text is not UTF-8, 7 if the
+/// search takes more steps than allowed, and 8 if it needs more memory than allowed.
 ///
 /// # Preconditions
 /// The handle is one of a compiled pattern.
@@ -127,7 +129,7 @@ pub extern "C" fn regress_is_match_raw(alloc: Global, handle: &mut Handle, text:
     ensures same { handle.new.value ≡ handle.old.value }
     ensures status { IfSome handle.old.value (λ regex. TestResult (IsUtf8 text.now)
         (MatchesSomewhere text.now (outcomes_of regex text.now)) (MatchesSomewhere text.now (outcomes_of regex text.now) → ⊥)
-        (IsTooCostly regex text.now 0) result) }
+        (IsTooCostly regex text.now 0) (TablesNeedMore regex text.now) result) }
 {
     let regex = handle.take(alloc);
     let status = searches::test(alloc, &regex, text);

@@ -4,6 +4,7 @@ ghost use Rattle.regress_capi.specs.EscapeResults.{EscapeResult};
 ghost use Rattle.regress_capi.specs.ExpandResults.{ExpandResult};
 ghost use Rattle.regress_capi.specs.ReplaceResults.{HasAllReplaced, HasFirstReplaced, HasFirstsReplaced};
 ghost use Rattle.regress.specs.Costs.{AllAreTooCostly, IsTooCostly};
+ghost use Rattle.regress.specs.Memory.{TablesNeedMore};
 ghost use Rattle.regress_capi.specs.SearchResults.{SearchResult};
 
 use regress_capi::escaping;
@@ -16,8 +17,8 @@ use std::alloc::Global;
 ///
 /// # Errors
 /// Returns a status: 0 for success, 2 if an allocation failed, 3 if `out` is too small, 4 if the text or the template is
-/// not UTF-8, and 7 if the search takes more steps than allowed. `out` is changed only with 0, and `needed` is 0 unless
-/// the status is 0 or 3.
+/// not UTF-8, 7 if the search takes more steps than allowed, and 8 if it needs more memory than allowed. `out` is changed
+/// only with 0, and `needed` is 0 unless the status is 0 or 3.
 ///
 /// # Preconditions
 /// The handle is one of a compiled pattern.
@@ -33,7 +34,8 @@ pub extern "C" fn regress_replace_raw(
     requires { handle.old.value ≡ None → ⊥ }
     ensures same { handle.new.value ≡ handle.old.value }
     ensures status { IfSome handle.old.value (λ regex. SearchResult (IsUtf8 text.now × IsUtf8 template.now)
-        (HasFirstReplaced regex text.now template.now) ⊥ (IsTooCostly regex text.now 0) out.old result needed.new out.new) }
+        (HasFirstReplaced regex text.now template.now) ⊥ (IsTooCostly regex text.now 0) (TablesNeedMore regex text.now)
+        out.old result needed.new out.new) }
 {
     let regex = handle.take(alloc);
     let status = replacing::write_first_replaced(
@@ -66,7 +68,8 @@ pub extern "C" fn regress_replace_all_raw(
     requires { handle.old.value ≡ None → ⊥ }
     ensures same { handle.new.value ≡ handle.old.value }
     ensures status { IfSome handle.old.value (λ regex. SearchResult (IsUtf8 text.now × IsUtf8 template.now)
-        (HasAllReplaced regex text.now template.now) ⊥ (AllAreTooCostly regex text.now 0) out.old result needed.new out.new) }
+        (HasAllReplaced regex text.now template.now) ⊥ (AllAreTooCostly regex text.now 0) (TablesNeedMore regex text.now)
+        out.old result needed.new out.new) }
 {
     let regex = handle.take(alloc);
     let status = replacing::write_all_replaced(
@@ -101,7 +104,8 @@ pub extern "C" fn regress_replace_n_raw(
     requires { handle.old.value ≡ None → ⊥ }
     ensures same { handle.new.value ≡ handle.old.value }
     ensures status { IfSome handle.old.value (λ regex. SearchResult (IsUtf8 text.now × IsUtf8 template.now)
-        (HasFirstsReplaced regex text.now template.now limit count.new) ⊥ (AllAreTooCostly regex text.now 0) out.old result needed.new out.new) }
+        (HasFirstsReplaced regex text.now template.now limit count.new) ⊥ (AllAreTooCostly regex text.now 0) (TablesNeedMore regex text.now)
+        out.old result needed.new out.new) }
     ensures none { result ≢ 0 → result ≢ 3 → count.new ≡ 0 }
 {
     let regex = handle.take(alloc);

@@ -4,8 +4,8 @@ use Rattle.std.proofs.Math.ListN.{drop_of_length-le}
 use Rattle.std.proofs.lemmas.Bool.{cases_lt}
 use Rattle.std.proofs.lemmas.List.{length-take, take_min}
 use Rattle.regress.specs.declared.failure.SearchError.{SearchError}
-use Rattle.regress.specs.declared.failure.SearchError.TheVariants.{Memory, OutOfSteps}
-use Rattle.regress_capi.specs.ListResults.{ListResult, left, list_out_of_memory, list_out_of_steps, next_of, width}
+use Rattle.regress.specs.declared.failure.SearchError.TheVariants.{Memory, OutOfSteps, TooMuchMemory}
+use Rattle.regress_capi.specs.ListResults.{ListResult, left, list_out_of_memory, list_out_of_steps, list_too_much_memory, next_of, width}
 use Rattle.regress_capi.specs.SearchResults.{status_of}
 use Rattle.regress_capi.specs.declared.match_list.MatchList.{MatchList}
 
@@ -36,9 +36,12 @@ module _ (l : MatchList) (n : ℕ) (is : n ≡ min (width l) (length l.ends.item
   next-rest = sym (drop-drop n l.returned l.ends.items) ∙ ap (λ k. drop k (left l)) (sym same) ∙ drop_min (width l) (left l)
 
 -- a search that fails has the status of its error
-pub list-fails : {Asked : Type 0} {P : List ℕ → Type 0} {expected : ℕ} {Costly : Type 0} {old : Option MatchList} {status : ℕ} (error : SearchError) →
-    Asked → (error ≡ OutOfSteps → Costly) → status ≡ status_of error → ListResult Asked P expected Costly old status old
-list-fails {Asked} {P} {expected} {Costly} {old} Memory asked late is =
-    subst (λ s. ListResult Asked P expected Costly old s old) (sym is) (list_out_of_memory asked)
-list-fails {Asked} {P} {expected} {Costly} {old} OutOfSteps asked late is =
-    subst (λ s. ListResult Asked P expected Costly old s old) (sym is) (list_out_of_steps asked (late refl))
+pub list-fails : {Asked : Type 0} {P : List ℕ → Type 0} {expected : ℕ} {Costly Large : Type 0} {old : Option MatchList} {status : ℕ}
+    (error : SearchError) → Asked → (error ≡ OutOfSteps → Costly) → (error ≡ TooMuchMemory → Large) → status ≡ status_of error →
+    ListResult Asked P expected Costly Large old status old
+list-fails {Asked} {P} {expected} {Costly} {Large} {old} Memory asked late large is =
+    subst (λ s. ListResult Asked P expected Costly Large old s old) (sym is) (list_out_of_memory asked)
+list-fails {Asked} {P} {expected} {Costly} {Large} {old} OutOfSteps asked late large is =
+    subst (λ s. ListResult Asked P expected Costly Large old s old) (sym is) (list_out_of_steps asked (late refl))
+list-fails {Asked} {P} {expected} {Costly} {Large} {old} TooMuchMemory asked late large is =
+    subst (λ s. ListResult Asked P expected Costly Large old s old) (sym is) (list_too_much_memory asked (large refl))

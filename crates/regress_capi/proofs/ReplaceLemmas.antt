@@ -5,7 +5,7 @@ use Rattle.std.specs.declared.alloc.AllocError.{AllocError}
 use Rattle.std.specs.declared.alloc.Global.{Global}
 use Rattle.std.proofs.lemmas.Str.{encodes-chars}
 use Rattle.regress.specs.declared.failure.SearchError.{SearchError}
-use Rattle.regress.specs.declared.failure.SearchError.TheVariants.{Memory, OutOfSteps}
+use Rattle.regress.specs.declared.failure.SearchError.TheVariants.{Memory, OutOfSteps, TooMuchMemory}
 use Rattle.regress.specs.Costs.{AllAreTooCostly, AllCostLimit, CostsLimit, IsTooCostly, factor_of, find_factor_of}
 use Rattle.regress.specs.declared.pattern.Regex.{Regex}
 use Rattle.regress.specs.Compiled.{groups_of}
@@ -13,33 +13,35 @@ use Rattle.regress_found.specs.declared.found.Match.{Match}
 use Rattle.regress_escape.specs.Escape.{escaped}
 use Rattle.regress_capi.specs.EscapeResults.{EscapeResult, escape_written, escape_little}
 use Rattle.regress_capi.specs.ExpandResults.{ExpandResult, HasNumbers, IsExpandedAt, expand_bad, expand_little, expand_out_of_memory, expand_written}
-use Rattle.regress_capi.specs.SearchResults.{IsBare, status_of, SearchResult, written, out_of_memory, little, out_of_steps}
+use Rattle.regress_capi.specs.SearchResults.{IsBare, status_of, SearchResult, written, out_of_memory, little, out_of_steps, too_much_memory}
 use Rattle.regress_capi.specs.TextResults.{PlainResult, plain_written, plain_little}
 use Rattle.regress_capi.proofs.SearchLemmas.{at-bare}
 
 -- the text that is written has the property, and the arguments are valid
-text-searched : {A : Type 0} {P : List ℕ → Type 0} {Missing Costly : Type 0} {old new text : List ℕ} {status needed : ℕ} → A → P text →
-    PlainResult (λ xs. xs ≡ text) old status needed new → SearchResult A P Missing Costly old status needed new
+text-searched : {A : Type 0} {P : List ℕ → Type 0} {Missing Costly Large : Type 0} {old new text : List ℕ} {status needed : ℕ} → A → P text →
+    PlainResult (λ xs. xs ≡ text) old status needed new → SearchResult A P Missing Costly Large old status needed new
 text-searched {P = P} asked has (plain_written gives) = written asked (gives.0, subst P (sym gives.1) has, gives.2, gives.3)
 text-searched {P = P} asked has (plain_little wants) = little asked (wants.0, subst P (sym wants.1) has, wants.2, wants.3)
 
 -- the result is that of the text that was made, or of the error
-pub text-reports : {A : Type 0} {P : List ℕ → Type 0} {Missing Costly : Type 0} {old new : List ℕ} {status needed : ℕ} {V : Type 0} (bytes : V → List ℕ)
+pub text-reports : {A : Type 0} {P : List ℕ → Type 0} {Missing Costly Large : Type 0} {old new : List ℕ} {status needed : ℕ} {V : Type 0} (bytes : V → List ℕ)
     (r : Result V SearchError) → A → IfOk r (λ v. P (bytes v)) → IfErr r (λ error. error ≡ OutOfSteps → Costly) →
-    MatchResult r (λ v. PlainResult (λ xs. xs ≡ bytes v) old status needed new)
-    (λ error. IsBare (status_of error) old status needed new) → SearchResult A P Missing Costly old status needed new
-text-reports bytes (Ok v) asked has late is = text-searched asked has is
-text-reports bytes (Err Memory) asked has late is = at-bare 2 is (out_of_memory asked)
-text-reports bytes (Err OutOfSteps) asked has late is = at-bare 7 is (out_of_steps asked (late refl))
+    IfErr r (λ error. error ≡ TooMuchMemory → Large) → MatchResult r (λ v. PlainResult (λ xs. xs ≡ bytes v) old status needed new)
+    (λ error. IsBare (status_of error) old status needed new) → SearchResult A P Missing Costly Large old status needed new
+text-reports bytes (Ok v) asked has late large is = text-searched asked has is
+text-reports bytes (Err Memory) asked has late large is = at-bare 2 is (out_of_memory asked)
+text-reports bytes (Err OutOfSteps) asked has late large is = at-bare 7 is (out_of_steps asked (late refl))
+text-reports bytes (Err TooMuchMemory) asked has late large is = at-bare 8 is (too_much_memory asked (large refl))
 
 -- the same of a text with the number of its changes
-pub counted-reports : (Q : ℕ → List ℕ → Type 0) {A Missing Costly : Type 0} {old new : List ℕ} {status needed count : ℕ}
+pub counted-reports : (Q : ℕ → List ℕ → Type 0) {A Missing Costly Large : Type 0} {old new : List ℕ} {status needed count : ℕ}
     (r : Result (String Global × ℕ) SearchError) → A → IfOk r (λ v. Q v.1 (string_bytes v.0)) → IfErr r (λ error. error ≡ OutOfSteps → Costly) →
-    MatchResult r (λ v. PlainResult (λ xs. xs ≡ string_bytes v.0) old status needed new × (count ≡ v.1))
-    (λ error. IsBare (status_of error) old status needed new × (count ≡ 0)) → SearchResult A (Q count) Missing Costly old status needed new
-counted-reports Q (Ok v) asked has late is = text-searched asked (subst (λ n. Q n (string_bytes v.0)) (sym is.1) has) is.0
-counted-reports Q (Err Memory) asked has late is = at-bare 2 is.0 (out_of_memory asked)
-counted-reports Q (Err OutOfSteps) asked has late is = at-bare 7 is.0 (out_of_steps asked (late refl))
+    IfErr r (λ error. error ≡ TooMuchMemory → Large) → MatchResult r (λ v. PlainResult (λ xs. xs ≡ string_bytes v.0) old status needed new × (count ≡ v.1))
+    (λ error. IsBare (status_of error) old status needed new × (count ≡ 0)) → SearchResult A (Q count) Missing Costly Large old status needed new
+counted-reports Q (Ok v) asked has late large is = text-searched asked (subst (λ n. Q n (string_bytes v.0)) (sym is.1) has) is.0
+counted-reports Q (Err Memory) asked has late large is = at-bare 2 is.0 (out_of_memory asked)
+counted-reports Q (Err OutOfSteps) asked has late large is = at-bare 7 is.0 (out_of_steps asked (late refl))
+counted-reports Q (Err TooMuchMemory) asked has late large is = at-bare 8 is.0 (too_much_memory asked (large refl))
 
 text-status : {P : List ℕ → Type 0} {old new : List ℕ} {status needed : ℕ} → PlainResult P old status needed new → status ≢ 0 → status ≢ 3 → ⊥
 text-status (plain_written gives) first second = first refl

@@ -3,31 +3,33 @@ use Rattle.std.proofs.Common.{◌≡◌, ◌+◌, ◌++◌, ◌<◌, ℕ, add-on
 use Rattle.std.proofs.lemmas.Grind.{flat_map-append}
 use Rattle.std.specs.Prelude.{IfErr, IfOk, MatchOption, MatchResult, None, Some, Result, Ok, Err}
 use Rattle.regress.specs.declared.failure.SearchError.{SearchError}
-use Rattle.regress.specs.declared.failure.SearchError.TheVariants.{Memory, OutOfSteps}
+use Rattle.regress.specs.declared.failure.SearchError.TheVariants.{Memory, OutOfSteps, TooMuchMemory}
 use Rattle.regress_front.specs.Steps.{CaptureSpan}
 use Rattle.regress_found.specs.Found as one
 use Rattle.regress_found.specs.declared.found.Match as found
 use Rattle.regress_found.specs.Repeated.{AreMatches}
 use Rattle.regress_match.proofs.lemmas.Searched.{AreMatches-more}
-use Rattle.regress.proofs.lemmas.Paid.{HasPaid, none_paid, one_more_paid, out_of_steps as too_costly}
+use Rattle.regress.proofs.lemmas.Paid.{HasPaid, none_paid, one_more_paid, out_of_steps as too_costly, too_much_memory as too_large}
 use Rattle.regress.specs.Compiled.{outcomes_of, match_of}
 use Rattle.regress.specs.Costs.{AllAreTooCostly, factor_of, limit_of, matcher_of}
+use Rattle.regress.specs.Memory.{TablesNeedMore}
 use Rattle.regress.specs.Searched.{Advances, has_failed, next_from, search_limit, search_remaining, searched_matcher, searched_outcomes, searched_text}
 use Rattle.regress.specs.declared.pattern.Regex.{Regex}
 use Rattle.regress.specs.declared.found.Match.{Match}
 use Rattle.regress.specs.declared.search.Matches.{Matches}
 use Rattle.regress_capi.specs.Spans.{AreEndsOfAll, ends_of, match_ends}
-use Rattle.regress_capi.specs.SearchResults.{IsBare, status_of, SearchResult, written, no_match, out_of_memory, little, bad, out_of_steps, TestResult, too_little_memory, too_many_steps}
+use Rattle.regress_capi.specs.SearchResults.{IsBare, status_of, SearchResult, written, no_match, out_of_memory, little, bad, out_of_steps, too_much_memory, TestResult, too_little_memory, too_many_steps, too_large_tables}
 
 -- what is written has the property that was computed, and the arguments are valid
-pub search-written : {A : Type 0} {P : List ℕ → Type 0} {Missing Costly : Type 0} {old new numbers : List ℕ} {status needed : ℕ} → A → P numbers →
-    SearchResult (Unit {0}) (λ xs. xs ≡ numbers) ⊥ ⊥ old status needed new → SearchResult A P Missing Costly old status needed new
+pub search-written : {A : Type 0} {P : List ℕ → Type 0} {Missing Costly Large : Type 0} {old new numbers : List ℕ} {status needed : ℕ} → A → P numbers →
+    SearchResult (Unit {0}) (λ xs. xs ≡ numbers) ⊥ ⊥ ⊥ old status needed new → SearchResult A P Missing Costly Large old status needed new
 search-written {P = P} asked has (written u gives) = written asked (gives.0, subst P (sym gives.1) has, gives.2, gives.3)
 search-written asked has (no_match u none) = absurd none
 search-written asked has (out_of_memory u) = out_of_memory asked
 search-written {P = P} asked has (little u wants) = little asked (wants.0, subst P (sym wants.1) has, wants.2, wants.3)
 search-written asked has (bad none) = absurd (none tt)
 search-written asked has (out_of_steps u never) = absurd never
+search-written asked has (too_much_memory u never) = absurd never
 
 -- the two ends of one more span are appended
 pub span_more : (span : Option CaptureSpan) (rest : List (Option CaptureSpan)) (a b : ℕ) (done whole : List ℕ) → ends_of span ≡ a ∷ b ∷ [] →
@@ -107,41 +109,48 @@ module _ (r : Regex) (text : List ℕ) (from : ℕ) (now : Matches) (numbers : L
   pub ends-late : (e : SearchError) → Advances now (Some (Err e)) new → e ≡ OutOfSteps → AllAreTooCostly r text from
   ends-late e step is = too_costly r text from now sofar.ms sofar.paid sofar.found new e step is
 
+  pub ends-large : (e : SearchError) → Advances now (Some (Err e)) new → e ≡ TooMuchMemory → TablesNeedMore r text
+  ends-large e step is = too_large r text from now sofar.ms sofar.paid sofar.found new e step is
+
 -- -- of a search that may fail
 
-module _ {A : Type 0} {P : List ℕ → Type 0} {Missing Costly : Type 0} {old new : List ℕ} {status needed : ℕ} where
-  pub at-bare : (expected : ℕ) → IsBare expected old status needed new → SearchResult A P Missing Costly old expected 0 old →
-      SearchResult A P Missing Costly old status needed new
+module _ {A : Type 0} {P : List ℕ → Type 0} {Missing Costly Large : Type 0} {old new : List ℕ} {status needed : ℕ} where
+  pub at-bare : (expected : ℕ) → IsBare expected old status needed new → SearchResult A P Missing Costly Large old expected 0 old →
+      SearchResult A P Missing Costly Large old status needed new
   at-bare expected bare is =
-      subst (λ s. SearchResult A P Missing Costly old s needed new) (sym bare.0)
-      (subst (λ n. SearchResult A P Missing Costly old expected n new) (sym bare.1)
-      (subst (λ buffer. SearchResult A P Missing Costly old expected 0 buffer) (sym bare.2) is))
+      subst (λ s. SearchResult A P Missing Costly Large old s needed new) (sym bare.0)
+      (subst (λ n. SearchResult A P Missing Costly Large old expected n new) (sym bare.1)
+      (subst (λ buffer. SearchResult A P Missing Costly Large old expected 0 buffer) (sym bare.2) is))
 
   pub search-reports : {V : Type 0} (items : V → List ℕ) (r : Result (Option V) SearchError) → A →
       IfOk r (λ some. MatchOption some Missing (λ v. P (items v))) → IfErr r (λ error. error ≡ OutOfSteps → Costly) →
-      MatchResult r (λ some. MatchOption some (IsBare 1 old status needed new)
-      (λ v. SearchResult (Unit {0}) (λ xs. xs ≡ items v) ⊥ ⊥ old status needed new)) (λ error. IsBare (status_of error) old status needed new) →
-      SearchResult A P Missing Costly old status needed new
-  search-reports items (Ok None) asked has late is = at-bare 1 is (no_match asked has)
-  search-reports items (Ok (Some v)) asked has late is = search-written asked has is
-  search-reports items (Err Memory) asked has late is = at-bare 2 is (out_of_memory asked)
-  search-reports items (Err OutOfSteps) asked has late is = at-bare 7 is (out_of_steps asked (late refl))
+      IfErr r (λ error. error ≡ TooMuchMemory → Large) → MatchResult r (λ some. MatchOption some (IsBare 1 old status needed new)
+      (λ v. SearchResult (Unit {0}) (λ xs. xs ≡ items v) ⊥ ⊥ ⊥ old status needed new)) (λ error. IsBare (status_of error) old status needed new) →
+      SearchResult A P Missing Costly Large old status needed new
+  search-reports items (Ok None) asked has late large is = at-bare 1 is (no_match asked has)
+  search-reports items (Ok (Some v)) asked has late large is = search-written asked has is
+  search-reports items (Err Memory) asked has late large is = at-bare 2 is (out_of_memory asked)
+  search-reports items (Err OutOfSteps) asked has late large is = at-bare 7 is (out_of_steps asked (late refl))
+  search-reports items (Err TooMuchMemory) asked has late large is = at-bare 8 is (too_much_memory asked (large refl))
 
 -- a search that fails has the status of its error
-pub test-fails : {A Present Missing Costly : Type 0} {status : ℕ} (error : SearchError) → A → (error ≡ OutOfSteps → Costly) → status ≡ status_of error →
-    TestResult A Present Missing Costly status
-test-fails {A} {Present} {Missing} {Costly} Memory asked late is = subst (TestResult A Present Missing Costly) (sym is) (too_little_memory asked)
-test-fails {A} {Present} {Missing} {Costly} OutOfSteps asked late is =
-    subst (TestResult A Present Missing Costly) (sym is) (too_many_steps asked (late refl))
+pub test-fails : {A Present Missing Costly Large : Type 0} {status : ℕ} (error : SearchError) → A → (error ≡ OutOfSteps → Costly) →
+    (error ≡ TooMuchMemory → Large) → status ≡ status_of error → TestResult A Present Missing Costly Large status
+test-fails {A} {Present} {Missing} {Costly} {Large} Memory asked late large is =
+    subst (TestResult A Present Missing Costly Large) (sym is) (too_little_memory asked)
+test-fails {A} {Present} {Missing} {Costly} {Large} OutOfSteps asked late large is =
+    subst (TestResult A Present Missing Costly Large) (sym is) (too_many_steps asked (late refl))
+test-fails {A} {Present} {Missing} {Costly} {Large} TooMuchMemory asked late large is =
+    subst (TestResult A Present Missing Costly Large) (sym is) (too_large_tables asked (large refl))
 
 -- -- of numbers that are computed
 
 pub given-written : {old new : List ℕ} {needed : ℕ} (items handed : List ℕ) → needed ≡ length items → handed ≡ items →
-    new ≡ handed ++ drop (length handed) old → SearchResult (Unit {0}) (λ xs. xs ≡ items) ⊥ ⊥ old 0 needed new
+    new ≡ handed ++ drop (length handed) old → SearchResult (Unit {0}) (λ xs. xs ≡ items) ⊥ ⊥ ⊥ old 0 needed new
 given-written {old = old} items handed count same put = written tt (items, refl, count, put ∙ ap (λ xs. xs ++ drop (length xs) old) same)
 
 pub given-little : {old new : List ℕ} {needed : ℕ} (items handed : List ℕ) → needed ≡ length items → handed ≡ items → new ≡ old →
-    length old < length handed → SearchResult (Unit {0}) (λ xs. xs ≡ items) ⊥ ⊥ old 3 needed new
+    length old < length handed → SearchResult (Unit {0}) (λ xs. xs ≡ items) ⊥ ⊥ ⊥ old 3 needed new
 given-little {old = old} {needed = needed} items handed count same left less =
-    subst (λ buffer. SearchResult (Unit {0}) (λ xs. xs ≡ items) ⊥ ⊥ old 3 needed buffer) (sym left)
+    subst (λ buffer. SearchResult (Unit {0}) (λ xs. xs ≡ items) ⊥ ⊥ ⊥ old 3 needed buffer) (sym left)
     (little tt (items, refl, count, subst (λ xs. length old < length xs) same less))

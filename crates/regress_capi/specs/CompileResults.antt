@@ -22,6 +22,7 @@ limits_of l = record {
   nodes = or_default l.nodes default_options.nodes;
   instructions = or_default l.instructions default_options.instructions;
   linear_instructions = or_default l.linear_instructions default_options.linear_instructions;
+  memory = or_default l.memory default_options.memory;
 }
 
 -- The regular expression is compiled from this text, within these limits, and searches within them.

@@ -25,17 +25,20 @@ pub record IsListOf (P : List ℕ → Type 0) (expected : ℕ) (l : MatchList) :
   pub width : width l ≡ expected
 
 -- The status of a call that makes a list, and the handle before and after. `Asked` states that the arguments are valid, `P`
--- which numbers are listed, `expected` how many a match has, and `Costly` that the search may be out of steps.
-pub data ListResult (Asked : Type 0) (P : List ℕ → Type 0) (expected : ℕ) (Costly : Type 0) (old : Option MatchList) :
+-- which numbers are listed, `expected` how many a match has, `Costly` that the search may be out of steps, and `Large` that its
+-- tables take more memory than they may.
+pub data ListResult (Asked : Type 0) (P : List ℕ → Type 0) (expected : ℕ) (Costly Large : Type 0) (old : Option MatchList) :
     (status : ℕ) (new : Option MatchList) → Type 0 where
   -- the handle is that of the list
-  listed : {l : MatchList} → Asked → IsListOf P expected l → ListResult Asked P expected Costly old 0 (Some l)
+  listed : {l : MatchList} → Asked → IsListOf P expected l → ListResult Asked P expected Costly Large old 0 (Some l)
   -- an allocation failed
-  list_out_of_memory : Asked → ListResult Asked P expected Costly old 2 old
+  list_out_of_memory : Asked → ListResult Asked P expected Costly Large old 2 old
   -- the arguments are invalid
-  list_bad : (Asked → ⊥) → ListResult Asked P expected Costly old 4 old
+  list_bad : (Asked → ⊥) → ListResult Asked P expected Costly Large old 4 old
   -- the search takes more steps than allowed
-  list_out_of_steps : Asked → Costly → ListResult Asked P expected Costly old 7 old
+  list_out_of_steps : Asked → Costly → ListResult Asked P expected Costly Large old 7 old
+  -- the search needs more memory than allowed
+  list_too_much_memory : Asked → Large → ListResult Asked P expected Costly Large old 8 old
 
 -- The numbers of the next match are at the start of the buffer, and the list goes on after them.
 pub record IsReturned (old : MatchList) (spans : List ℕ) (needed : ℕ) (new : MatchList) (after : List ℕ) : Type 0 where

@@ -11,6 +11,7 @@ pub struct Limits {
     pub nodes: usize,
     pub instructions: usize,
     pub linear_instructions: usize,
+    pub memory: usize,
 }
 
 impl Limits {
@@ -28,6 +29,7 @@ impl Limits {
             nodes: or_default(self.nodes, default.nodes),
             instructions: or_default(self.instructions, default.instructions),
             linear_instructions: or_default(self.linear_instructions, default.linear_instructions),
+            memory: or_default(self.memory, default.memory),
         }
     }
 }

@@ -1,6 +1,7 @@
 //! The results of replacing matches by a template.
 ghost use Rattle.std.specs.Prelude.{◌≡◌, ◌≢◌, IsUtf8, MatchOption, MatchResult, string_bytes};
 ghost use Rattle.regress.specs.Costs.{AllAreTooCostly, IsTooCostly};
+ghost use Rattle.regress.specs.Memory.{TablesNeedMore};
 ghost use Rattle.regress_capi.specs.ReplaceResults.{HasAllReplaced, HasFirstReplaced, HasFirstsReplaced};
 ghost use Rattle.regress_capi.specs.SearchResults.{IsBare, SearchResult, status_of};
 ghost use Rattle.regress_capi.specs.TextResults.{PlainResult};
@@ -21,8 +22,8 @@ pub struct Replaced<'a> {
 /// Writes the text with its leftmost match replaced by the expansion of a template. Returns the status.
 ///
 /// # Errors
-/// The status is 2 if an allocation failed, 3 if `out` is too small, 4 if the text or the template is not UTF-8, and 7 if
-/// the search takes more steps than allowed.
+/// The status is 2 if an allocation failed, 3 if `out` is too small, 4 if the text or the template is not UTF-8, 7 if the
+/// search takes more steps than allowed, and 8 if it needs more memory than allowed.
 pub fn write_first_replaced(
     alloc: Global,
     regex: &Regex,
@@ -32,7 +33,7 @@ pub fn write_first_replaced(
 ) -> u32
     ensures status { SearchResult (IsUtf8 replaced.entry.text.now × IsUtf8 replaced.entry.template.now)
         (HasFirstReplaced regex.now replaced.entry.text.now replaced.entry.template.now) ⊥
-        (IsTooCostly regex.now replaced.entry.text.now 0) out.old result needed.new out.new }
+        (IsTooCostly regex.now replaced.entry.text.now 0) (TablesNeedMore regex.now replaced.entry.text.now) out.old result needed.new out.new }
 {
     *needed = 0;
     match decode(replaced.text, replaced.template) {
@@ -54,7 +55,7 @@ pub fn write_all_replaced(
 ) -> u32
     ensures status { SearchResult (IsUtf8 replaced.entry.text.now × IsUtf8 replaced.entry.template.now)
         (HasAllReplaced regex.now replaced.entry.text.now replaced.entry.template.now) ⊥
-        (AllAreTooCostly regex.now replaced.entry.text.now 0) out.old result needed.new out.new }
+        (AllAreTooCostly regex.now replaced.entry.text.now 0) (TablesNeedMore regex.now replaced.entry.text.now) out.old result needed.new out.new }
 {
     *needed = 0;
     match decode(replaced.text, replaced.template) {
@@ -92,7 +93,7 @@ pub fn write_replaced(
 ) -> Counted
     ensures status { SearchResult (IsUtf8 replaced.entry.text.now × IsUtf8 replaced.entry.template.now)
         (HasFirstsReplaced regex.now replaced.entry.text.now replaced.entry.template.now replaced.entry.limit result.count) ⊥
-        (AllAreTooCostly regex.now replaced.entry.text.now 0) out.old result.status result.needed out.new }
+        (AllAreTooCostly regex.now replaced.entry.text.now 0) (TablesNeedMore regex.now replaced.entry.text.now) out.old result.status result.needed out.new }
     ensures none { result.status ≢ 0 → result.status ≢ 3 → result.count ≡ 0 }
 {
     match decode(replaced.text, replaced.template) {

@@ -2,9 +2,10 @@
 ghost use Rattle.std.specs.Prelude.{◌≡◌, ◌++◌, ◌∷◌, [], IfErr, IfOk, IsUtf8, MatchOption, MatchResult, None};
 ghost use Rattle.regress.specs.Compiled.{groups_of, outcomes_of, match_of};
 ghost use Rattle.regress.specs.Costs.{AllAreTooCostly, IsTooCostly};
+ghost use Rattle.regress.specs.Memory.{TablesNeedMore};
 ghost use Rattle.regress.specs.Searched.{MatchesSomewhere};
 ghost use Rattle.regress.specs.Groups.{span_of};
-ghost use Rattle.regress.specs.declared.failure.SearchError.TheVariants.{OutOfSteps};
+ghost use Rattle.regress.specs.declared.failure.SearchError.TheVariants.{OutOfSteps, TooMuchMemory};
 ghost use Rattle.regress_capi.specs.ListResults.{width_of};
 ghost use Rattle.regress_capi.specs.SearchResults.{IsBare, SearchResult, TestResult, status_of};
 ghost use Rattle.regress_capi.specs.Spans.{AreEndsOfAll, AreEndsOfFirst, ends_of, match_ends};
@@ -20,6 +21,8 @@ pub(crate) const NO_MATCH: u32 = 1;
 
 const OUT_OF_STEPS: u32 = 7;
 
+const TOO_MUCH_MEMORY: u32 = 8;
+
 /// A text, and the byte offset from which it is searched.
 #[derive(Clone, Copy)]
 pub struct Searched<'a> {
@@ -31,7 +34,7 @@ pub struct Searched<'a> {
 ///
 /// # Errors
 /// The status is 1 if there is no match, 2 if an allocation failed, 3 if `spans` is too small, 4 if the text is not UTF-8,
-/// and 7 if the search takes more steps than allowed.
+/// 7 if the search takes more steps than allowed, and 8 if it needs more memory than allowed.
 pub fn write_first(
     alloc: Global,
     regex: &Regex,
@@ -42,7 +45,7 @@ pub fn write_first(
     ensures status { SearchResult (IsUtf8 searched.entry.text.now)
         (AreEndsOfFirst searched.entry.text.now (outcomes_of regex.now searched.entry.text.now) searched.entry.from)
         (Finds searched.entry.text.now (outcomes_of regex.now searched.entry.text.now) searched.entry.from None)
-        (IsTooCostly regex.now searched.entry.text.now searched.entry.from) spans.old result needed.new spans.new }
+        (IsTooCostly regex.now searched.entry.text.now searched.entry.from) (TablesNeedMore regex.now searched.entry.text.now) spans.old result needed.new spans.new }
 {
     *needed = 0;
     match str::from_utf8(searched.text) {
@@ -64,7 +67,7 @@ pub fn write_all(
 ) -> u32
     ensures status { SearchResult (IsUtf8 searched.entry.text.now)
         (AreEndsOfAll searched.entry.text.now (outcomes_of regex.now searched.entry.text.now) searched.entry.from) ⊥
-        (AllAreTooCostly regex.now searched.entry.text.now searched.entry.from) spans.old result needed.new spans.new }
+        (AllAreTooCostly regex.now searched.entry.text.now searched.entry.from) (TablesNeedMore regex.now searched.entry.text.now) spans.old result needed.new spans.new }
 {
     *needed = 0;
     match str::from_utf8(searched.text) {
@@ -76,11 +79,12 @@ pub fn write_all(
 /// Returns whether the pattern matches somewhere, as a status.
 ///
 /// # Errors
-/// The status is 1 if it does not match, 2 if an allocation failed, 4 if the text is not UTF-8, and 7 if the search takes
-/// more steps than allowed.
+/// The status is 1 if it does not match, 2 if an allocation failed, 4 if the text is not UTF-8, 7 if the search takes more
+/// steps than allowed, and 8 if it needs more memory than allowed.
 pub fn test(alloc: Global, regex: &Regex, text: &[u8]) -> u32
     ensures status { TestResult (IsUtf8 text.now) (MatchesSomewhere text.now (outcomes_of regex.now text.now))
-        (MatchesSomewhere text.now (outcomes_of regex.now text.now) → ⊥) (IsTooCostly regex.now text.now 0) result }
+        (MatchesSomewhere text.now (outcomes_of regex.now text.now) → ⊥) (IsTooCostly regex.now text.now 0)
+        (TablesNeedMore regex.now text.now) result }
 {
     match str::from_utf8(text) {
         Ok(text) => match regex.is_match(alloc, text) {
@@ -99,7 +103,7 @@ fn report(
     needed: &mut usize,
 ) -> u32
     ensures { MatchResult found (λ some. MatchOption some (IsBare 1 buffer.old result needed.new buffer.new) (λ items.
-        SearchResult (Unit {0}) (λ numbers. numbers ≡ items.items) ⊥ ⊥ buffer.old result needed.new buffer.new))
+        SearchResult (Unit {0}) (λ numbers. numbers ≡ items.items) ⊥ ⊥ ⊥ buffer.old result needed.new buffer.new))
         (λ error. IsBare (status_of error) buffer.old result needed.new buffer.new) }
 {
     *needed = 0;
@@ -117,12 +121,13 @@ pub(crate) fn error_status(error: SearchError) -> u32
     match error {
         SearchError::Memory => MEMORY,
         SearchError::OutOfSteps => OUT_OF_STEPS,
+        SearchError::TooMuchMemory => TOO_MUCH_MEMORY,
     }
 }
 
 /// Writes numbers and their count. Returns the status.
 fn give(items: &Vec<usize>, buffer: &mut [usize], needed: &mut usize) -> u32
-    ensures { SearchResult (Unit {0}) (λ numbers. numbers ≡ items.now.items) ⊥ ⊥ buffer.old result needed.new buffer.new }
+    ensures { SearchResult (Unit {0}) (λ numbers. numbers ≡ items.now.items) ⊥ ⊥ ⊥ buffer.old result needed.new buffer.new }
 {
     *needed = items.len();
     if copy_to(items, buffer) { OK } else { ROOM }
@@ -137,6 +142,7 @@ fn first_ends(
     ensures ends { IfOk result (λ some. MatchOption some (Finds text.now (outcomes_of regex.now text.now) from None) (λ ends.
         AreEndsOfFirst text.now (outcomes_of regex.now text.now) from ends.items)) }
     ensures failed { IfErr result (λ error. error ≡ OutOfSteps → IsTooCostly regex.now text.now from) }
+    ensures too_much { IfErr result (λ error. error ≡ TooMuchMemory → TablesNeedMore regex.now text.now) }
 {
     match regex.find_at(alloc, text, from)? {
         Some(found) => {
@@ -156,6 +162,7 @@ pub(crate) fn all_ends(
 ) -> Result<Option<Vec<usize>>, SearchError>
     ensures ends { IfOk result (λ some. MatchOption some ⊥ (λ ends. AreEndsOfAll text.now (outcomes_of regex.now text.now) from ends.items)) }
     ensures failed { IfErr result (λ error. error ≡ OutOfSteps → AllAreTooCostly regex.now text.now from) }
+    ensures too_much { IfErr result (λ error. error ≡ TooMuchMemory → TablesNeedMore regex.now text.now) }
 {
     let mut ends = Vec::new(alloc);
     for found in regex.find_from(alloc, text, from) {

@@ -1,7 +1,8 @@
 //! The list of the parts of a text that is split.
 ghost use Rattle.std.specs.Prelude.{◌≡◌, ◌∷◌, [], IfErr, IfOk, IsUtf8, flat_map};
 ghost use Rattle.regress.specs.Costs.{AllAreTooCostly};
-ghost use Rattle.regress.specs.declared.failure.SearchError.TheVariants.{OutOfSteps};
+ghost use Rattle.regress.specs.Memory.{TablesNeedMore};
+ghost use Rattle.regress.specs.declared.failure.SearchError.TheVariants.{OutOfSteps, TooMuchMemory};
 ghost use Rattle.regress_capi.specs.ListResults.{IsListOf, ListResult};
 ghost use Rattle.regress_capi.specs.PartResults.{AreEndsOfParts};
 ghost use Rattle.regress_capi.specs.Spans.{ends_of};
@@ -23,10 +24,11 @@ pub struct Split<'a> {
 /// Splits a text as `split` of ECMA-262, and writes the handle to the list of its parts. Returns the status.
 ///
 /// # Errors
-/// The status is 2 if an allocation failed, 4 if the text is not UTF-8, and 7 if the search takes more steps than allowed.
+/// The status is 2 if an allocation failed, 4 if the text is not UTF-8, 7 if the search takes more steps than allowed, and 8
+/// if it needs more memory than allowed.
 pub fn write_parts(alloc: Global, regex: &Regex, split: Split<'_>, handle: &mut ListHandle) -> u32
     ensures status { ListResult (IsUtf8 split.entry.text.now) (AreEndsOfParts regex.now split.entry.text.now split.entry.limit) 2
-        (AllAreTooCostly regex.now split.entry.text.now 0) handle.old.value result handle.new.value }
+        (AllAreTooCostly regex.now split.entry.text.now 0) (TablesNeedMore regex.now split.entry.text.now) handle.old.value result handle.new.value }
 {
     match str::from_utf8(split.text) {
         Ok(text) => match parts(alloc, regex, text, split.limit) {
@@ -49,6 +51,7 @@ fn parts(
 ) -> Result<Box<MatchList>, SearchError>
     ensures listed { IfOk result (λ list. IsListOf (AreEndsOfParts regex.now text.now limit) 2 list.value) }
     ensures failed { IfErr result (λ error. error ≡ OutOfSteps → AllAreTooCostly regex.now text.now 0) }
+    ensures too_much { IfErr result (λ error. error ≡ TooMuchMemory → TablesNeedMore regex.now text.now) }
 {
     let list = MatchList {
         ends: part_ends(alloc, regex, text, limit)?,
@@ -67,6 +70,7 @@ fn part_ends(
 ) -> Result<Vec<usize>, SearchError>
     ensures ends { IfOk result (λ ends. AreEndsOfParts regex.now text.now limit ends.items) }
     ensures failed { IfErr result (λ error. error ≡ OutOfSteps → AllAreTooCostly regex.now text.now 0) }
+    ensures too_much { IfErr result (λ error. error ≡ TooMuchMemory → TablesNeedMore regex.now text.now) }
 {
     let spans = regex.split_spans(alloc, text, Some(limit))?;
     Ok(all_ends(alloc, &spans)?)

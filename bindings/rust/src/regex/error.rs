@@ -74,6 +74,8 @@ pub enum SearchError {
     Memory,
     /// The search takes more steps than [`Options`](crate::Options) allow.
     OutOfSteps,
+    /// The search needs more memory than [`Options::memory`](crate::Options::memory) allows.
+    TooMuchMemory,
     /// The library returns what this crate does not know: it is of another version.
     Library,
 }
@@ -83,6 +85,9 @@ impl fmt::Display for SearchError {
         f.write_str(match self {
             SearchError::Memory => "out of memory",
             SearchError::OutOfSteps => "the search takes too many steps",
+            SearchError::TooMuchMemory => {
+                "the search needs more memory than the option memory allows"
+            }
             SearchError::Library => "the library is of another version",
         })
     }
@@ -130,6 +135,7 @@ pub(crate) fn search_error(status: u32) -> SearchError {
     match status {
         ffi::MEMORY => SearchError::Memory,
         ffi::OUT_OF_STEPS => SearchError::OutOfSteps,
+        ffi::TOO_MUCH_MEMORY => SearchError::TooMuchMemory,
         _ => SearchError::Library,
     }
 }

@@ -9,8 +9,9 @@ use std::fmt;
 use std::iter::FusedIterator;
 use std::str::FromStr;
 
-/// A regular expression whose searches take linear time ([`Regex::is_linear`]). They cannot be out of steps, so that no
-/// call returns a `Result`, as in the crate `regex`. An allocation that fails aborts, as elsewhere in `std`.
+/// A regular expression whose searches take linear time ([`Regex::is_linear`]). They cannot be out of steps, and have no
+/// limit of memory, so that no call returns a `Result`, as in the crate `regex`. An allocation that fails aborts, as
+/// elsewhere in `std`.
 ///
 /// ```
 /// use regress_front::{Error, LinearRegex, Nonlinear};
@@ -31,7 +32,7 @@ impl LinearRegex {
     /// # Errors
     /// Returns [`Error::Nonlinear`] if searches do not take linear time, and else as for [`Regex::with_options`].
     pub fn new(pattern: &str) -> Result<LinearRegex, Error> {
-        Regex::new(pattern)?.try_into()
+        LinearRegex::with_options(pattern, Flags::default(), Options::default())
     }
 
     /// Compiles a pattern with flags, as [`Regex::with_flags`].
@@ -39,10 +40,10 @@ impl LinearRegex {
     /// # Errors
     /// As for [`LinearRegex::new`], and [`Error::Flags`].
     pub fn with_flags(pattern: &str, flags: impl PatternFlags) -> Result<LinearRegex, Error> {
-        Regex::with_flags(pattern, flags)?.try_into()
+        LinearRegex::with_options(pattern, flags.flags()?, Options::default())
     }
 
-    /// Compiles a pattern with flags, within limits.
+    /// Compiles a pattern with flags, within limits. [`Options::memory`] does not apply.
     ///
     /// # Errors
     /// As for [`LinearRegex::new`].
@@ -51,7 +52,11 @@ impl LinearRegex {
         flags: Flags,
         options: Options,
     ) -> Result<LinearRegex, Error> {
-        Regex::with_options(pattern, flags, options)?.try_into()
+        let unlimited = Options {
+            memory: usize::MAX,
+            ..options
+        };
+        Regex::with_options(pattern, flags, unlimited)?.try_into()
     }
 
     /// Returns whether the pattern matches somewhere in `text`.
@@ -125,7 +130,8 @@ fn found<T>(result: Result<T, SearchError>) -> T {
     }
 }
 
-/// Returns [`Error::Nonlinear`] if searches do not take linear time.
+/// Returns [`Error::Nonlinear`] if searches do not take linear time. A search that needs more memory than
+/// [`Options::memory`] of the [`Regex`] allows panics.
 impl TryFrom<Regex> for LinearRegex {
     type Error = Error;
 

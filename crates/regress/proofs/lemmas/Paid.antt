@@ -1,4 +1,4 @@
--- The steps of a repeated search are at most what its searches cost.
+-- The steps of a repeated search are at most what its searches cost, and its errors are those of its searches.
 use Rattle.std.proofs.Common.{◌≡◌, ◌∙◌, ℕ, ◌+◌, ◌-◌, ◌≤◌, List, [], ◌∷◌, ◌++◌, Some, None, IfNone, arith, subst, sym, ap}
 use Rattle.std.specs.Prelude.{Err, Ok}
 use Rattle.regress_program.specs.Cost.{Cost}
@@ -8,13 +8,15 @@ use Rattle.regress_found.specs.declared.found.Match as matcher
 use Rattle.regress_match.specs.AllCosts.{matches_cost}
 use Rattle.regress_match.specs.Costs.{AreCosts, IsWithinFindCost}
 use Rattle.regress_match.specs.Matcher as program
+use Rattle.regress_match.specs.Memory as memory
 use Rattle.regress_match.proofs.lemmas.Costs.{has_costs}
 use Rattle.regress_match.proofs.lemmas.Matches.{matches_cost-more}
 use Rattle.regress.specs.Compiled.{outcomes_of, match_of}
 use Rattle.regress.specs.Costs.{AllAreTooCostly, factor_of, limit_of, matcher_of}
+use Rattle.regress.specs.Memory.{TablesNeedMore}
 use Rattle.regress.specs.Searched.{Advances, next_from, search_limit, search_remaining, searched_matcher, searched_text}
 use Rattle.regress.specs.declared.failure.SearchError.{SearchError}
-use Rattle.regress.specs.declared.failure.SearchError.TheVariants.{OutOfSteps}
+use Rattle.regress.specs.declared.failure.SearchError.TheVariants.{OutOfSteps, TooMuchMemory}
 use Rattle.regress.specs.declared.found.Match.{Match}
 use Rattle.regress.specs.declared.pattern.Regex.{Regex}
 use Rattle.regress.specs.declared.search.Matches.{Matches}
@@ -60,7 +62,7 @@ module _ (r : Regex) (text : List ℕ) (from : ℕ) (now : Matches) (ms : List m
   -- a search that is out of steps
   pub out_of_steps : (new : Matches) (e : SearchError) → Advances now (Some (Err e)) new → e ≡ OutOfSteps → AllAreTooCostly r text from
   out_of_steps new e step is =
-      let late = step.yields.1 is in
+      let late = step.yields.1.steps is in
       let none : factor_of r ≡ None = sym (ap program.factor_of so_far.same_matcher) ∙ late.linear in
       let limit : search_limit now ≡ limit_of r = subst (λ o. IfNone o (search_limit now ≡ limit_of r)) none so_far.limit in
       record {
@@ -76,3 +78,9 @@ module _ (r : Regex) (text : List ℕ) (from : ℕ) (now : Matches) (ms : List m
               omega (arith, before, next, limit);
         };
       }
+
+  -- a search that needs too much memory
+  pub too_much_memory : (new : Matches) (e : SearchError) → Advances now (Some (Err e)) new → e ≡ TooMuchMemory → TablesNeedMore r text
+  too_much_memory new e step is =
+      subst (λ m. memory.TablesNeedMore m text) so_far.same_matcher
+      (subst (memory.TablesNeedMore (searched_matcher now)) so_far.same_text (step.yields.1.memory is))

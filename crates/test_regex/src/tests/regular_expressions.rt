@@ -279,6 +279,41 @@ fn steps_until_end(alloc: Global, regex: &Regex, text: &str) -> Option<u64> {
     }
 }
 
+/// For this text the tables of `(a*)*b` take between 400 and 1,000 bytes.
+#[test]
+fn tables_have_a_limit_of_memory(rt: HostRuntime) -> Result<(), Fail> {
+    let alloc = rt.alloc();
+    let small = within_memory(alloc, 400)?;
+    assert!(rt; matches!(small.find(alloc, MANY), Err(SearchError::TooMuchMemory)));
+    assert!(rt; matches!(small.is_match(alloc, MANY), Err(SearchError::TooMuchMemory)));
+    assert!(rt; matches!(small.find_all(alloc, MANY), Err(SearchError::TooMuchMemory)));
+    assert!(rt;
+        matches!(
+            small.replace_all(alloc, MANY, ""),
+            Err(SearchError::TooMuchMemory)
+        )
+    );
+    assert!(rt; matches!(small.split(alloc, MANY), Err(SearchError::TooMuchMemory)));
+    let mut matches = small.find_iter(alloc, MANY);
+    assert!(rt; matches!(matches.next(), Some(Err(SearchError::TooMuchMemory))));
+    assert!(rt; matches.next().is_none());
+    expect_eq!(rt; small.is_match(alloc, "aab")?, true);
+    let large = within_memory(alloc, 1000)?;
+    expect_eq!(rt; large.is_match(alloc, MANY)?, false);
+    expect_eq!(rt; Options::default().memory, 256 << 20);
+    Ok(())
+}
+
+/// Compiles `(a*)*b` for searches with tables of at most `memory` bytes.
+fn within_memory(alloc: Global, memory: usize) -> Result<Regex, Fail> {
+    let options = Options {
+        memory,
+        ..Options::default()
+    };
+    let small = Arc::new(alloc, Tables::small(alloc)?)?;
+    Ok(Regex::with_options(alloc, "(a*)*b", Flags::default(), options, &small)?)
+}
+
 /// A text on which nested loops backtrack exponentially.
 const MANY: &str = "aaaaaaaaaaaaaaaaaaaaaaaaaaaaaaaaaaaaaaaaaaaa";
 

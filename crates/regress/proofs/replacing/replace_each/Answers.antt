@@ -4,7 +4,7 @@ use Rattle.std.proofs.lemmas.Result.{err_from_is_err_and}
 use Rattle.std.specs.Fn.{CalledAt}
 use Rattle.std.specs.Prelude.{Err}
 use Rattle.std.proofs.lemmas.Str.{IsCharBoundary-start}
-use Rattle.regress.proofs.ReplacedLemmas.{all_replaced, next_end, next_start, none_replaced, one_replaced}
+use Rattle.regress.proofs.ReplacedLemmas.{all_replaced, has_returned, next_end, next_start, none_replaced, one_replaced}
 use Rattle.regress.proofs.replacing.replace_each.Goals as goal
 
 pub loop-found-init : goal.loop-found-init
@@ -38,16 +38,18 @@ loop-found-preserved g c = record {
 pub returns-in_err-replacement-clause-failed : goal.returns-in_err-replacement-clause-failed
 returns-in_err-replacement-clause-failed g c =
     let p = err_from_is_err_and c.from_residual-in_err-replacement.result c.from_residual-in_err-replacement.ensures.1 in
-    let so_far = c.loop-found.invariant.replaced in
-    rw p.1 (λ is. record {
-      calls = so_far.calls;
-      before = c.loop-found.replacer;
-      called = so_far.called;
-      last = c.found-item.result;
-      after = c.replacer.new.self;
-      returned = subst (λ e. CalledAt g.F.FnMut c.loop-found.replacer c.found-item.result (Err e) c.replacer.new.self) (sym p.2)
-          (called_at g.F.FnMut c.replacer.ensures c.in_err-replacement.was);
-    })
+    rw p.1 (λ _. has_returned g.F.FnMut c.args.text.now c.args.matches.now c.args.replacer c.loop-found.replacer c.loop-found.found-index
+    c.loop-found.from (string_bytes c.loop-found.out) c.loop-found.invariant.replaced c.found-item.result _ c.replacer.new.self
+    (subst (λ e. CalledAt g.F.FnMut c.loop-found.replacer c.found-item.result (Err e) c.replacer.new.self) (sym p.2)
+    (called_at g.F.FnMut c.replacer.ensures c.in_err-replacement.was)))
+
+pub returns-in_err-replacement-clause-too_much : goal.returns-in_err-replacement-clause-too_much
+returns-in_err-replacement-clause-too_much g c =
+    let p = err_from_is_err_and c.from_residual-in_err-replacement.result c.from_residual-in_err-replacement.ensures.1 in
+    rw p.1 (λ _. has_returned g.F.FnMut c.args.text.now c.args.matches.now c.args.replacer c.loop-found.replacer c.loop-found.found-index
+    c.loop-found.from (string_bytes c.loop-found.out) c.loop-found.invariant.replaced c.found-item.result _ c.replacer.new.self
+    (subst (λ e. CalledAt g.F.FnMut c.loop-found.replacer c.found-item.result (Err e) c.replacer.new.self) (sym p.2)
+    (called_at g.F.FnMut c.replacer.ensures c.in_err-replacement.was)))
 
 pub returns-clause-replaced : goal.returns-clause-replaced
 returns-clause-replaced g c =

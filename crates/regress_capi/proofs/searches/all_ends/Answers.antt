@@ -1,7 +1,7 @@
 use Rattle.std.proofs.Common.{Some, subst, sym, ◌∙◌}
 use Rattle.std.proofs.lemmas.Result.{err_from_is_err_and}
 use Rattle.regress.specs.Searched.{Advances}
-use Rattle.regress_capi.proofs.SearchLemmas.{HasEnds, all-ends, ends-late, more-ends, no-ends}
+use Rattle.regress_capi.proofs.SearchLemmas.{HasEnds, all-ends, ends-large, ends-late, more-ends, no-ends}
 use Rattle.regress_capi.proofs.searches.all_ends.Goals as goal
 
 pub loop-found-init : goal.loop-found-init
@@ -29,4 +29,12 @@ returns-in_err-found-clause-failed c =
     let now = c.loop-found.found-iterator in
     let new = c.next.new.self in
     rw p.1 (λ is. ends-late c.args.regex.now c.args.text.now c.args.from now c.loop-found.ends.items c.loop-found.invariant new _
+    (subst (λ r. Advances now (Some r) new) c.in_err-found.was c.in-Some.ensures.steps) (sym p.2 ∙ is))
+
+pub returns-in_err-found-clause-too_much : goal.returns-in_err-found-clause-too_much
+returns-in_err-found-clause-too_much c =
+    let p = err_from_is_err_and c.from_residual.result c.from_residual.ensures.1 in
+    let now = c.loop-found.found-iterator in
+    let new = c.next.new.self in
+    rw p.1 (λ is. ends-large c.args.regex.now c.args.text.now c.args.from now c.loop-found.ends.items c.loop-found.invariant new _
     (subst (λ r. Advances now (Some r) new) c.in_err-found.was c.in-Some.ensures.steps) (sym p.2 ∙ is))

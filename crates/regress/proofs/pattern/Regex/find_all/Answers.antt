@@ -5,7 +5,7 @@ use Rattle.regress.specs.Costs.{factor_of}
 use Rattle.regress.specs.Compiled.{groups_of, outcomes_of, match_of}
 use Rattle.regress.specs.Searched.{Advances}
 use Rattle.regress.proofs.FoundLemmas.{HasFoundWith, all_found, begins_with, inside_each, one_more_with}
-use Rattle.regress.proofs.lemmas.Paid.{HasPaid, none_paid, one_more_paid, out_of_steps}
+use Rattle.regress.proofs.lemmas.Paid.{HasPaid, none_paid, one_more_paid, out_of_steps, too_much_memory}
 use Rattle.regress.proofs.pattern.Regex.find_all.Goals as goal
 
 pub loop-found-init : goal.loop-found-init
@@ -51,6 +51,15 @@ returns-in_err-found-clause-costs c =
     let new = c.next.new.self in
     rw p.1 (λ is. (out_of_steps c.args.self.now c.args.text.now 0 now (map match_of c.loop-found.all.items) so_far.paid so_far.has.found.found new _
     (subst (λ r. Advances now (Some r) new) c.in_err-found.was c.in-Some.ensures.steps) (sym p.2 ∙ is)).costs)
+
+pub returns-in_err-found-clause-too_much : goal.returns-in_err-found-clause-too_much
+returns-in_err-found-clause-too_much c =
+    let p = err_from_is_err_and c.from_residual.result c.from_residual.ensures.1 in
+    let so_far = c.loop-found.invariant in
+    let now = c.loop-found.found-iterator in
+    let new = c.next.new.self in
+    rw p.1 (λ is. too_much_memory c.args.self.now c.args.text.now 0 now (map match_of c.loop-found.all.items) so_far.paid so_far.has.found.found new _
+    (subst (λ r. Advances now (Some r) new) c.in_err-found.was c.in-Some.ensures.steps) (sym p.2 ∙ is))
 
 pub returns-clause-all : goal.returns-clause-all
 returns-clause-all c =

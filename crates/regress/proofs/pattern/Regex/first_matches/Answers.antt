@@ -3,7 +3,7 @@ use Rattle.std.proofs.lemmas.Result.{err_from_is_err_and}
 use Rattle.regress.specs.Compiled.{outcomes_of}
 use Rattle.regress.specs.Searched.{Advances}
 use Rattle.regress.proofs.FoundLemmas.{HasFound, fewer_found, in_order, one_more}
-use Rattle.regress.proofs.lemmas.Paid.{HasPaid, one_more_paid, out_of_steps}
+use Rattle.regress.proofs.lemmas.Paid.{HasPaid, one_more_paid, out_of_steps, too_much_memory}
 use Rattle.regress.proofs.pattern.Regex.first_matches.Goals as goal
 
 pub loop-matches-preserved : goal.loop-matches-preserved
@@ -31,6 +31,15 @@ returns-in_err-found-in-Some-clause-costs c =
     let new = c.next.new.self in
     rw p.1 (λ is. (out_of_steps c.args.self.now c.args.text.now 0 now c.loop-matches.first.items so_far.paid so_far.found.found new _
     (subst (λ r. Advances now (Some r) new) c.in_err-found-in-Some.was c.in-Some.ensures.steps) (sym p.2 ∙ is)).costs)
+
+pub returns-in_err-found-in-Some-clause-too_much : goal.returns-in_err-found-in-Some-clause-too_much
+returns-in_err-found-in-Some-clause-too_much c =
+    let p = err_from_is_err_and c.from_residual.result c.from_residual.ensures.1 in
+    let so_far = c.loop-matches.invariant in
+    let now = c.loop-matches.matches in
+    let new = c.next.new.self in
+    rw p.1 (λ is. too_much_memory c.args.self.now c.args.text.now 0 now c.loop-matches.first.items so_far.paid so_far.found.found new _
+    (subst (λ r. Advances now (Some r) new) c.in_err-found-in-Some.was c.in-Some.ensures.steps) (sym p.2 ∙ is))
 
 pub returns-in-None-clause-first : goal.returns-in-None-clause-first
 returns-in-None-clause-first c =

@@ -1,0 +1,16 @@
+-- The memory of searches with a compiled regular expression.
+use Rattle.std.specs.Prelude.{ℕ, List}
+use Rattle.regress_match.specs.Memory as matcher
+use Rattle.regress.specs.declared.pattern.Regex.{Regex}
+
+-- the number of bytes that the tables of a search may take
+abbrev pub memory_of : Regex → ℕ
+memory_of r = matcher.memory_of r.matcher
+
+-- the number of instructions of its program
+abbrev pub instructions_of : Regex → ℕ
+instructions_of r = matcher.instructions_of r.matcher
+
+-- The tables of a search in the text take more memory than they may.
+abbrev pub TablesNeedMore : Regex → (text : List ℕ) → Type 0
+TablesNeedMore r text = matcher.TablesNeedMore r.matcher text
