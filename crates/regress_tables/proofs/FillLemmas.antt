@@ -12,11 +12,10 @@ use Rattle.regress_program.specs.Program.{Out, Routine, Op, outcomes_by, outcome
 use Rattle.regress_program.specs.Tidy.{has_no_back_reference}
 use Rattle.regress_program.specs.Shape.{Fits}
 use Rattle.regress_code.specs.Code.{code_routines}
-use Rattle.regress_tables.specs.Bits.{bits_of}
 use Rattle.regress_tables.specs.declared.table.Table.{Table}
 use Rattle.regress_tables.specs.declared.evaluate.Input.{Input}
 use Rattle.regress_tables.specs.Evaluated.{CanEvaluate, CanFill}
-use Rattle.regress_tables.specs.Table.{has_outcome, Tells, TellsOf, index, cell, IsRight, IsNext, SameShape, IsTableOf, IsFull, AreTables, AreRight}
+use Rattle.regress_tables.specs.Table.{has_outcome, Tells, TellsOf, evaluated, index, cell, IsRight, IsNext, SameShape, IsTableOf, IsFull, AreTables, AreRight}
 use Rattle.regress_program.proofs.lemmas.Instructions.{no_reference-at}
 use Rattle.regress_program.proofs.lemmas.Places.{column-less}
 
@@ -58,25 +57,25 @@ same-state t pc pc' moved moved' p q lt lt' le le' e =
 
 -- the bit of the next state is added
 pub push_right : (out : Out) (t t' : Table) (pc : ℕ) (moved : Bool) (position : ℕ) (bit : Bool) → IsRight out t → IsNext t pc moved position →
-    Tells out pc moved position bit → (bits_of t'.bits) ≡ (bits_of t.bits) ++ bit ∷ [] → SameShape t t' → IsRight out t'
+    Tells out pc moved position bit → (evaluated t') ≡ (evaluated t) ++ bit ∷ [] → SameShape t t' → IsRight out t'
 unfolding cell
 push_right out t t' pc moved position bit right next tells bits same = record {
   tells = λ pc' moved' q lt le within. by pc' moved' q (omega (arith, lt, same.width)) (omega (arith, le, same.length))
-      (omega (arith, within, same-index t t' pc' moved' q same, ap length bits, length-append (bits_of t.bits) (bit ∷ [])));
+      (omega (arith, within, same-index t t' pc' moved' q same, ap length bits, length-append (evaluated t) (bit ∷ [])));
 }
   where
-    by : (pc' : ℕ) (moved' : Bool) (q : ℕ) → pc' < t.width → q ≤ t.length → index t pc' moved' q < length (bits_of t.bits) + 1 →
-        Tells out pc' moved' q (get_or (bits_of t'.bits) (index t' pc' moved' q) false)
+    by : (pc' : ℕ) (moved' : Bool) (q : ℕ) → pc' < t.width → q ≤ t.length → index t pc' moved' q < length (evaluated t) + 1 →
+        Tells out pc' moved' q (get_or (evaluated t') (index t' pc' moved' q) false)
     by pc' moved' q lt le within =
-        let reads : get_or (bits_of t'.bits) (index t' pc' moved' q) false ≡ get_or ((bits_of t.bits) ++ bit ∷ []) (index t pc' moved' q) false =
+        let reads : get_or (evaluated t') (index t' pc' moved' q) false ≡ get_or ((evaluated t) ++ bit ∷ []) (index t pc' moved' q) false =
         ap₂ (λ xs i. get_or xs i false) bits (same-index t t' pc' moved' q same) in
-        elim (cases_eq (index t pc' moved' q) (length (bits_of t.bits))) [
+        elim (cases_eq (index t pc' moved' q) (length (evaluated t))) [
           | inl last ↦
               let is = same-state t pc' pc moved' moved q position lt next.pc_in le next.position_in (last ∙ sym next.at) in
-              λ a e m p. tells a (e ∙ is.0) (m ∙ is.1) (p ∙ is.2) ∙ sym (reads ∙ get_or_push (bits_of t.bits) bit false _ (sym last))
+              λ a e m p. tells a (e ∙ is.0) (m ∙ is.1) (p ∙ is.2) ∙ sym (reads ∙ get_or_push (evaluated t) bit false _ (sym last))
           | inr before ↦
-              let lower : index t pc' moved' q < length (bits_of t.bits) = omega (arith, within, before) in
-              λ a e m p. right.tells pc' moved' q lt le lower a e m p ∙ sym (reads ∙ get_or-append (bits_of t.bits) (bit ∷ []) false _ lower)
+              let lower : index t pc' moved' q < length (evaluated t) = omega (arith, within, before) in
+              λ a e m p. right.tells pc' moved' q lt le lower a e m p ∙ sym (reads ∙ get_or-append (evaluated t) (bit ∷ []) false _ lower)
         ]
 
 -- An instruction's bit is that of its outcomes.
@@ -91,7 +90,7 @@ evaluated_tells setting bytes program outs i r op d pc moved position bit soluti
     ∙ tells a m p
 
 module _ (input : Input) (r : Routine) (t t' : Table) (pc : ℕ) (moved : Bool) (position : ℕ) (can : CanFill input r t) (within : position ≤ t.length)
-    (at : index t 0 moved position ≡ length (bits_of t.bits)) (same : SameShape t t') (more : length (bits_of t'.bits) ≡ length (bits_of t.bits) + pc)
+    (at : index t 0 moved position ≡ length (evaluated t)) (same : SameShape t t') (more : length (evaluated t') ≡ length (evaluated t) + pc)
     (lt : pc < length r.ops) where
   -- the next state to evaluate
   pub is_next : IsNext t' pc moved position

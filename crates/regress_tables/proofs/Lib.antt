@@ -1,6 +1,5 @@
 mod BitLemmas
 mod CleanLemmas
-mod CopyLemmas
 mod EvaluateLemmas
 mod FillLemmas
 mod FirstLemmas

@@ -2,7 +2,8 @@
 use Rattle.std.proofs.Common.{zero, suc, ◌≡◌, ◌≢◌, ℕ, ◌+◌, ◌-◌, ◌*◌, ◌≤◌, ◌<◌, ◌⊎◌, Bool, true, false, List, [], ◌∷◌, ◌++◌, length, slice_get, get_or, take, drop, Option, Some, None, IfSome, refl, sym, ap, ap₂, ◌∙◌, subst, inl, inr, arith, if◌then◌else◌, length-append}
 use Rattle.std.proofs.Math.ListN.{get_or-append}
 use Rattle.std.proofs.lemmas.Bool.{cases_eq, cases_lt}
-use Rattle.std.proofs.lemmas.List.{drop_more, get_or-append-add, get_or-take, get_or-drop, get_or_push, length-drop, length-take-le}
+use Rattle.std.proofs.lemmas.List.{append-nil, drop_more, get_or_push}
+use Rattle.std.proofs.Math.Seq.{take-append-add}
 use Rattle.std.proofs.lemmas.Option.{none-some, same_Some, slice_get_within}
 use Rattle.std.proofs.Math.Nat.{mul-le-mul_right}
 use Rattle.regress_prefilter.specs.OneCharacter.{takes_one, test_of}
@@ -30,10 +31,11 @@ use Rattle.regress_tables.specs.Memo.{Covers, HasKey, IsEntry, IsKept, IsKnown, 
 use Rattle.regress_tables.specs.Probes.{CanProbe, Coded, IsProbe, Leads, digit, jumps_if}
 use Rattle.regress_program.specs.Tidy.{has_no_back_reference}
 use Rattle.regress_program.proofs.lemmas.Instructions.{no_reference-at}
-use Rattle.regress_tables.specs.Table.{AreRight, IsRight, SameShape, Tells, cell, index}
-use Rattle.regress_tables.proofs.FillLemmas.{same-index, same-row}
+use Rattle.regress_tables.specs.Table.{AreRight, Grows, IsRight, SameShape, Tells, cell, evaluated, index, number_of, row_bits}
+use Rattle.regress_tables.proofs.BitLemmas.{bits-len}
+use Rattle.regress_tables.proofs.FillLemmas.{SameShape-trans, same-index, same-row}
 use Rattle.regress_tables.proofs.ProbeLemmas.{equal_rows, part_fails, part_jumps}
-use Rattle.regress_tables.proofs.RowLemmas.{row-filled}
+use Rattle.regress_tables.proofs.RowLemmas.{all-numbered, cell-number, length-evaluated, length-row, next-row, row-stored}
 
 -- ---- digits
 
@@ -122,7 +124,7 @@ represents-same input outs r t far x y row key solution can covers there here is
     let i = length input.tables.now in
     let body_of = matcher_of u.setting u.bytes program outs in
     record {
-      filled = is.filled;
+      stored = is.stored;
       tells = λ pc moved lt.
           equal_rows u.setting u.bytes program outs i r u.direction (take i program) solution can.is
           (sym can.of.direction ∙ ap direction_if can.backwards) (input.code.now.program.is_program i r can.is).fit x y here.inside there.inside (row_bit t row)
@@ -146,17 +148,17 @@ module _ (t t' : Table) (extra : List Bool) (bits : bits_of t'.bits ≡ bits_of 
   more : length (bits_of t'.bits) ≡ length (bits_of t.bits) + length extra
   more = ap length bits ∙ length-append (bits_of t.bits) extra
 
-  row_bit-more : (row pc : ℕ) (moved : Bool) → (row + 1) * (2 * t.width) ≤ length (bits_of t.bits) → pc < t.width → row_bit t' row pc moved ≡ row_bit t row pc moved
-  row_bit-more row pc moved filled lt =
-      ap₂ (λ xs w. get_or xs (row * (2 * w) + column w moved pc) false) bits same.width
-      ∙ get_or-append (bits_of t.bits) extra false _ (omega (arith, filled, column-less t.width pc moved lt))
+  row_bit-more : (number pc : ℕ) (moved : Bool) → (number + 1) * (2 * t.width) ≤ length (bits_of t.bits) → pc < t.width → row_bit t' number pc moved ≡ row_bit t number pc moved
+  row_bit-more number pc moved stored lt =
+      ap₂ (λ xs w. get_or xs (number * (2 * w) + column w moved pc) false) bits same.width
+      ∙ get_or-append (bits_of t.bits) extra false _ (omega (arith, stored, column-less t.width pc moved lt))
 
-  pub represents-more : (out : Out) (row x : ℕ) → Represents out t row x → Represents out t' row x
-  represents-more out row x is = record {
-    filled = subst (λ w. (row + 1) * (2 * w) ≤ length (bits_of t'.bits)) (sym same.width) (omega (arith, is.filled, more));
+  pub represents-more : (out : Out) (number x : ℕ) → Represents out t number x → Represents out t' number x
+  represents-more out number x is = record {
+    stored = subst (λ w. (number + 1) * (2 * w) ≤ length (bits_of t'.bits)) (sym same.width) (omega (arith, is.stored, more));
     tells = λ pc moved lt a e m p.
         let lt' : pc < t.width = omega (arith, lt, same.width) in
-        is.tells pc moved lt' a e m p ∙ sym (row_bit-more row pc moved is.filled lt');
+        is.tells pc moved lt' a e m p ∙ sym (row_bit-more number pc moved is.stored lt');
   }
 
   symbol-more : (out : Out) (x from symbol : ℕ) (read : Option Read) → IsSymbol out t x from symbol read → IsSymbol out t' x from symbol read
@@ -177,167 +179,104 @@ module _ (t t' : Table) (extra : List Bool) (bits : bits_of t'.bits ≡ bits_of 
     row = represents-more (outs (length input.tables.now)) entry.row is.position is.row;
   }
 
--- the cells of a position are the bits of its row
-pub cell-row : (t : Table) (row x pc : ℕ) (moved : Bool) → row_of (direction_if t.backwards) t.length x ≡ row → cell t pc moved x ≡ row_bit t row pc moved
-unfolding cell place
-cell-row t row x pc moved is = ap (λ k. get_or (bits_of t.bits) (k * (2 * t.width) + column t.width moved pc) false) is
+  -- What is known, after more bits, where the new entries have the key of a position and a row that represents it.
+  pub known-next : (input : Input) (r : Routine) (memo memo' : Memo) (x : ℕ) → IsKnown input r t memo → memo'.far.items ≡ memo.far.items →
+      ((outs : ℕ → Out) → IsSolution (subject input.rules input.text.now).setting input.text.now (code_routines input.code.now) outs →
+      AreRight outs input.tables.now → Knows input outs r.ops t memo → IsRight (outs (length input.tables.now)) t'
+      × ((k : ℕ) (e : Entry) → slice_get memo'.slots.items k ≡ Some (Some e) → (slice_get memo.slots.items k ≡ Some (Some e))
+      ⊎ (Represents (outs (length input.tables.now)) t' e.row x × HasKey input outs r.ops t memo.far.items x e.key))) →
+      IsKnown input r t' memo'
+  known-next input r memo memo' x known far_is each = record {
+    covers = subst (Covers r.ops) (sym far_is) known.covers;
+    knows = λ outs solution right.
+        let knows = known.knows outs solution right in
+        let next = each outs solution right knows in
+        record {
+          right = next.0;
+          entries = λ k e is_e. subst (λ far. IsEntry input outs r.ops t' far e) (sym far_is) (elim (next.1 k e is_e) [
+            | inl old ↦ entry-more input outs r.ops memo.far.items e (knows.entries k e old)
+            | inr new ↦ record { position = x; has = has-more input outs r.ops memo.far.items x e.key new.1; row = new.0 }
+          ]);
+        };
+  }
 
 index-row : (t : Table) (row x pc : ℕ) (moved : Bool) → row_of (direction_if t.backwards) t.length x ≡ row → index t pc moved x ≡ row * (2 * t.width) + column t.width moved pc
 unfolding place
 index-row t row x pc moved is = ap (λ k. k * (2 * t.width) + column t.width moved pc) is
 
--- The row that was filled last represents its position.
-pub last-represents : (out : Out) (t : Table) (row x : ℕ) → IsRight out t → row_of (direction_if t.backwards) t.length x ≡ row → x ≤ t.length →
-    (row + 1) * (2 * t.width) ≤ length (bits_of t.bits) → Represents out t row x
-last-represents out t row x right is within filled = record {
-  filled = filled;
+-- A row with a number represents its position.
+pub represented : (out : Out) (t : Table) (row x : ℕ) → IsRight out t → row_of (direction_if t.backwards) t.length x ≡ row → x ≤ t.length →
+    row < length t.rows.items → Represents out t (number_of t row) x
+represented out t row x right is within numbered = record {
+  stored = row-stored t (number_of t row) (t.numbers row (t.distinct + (row - length t.rows.items)) numbered);
   tells = λ pc moved lt a e m p.
-      right.tells pc moved x lt within (omega (arith, index-row t row x pc moved is, column-less t.width pc moved lt, filled)) a e m p
-      ∙ cell-row t row x pc moved is;
-}
-
--- an equal row represents the same position
-pub represents-equal : (out : Out) (t : Table) (row row' x : ℕ) → Represents out t row x → row' ≤ row →
-    ((pc : ℕ) (moved : Bool) → pc < t.width → row_bit t row' pc moved ≡ row_bit t row pc moved) → Represents out t row' x
-represents-equal out t row row' x is le same = record {
-  filled = let h : (row' + 1) * (2 * t.width) ≤ (row + 1) * (2 * t.width) = mul-le-mul_right (2 * t.width) (let k : row' + 1 ≤ row + 1 = omega (arith, le) in k) in omega (arith, h, is.filled);
-  tells = λ pc moved lt a e m p. is.tells pc moved lt a e m p ∙ sym (same pc moved lt);
+      let rows : (row + 1) * (2 * t.width) ≤ length t.rows.items * (2 * t.width) = mul-le-mul_right (2 * t.width) (let h : row + 1 ≤ length t.rows.items = omega (arith, numbered) in h) in
+      right.tells pc moved x lt within
+      (omega (arith, index-row t row x pc moved is, column-less t.width pc moved lt, rows, length-evaluated t, t.filled, bits-len t.bits)) a e m p
+      ∙ cell-number t pc moved x lt ∙ ap (λ k. row_bit t (number_of t k) pc moved) is;
 }
 
 same-row_of : (t t' : Table) (x : ℕ) → SameShape t t' → row_of (direction_if t'.backwards) t'.length x ≡ row_of (direction_if t.backwards) t.length x
 same-row_of t t' x same = ap₂ (λ b n. row_of (direction_if b) n x) same.backwards same.length
 
-cell-kept : (t t' : Table) (extra : List Bool) (pc : ℕ) (moved : Bool) (q : ℕ) → bits_of t'.bits ≡ bits_of t.bits ++ extra → SameShape t t' →
-    index t pc moved q < length (bits_of t.bits) → cell t' pc moved q ≡ cell t pc moved q
+cell-kept : (t t' : Table) (extra : List Bool) (pc : ℕ) (moved : Bool) (q : ℕ) → evaluated t' ≡ evaluated t ++ extra → SameShape t t' →
+    index t pc moved q < length (evaluated t) → cell t' pc moved q ≡ cell t pc moved q
 unfolding cell
 cell-kept t t' extra pc moved q bits same lower =
-    ap₂ (λ xs k. get_or xs k false) bits (same-index t t' pc moved q same) ∙ get_or-append (bits_of t.bits) extra false _ lower
+    ap₂ (λ xs k. get_or xs k false) bits (same-index t t' pc moved q same) ∙ get_or-append (evaluated t) extra false _ lower
 
-module _ (t t' : Table) (extra : List Bool) (bits : bits_of t'.bits ≡ bits_of t.bits ++ extra) (same : SameShape t t') (row x : ℕ)
-    (at : row_of (direction_if t.backwards) t.length x ≡ row) (within : x ≤ t.length) where
-  -- The table stays right where a row is added that represents the next position.
-  pub right-next : (out : Out) → length (bits_of t.bits) ≡ row * (2 * t.width) → length (bits_of t'.bits) ≡ (row + 1) * (2 * t'.width) →
-      IsRight out t → Represents out t' row x → IsRight out t'
-  right-next out before after right is = record { tells = tells }
-    where
-      earlier : (a b w c : ℕ) → a * w + c < (b + 1) * w → c < w → a ≢ b → a < b
-      earlier a b w c lt small apart =
-          elim (cases_lt b a) [
-            | inl over ↦ absurd (omega (arith, lt, mul-le-mul_right w (let h : b + 1 ≤ a = omega (arith, over) in h)))
-            | inr less ↦ omega (arith, less, apart)
-          ]
+-- The table stays right where the number of a row is added that represents the next position.
+right-next : (out : Out) (t t' : Table) (extra : List Bool) (row x : ℕ) → evaluated t' ≡ evaluated t ++ extra → SameShape t t' →
+    row_of (direction_if t.backwards) t.length x ≡ row → x ≤ t.length → length (evaluated t) ≡ row * (2 * t.width) → length extra ≡ 2 * t.width →
+    IsRight out t → Represents out t' (number_of t' row) x → IsRight out t'
+right-next out t t' extra row x bits same at within before long right is = record { tells = tells }
+  where
+    earlier : (a b w c : ℕ) → a * w + c < (b + 1) * w → c < w → a ≢ b → a < b
+    earlier a b w c lt small apart =
+        elim (cases_lt b a) [
+          | inl over ↦ absurd (omega (arith, lt, mul-le-mul_right w (let h : b + 1 ≤ a = omega (arith, over) in h)))
+          | inr less ↦ omega (arith, less, apart)
+        ]
 
-      tells : (pc : ℕ) (moved : Bool) (q : ℕ) → pc < t'.width → q ≤ t'.length → index t' pc moved q < length (bits_of t'.bits) →
-          Tells out pc moved q (cell t' pc moved q)
-      tells pc moved q lt le in_bits = elim (cases_eq (row_of (direction_if t'.backwards) t'.length q) row) [
-        | inl here ↦
-            let q-is : q ≡ x = same-row (direction_if t'.backwards) t'.length q x le (omega (arith, within, same.length)) (here ∙ sym at ∙ sym (same-row_of t t' x same)) in
-            λ a e m p. is.tells pc moved lt a e m (p ∙ q-is) ∙ sym (cell-row t' row q pc moved here)
-        | inr apart ↦
-            let lt' : pc < t.width = omega (arith, lt, same.width) in
-            let le' : q ≤ t.length = omega (arith, le, same.length) in
-            let r = row_of (direction_if t'.backwards) t'.length q in
-            let less : r < row = earlier r row (2 * t'.width) (column t'.width moved pc)
-            (omega (arith, in_bits, after, index-row t' r q pc moved refl)) (column-less t'.width pc moved lt) apart in
-            let lower : index t pc moved q < length (bits_of t.bits) =
-            omega (arith, before, index-row t r q pc moved (sym (same-row_of t t' q same)), rows-less r row (2 * t.width) (column t.width moved pc) 0 less (column-less t.width pc moved lt')) in
-            λ a e m p. right.tells pc moved q lt' le' lower a e m p ∙ sym (cell-kept t t' extra pc moved q bits same lower)
-      ]
+    after : length (evaluated t') ≡ (row + 1) * (2 * t'.width)
+    after =
+        let sum : length (evaluated t') ≡ (row + 1) * (2 * t.width) = omega (arith, ap length bits, length-append (evaluated t) extra, before, long) in
+        sum ∙ ap (λ w. (row + 1) * (2 * w)) (sym same.width)
 
-  -- What is known, after one more row.
-  pub knows-next : (input : Input) (outs : ℕ → Out) (ops : List Op) (memo memo' : Memo) (n : ℕ) → row ≡ length memo.rows.items →
-      Knows input outs ops t memo → IsRight (outs (length input.tables.now)) t' → Represents (outs (length input.tables.now)) t' n x →
-      memo'.rows.items ≡ memo.rows.items ++ n ∷ [] → memo'.far.items ≡ memo.far.items →
-      ((k : ℕ) (e : Entry) → slice_get memo'.slots.items k ≡ Some (Some e) →
-      (slice_get memo.slots.items k ≡ Some (Some e)) ⊎ ((e.row ≡ n) × HasKey input outs ops t memo.far.items x e.key)) →
-      Knows input outs ops t' memo'
-  knows-next input outs ops memo memo' n count knows right is rows_is far_is slots_is = record { right = right; rows = rows; entries = entries }
-    where
-      out : Out
-      out = outs (length input.tables.now)
+    tells : (pc : ℕ) (moved : Bool) (q : ℕ) → pc < t'.width → q ≤ t'.length → index t' pc moved q < length (evaluated t') →
+        Tells out pc moved q (cell t' pc moved q)
+    tells pc moved q lt le in_bits = elim (cases_eq (row_of (direction_if t'.backwards) t'.length q) row) [
+      | inl here ↦
+          let q-is : q ≡ x = same-row (direction_if t'.backwards) t'.length q x le (omega (arith, within, same.length)) (here ∙ sym at ∙ sym (same-row_of t t' x same)) in
+          λ a e m p. is.tells pc moved lt a e m (p ∙ q-is) ∙ sym (cell-number t' pc moved q lt ∙ ap (λ k. row_bit t' (number_of t' k) pc moved) here)
+      | inr apart ↦
+          let lt' : pc < t.width = omega (arith, lt, same.width) in
+          let le' : q ≤ t.length = omega (arith, le, same.length) in
+          let r = row_of (direction_if t'.backwards) t'.length q in
+          let less : r < row = earlier r row (2 * t'.width) (column t'.width moved pc)
+          (omega (arith, in_bits, after, index-row t' r q pc moved refl)) (column-less t'.width pc moved lt) apart in
+          let lower : index t pc moved q < length (evaluated t) =
+          omega (arith, before, index-row t r q pc moved (sym (same-row_of t t' q same)), rows-less r row (2 * t.width) (column t.width moved pc) 0 less (column-less t.width pc moved lt')) in
+          λ a e m p. right.tells pc moved q lt' le' lower a e m p ∙ sym (cell-kept t t' extra pc moved q bits same lower)
+    ]
 
-      rows : (q : ℕ) → q ≤ t'.length → row_of (direction_if t'.backwards) t'.length q < length memo'.rows.items →
-          Represents out t' (get_or memo'.rows.items (row_of (direction_if t'.backwards) t'.length q) 0) q
-      rows q le before = elim (cases_eq (row_of (direction_if t'.backwards) t'.length q) row) [
-        | inl here ↦
-            let q-is : q ≡ x = same-row (direction_if t'.backwards) t'.length q x le (omega (arith, within, same.length)) (here ∙ sym at ∙ sym (same-row_of t t' x same)) in
-            let reads : get_or memo'.rows.items (row_of (direction_if t'.backwards) t'.length q) 0 ≡ n =
-            ap₂ (λ xs k. get_or xs k 0) rows_is (here ∙ count) ∙ get_or_push memo.rows.items n 0 _ refl in
-            subst (λ y. Represents out t' (get_or memo'.rows.items (row_of (direction_if t'.backwards) t'.length q) 0) y) (sym q-is)
-            (subst (λ k. Represents out t' k x) (sym reads) is)
-        | inr apart ↦
-            let r = row_of (direction_if t'.backwards) t'.length q in
-            let less : r < length memo.rows.items = omega (arith, before, ap length rows_is, length-append memo.rows.items (n ∷ []), apart, count) in
-            let reads : get_or memo'.rows.items r 0 ≡ get_or memo.rows.items (row_of (direction_if t.backwards) t.length q) 0 =
-            ap (λ xs. get_or xs r 0) rows_is ∙ get_or-append memo.rows.items (n ∷ []) 0 r less
-            ∙ ap (λ k. get_or memo.rows.items k 0) (same-row_of t t' q same) in
-            subst (λ k. Represents out t' k q) (sym reads)
-            (represents-more t t' extra bits same out _ q
-            (knows.rows q (omega (arith, le, same.length)) (omega (arith, less, same-row_of t t' q same))))
-      ]
-
-      entries : (k : ℕ) (e : Entry) → slice_get memo'.slots.items k ≡ Some (Some e) → IsEntry input outs ops t' memo'.far.items e
-      entries k e is_e = subst (λ f. IsEntry input outs ops t' f e) (sym far_is) (elim (slots_is k e is_e) [
-        | inl old ↦ entry-more t t' extra bits same input outs ops memo.far.items e (knows.entries k e old)
-        | inr new ↦ record {
-          position = x;
-          has = has-more t t' extra bits same input outs ops memo.far.items x e.key new.1;
-          row = subst (λ m. Represents out t' m x) (sym new.0) is;
-        }
-      ])
-
--- A copied row has the bits of the other.
-row_bit-copied : (t t' : Table) (n row : ℕ) → bits_of t'.bits ≡ bits_of t.bits ++ take (2 * t.width) (drop (n * (2 * t.width)) (bits_of t.bits)) → SameShape t t' →
-    length (bits_of t.bits) ≡ row * (2 * t.width) → (pc : ℕ) (moved : Bool) → pc < t.width → row_bit t' row pc moved ≡ row_bit t n pc moved
-row_bit-copied t t' n row bits same before pc moved lt =
-    let xs = bits_of t.bits in
-    let k = column t.width moved pc in
-    let start = n * (2 * t.width) in
-    ap₂ (λ ys w. get_or ys (row * (2 * w) + column w moved pc) false) bits same.width
-    ∙ ap (λ j. get_or (xs ++ take (2 * t.width) (drop start xs)) (j + k) false) (sym before)
-    ∙ get_or-append-add xs (take (2 * t.width) (drop start xs)) k false
-    ∙ get_or-take (2 * t.width) (drop start xs) k false (column-less t.width pc moved lt)
-    ∙ get_or-drop start xs k false
-
-pub copied-represents : (out : Out) (t t' : Table) (n row x : ℕ) →
-    bits_of t'.bits ≡ bits_of t.bits ++ take (2 * t.width) (drop (n * (2 * t.width)) (bits_of t.bits)) → SameShape t t' →
-    length (bits_of t.bits) ≡ row * (2 * t.width) → length (bits_of t'.bits) ≡ (row + 1) * (2 * t'.width) → Represents out t n x → Represents out t' row x
-copied-represents out t t' n row x bits same before after is = record {
-  filled = omega (arith, after);
-  tells = λ pc moved lt a e m p.
-      let lt' : pc < t.width = omega (arith, lt, same.width) in
-      is.tells pc moved lt' a e m p ∙ sym (row_bit-copied t t' n row bits same before pc moved lt');
+-- a table with the same bits in order
+right-same : (out : Out) (t t' : Table) → evaluated t' ≡ evaluated t → SameShape t t' → IsRight out t → IsRight out t'
+unfolding cell
+right-same out t t' bits same right = record {
+  tells = λ pc moved q lt le before a e m p.
+      right.tells pc moved q (omega (arith, lt, same.width)) (omega (arith, le, same.length))
+      (omega (arith, before, ap length bits, same-index t t' pc moved q same)) a e m p
+      ∙ sym (ap₂ (λ xs k. get_or xs k false) bits (same-index t t' pc moved q same));
 }
 
-module _ (input : Input) (r : Routine) (t t' : Table) (memo memo' : Memo) (extra : List Bool) (bits : bits_of t'.bits ≡ bits_of t.bits ++ extra)
-    (same : SameShape t t') (x n : ℕ) (at : row_of (direction_if t.backwards) t.length x ≡ length memo.rows.items) (within : x ≤ t.length)
-    (known : IsKnown input r t memo) (after : length (bits_of t'.bits) ≡ (length memo.rows.items + 1) * (2 * t'.width))
-    (rows_is : memo'.rows.items ≡ memo.rows.items ++ n ∷ []) (far_is : memo'.far.items ≡ memo.far.items)
-    (each : (outs : ℕ → Out) → IsSolution (subject input.rules input.text.now).setting input.text.now (code_routines input.code.now) outs →
-    AreRight outs input.tables.now → Knows input outs r.ops t memo →
-    IsRight (outs (length input.tables.now)) t' × Represents (outs (length input.tables.now)) t' n x
-    × ((k : ℕ) (e : Entry) → slice_get memo'.slots.items k ≡ Some (Some e) →
-    (slice_get memo.slots.items k ≡ Some (Some e)) ⊎ ((e.row ≡ n) × HasKey input outs r.ops t memo.far.items x e.key))) where
-  -- What is known, after one more row.
-  pub known-next : IsKnown input r t' memo'
-  known-next = record {
-    covers = subst (Covers r.ops) (sym far_is) known.covers;
-    filled = after ∙ ap (λ k. k * (2 * t'.width)) (sym (ap length rows_is ∙ length-append memo.rows.items (n ∷ [])));
-    knows = λ outs solution right.
-        let knows = known.knows outs solution right in
-        let more = each outs solution right knows in
-        knows-next t t' extra bits same (length memo.rows.items) x at within input outs r.ops memo memo' n refl knows more.0 more.1 rows_is far_is more.2;
-  }
-
 -- Nothing is known of a table without a row.
-pub known-start : (input : Input) (r : Routine) (t : Table) (memo : Memo) → bits_of t.bits ≡ [] → Covers r.ops memo.far.items → memo.rows.items ≡ [] →
+pub known-start : (input : Input) (r : Routine) (t : Table) (memo : Memo) → evaluated t ≡ [] → Covers r.ops memo.far.items →
     ((k : ℕ) (entry : Entry) → slice_get memo.slots.items k ≡ Some (Some entry) → ⊥) → IsKnown input r t memo
-known-start input r t memo empty covers no_rows no_entries = record {
+known-start input r t memo empty covers no_entries = record {
   covers = covers;
-  filled = let none : length memo.rows.items ≡ 0 = ap length no_rows in omega (arith, ap length empty, ap (λ n. n * (2 * t.width)) none);
   knows = λ outs solution right. record {
     right = record { tells = λ pc moved q lt le before. absurd (omega (arith, before, ap length empty)) };
-    rows = λ q le before. absurd (omega (arith, before, ap length no_rows));
     entries = λ k entry is. absurd (no_entries k entry is);
   };
 }
@@ -364,7 +303,7 @@ module _ (input : Input) (outs : ℕ → Out) (ops : List Op) (t : Table) (far :
 
 -- what it takes to find what an instruction leads to
 pub can-probe : (input : Input) (r : Routine) (t : Table) (pc x : ℕ) (op : Op) → CanFill input r t → x ≤ t.length →
-    index t 0 false x ≡ length (bits_of t.bits) → pc < length r.ops → has_no_back_reference (code_routines input.code.now) ≡ true →
+    index t 0 false x ≡ length (evaluated t) → pc < length r.ops → has_no_back_reference (code_routines input.code.now) ≡ true →
     slice_get r.ops pc ≡ Some op → CanProbe input t op x
 can-probe input r t pc x op can within at lt none is = record {
   pc = pc;
@@ -389,65 +328,80 @@ coded-more setting bytes d body_of out ops far x k code op p some within is_op i
 
 -- ---- one more row
 
--- a copied row
-pub known-hit : (input : Input) (r : Routine) (t t' : Table) (memo memo' : Memo) (key : Option Key) (x n : ℕ) → CanFill input r t →
-    row_of (direction_if t.backwards) t.length x ≡ length memo.rows.items → x ≤ t.length → IsKnown input r t memo →
-    bits_of t'.bits ≡ bits_of t.bits ++ take (2 * t.width) (drop (n * (2 * t.width)) (bits_of t.bits)) → SameShape t t' → n < length memo.rows.items →
-    IsKept memo.slots.items key n →
-    IfSome key (λ k. (outs : ℕ → Out) → AreRight outs input.tables.now → Knows input outs r.ops t memo → HasKey input outs r.ops t memo.far.items x k) →
-    memo'.rows.items ≡ memo.rows.items ++ n ∷ [] → memo'.far.items ≡ memo.far.items → memo'.slots.items ≡ memo.slots.items →
-    IsKnown input r t' memo'
-known-hit input r t t' memo memo' None x n can at within known bits same less kept has rows_is far_is slots_is = absurd kept
-known-hit input r t t' memo memo' (Some key) x n can at within known bits same less kept has rows_is far_is slots_is =
-    let fits : n * (2 * t.width) + 2 * t.width ≤ length (bits_of t.bits) = row-filled t (length memo.rows.items) n known.filled less in
-    let long : length (take (2 * t.width) (drop (n * (2 * t.width)) (bits_of t.bits))) ≡ 2 * t.width =
-    length-take-le (2 * t.width) (drop (n * (2 * t.width)) (bits_of t.bits))
-    (omega (arith, fits, length-drop (n * (2 * t.width)) (bits_of t.bits))) in
-    let sum : length (bits_of t'.bits) ≡ length (bits_of t.bits) + 2 * t.width =
-    ap length bits ∙ length-append (bits_of t.bits) (take (2 * t.width) (drop (n * (2 * t.width)) (bits_of t.bits))) ∙ ap (λ k. length (bits_of t.bits) + k) long in
-    let more : length (bits_of t'.bits) ≡ (length memo.rows.items + 1) * (2 * t.width) = omega (arith, sum, known.filled) in
-    let after : length (bits_of t'.bits) ≡ (length memo.rows.items + 1) * (2 * t'.width) =
-    more ∙ ap (λ w. (length memo.rows.items + 1) * (2 * w)) (sym same.width) in
-    known-next input r t t' memo memo' (take (2 * t.width) (drop (n * (2 * t.width)) (bits_of t.bits))) bits same x n at within known after rows_is far_is
-    (λ outs solution right knows.
-    let out = outs (length input.tables.now) in
-    let entry = knows.entries kept.0 (record { key = key; row = n }) kept.1 in
-    let is : Represents out t n x =
-    represents-same input outs r t memo.far.items x entry.position n key solution can known.covers entry.has (has outs right knows) entry.row in (
-      right-next t t' (take (2 * t.width) (drop (n * (2 * t.width)) (bits_of t.bits))) bits same (length memo.rows.items) x at within out known.filled after knows.right
-          (copied-represents out t t' n (length memo.rows.items) x bits same known.filled after is),
-      represents-more t t' (take (2 * t.width) (drop (n * (2 * t.width)) (bits_of t.bits))) bits same out n x is,
-      λ k e is_e. inl (subst (λ (xs : List (Option Entry)). slice_get xs k ≡ Some (Some e)) slots_is is_e),
-    ))
+module _ (input : Input) (r : Routine) (t : Table) (memo : Memo) (x : ℕ) (can : CanFill input r t) (within : x ≤ t.length)
+    (at : index t 0 false x ≡ length (evaluated t)) (known : IsKnown input r t memo) where
+  -- a row without a number
+  pub known-flat : (t' : Table) (extra : List Bool) → Grows t t' extra → (IsFilled input t → IsFilled input t') → IsKnown input r t' memo
+  known-flat t' extra grows filled =
+      known-next t t' extra grows.bits grows.shape input r memo memo x known refl
+      (λ outs solution right knows. (filled (λ outs' solution' right'. (known.knows outs' solution' right').right) outs solution right, λ k e is. inl is))
 
--- a row that was computed
-pub known-miss : (input : Input) (r : Routine) (t t' : Table) (memo memo' : Memo) (key : Option Key) (x n : ℕ) (extra : List Bool) → CanFill input r t →
-    row_of (direction_if t.backwards) t.length x ≡ length memo.rows.items → x ≤ t.length → IsKnown input r t memo →
-    bits_of t'.bits ≡ bits_of t.bits ++ extra → SameShape t t' → length (bits_of t'.bits) ≡ (length memo.rows.items + 1) * (2 * t'.width) →
-    (IsFilled input t → IsFilled input t') → n ≤ length memo.rows.items →
-    ((pc : ℕ) (moved : Bool) → pc < t'.width → row_bit t' n pc moved ≡ row_bit t' (length memo.rows.items) pc moved) →
-    IfSome key (λ k. (outs : ℕ → Out) → AreRight outs input.tables.now → Knows input outs r.ops t memo → HasKey input outs r.ops t memo.far.items x k) →
-    memo'.rows.items ≡ memo.rows.items ++ n ∷ [] → memo'.far.items ≡ memo.far.items →
-    ((k : ℕ) (e : Entry) → slice_get memo'.slots.items k ≡ Some (Some e) → (slice_get memo.slots.items k ≡ Some (Some e)) ⊎ ((key ≡ Some e.key) × (e.row ≡ n))) →
-    IsKnown input r t' memo'
-known-miss input r t t' memo memo' key x n extra can at within known bits same after filled le equal has rows_is far_is slots_is =
-    known-next input r t t' memo memo' extra bits same x n at within known after rows_is far_is
-    (λ outs solution right knows.
-    let out = outs (length input.tables.now) in
-    let right' : IsRight out t' = filled (λ outs' solution' right'. (known.knows outs' solution' right').right) outs solution right in
-    let at' : row_of (direction_if t'.backwards) t'.length x ≡ length memo.rows.items = same-row_of t t' x same ∙ at in
-    let is = last-represents out t' (length memo.rows.items) x right' at' (omega (arith, within, same.length)) (omega (arith, after)) in (
-      right',
-      represents-equal out t' (length memo.rows.items) n x is le equal,
-      λ k e is_e. elim (slots_is k e is_e) [
-        | inl old ↦ inl old
-        | inr new ↦ inr (
-          new.1,
-          (subst (λ o. IfSome o (λ k'. (outs : ℕ → Out) → AreRight outs input.tables.now → Knows input outs r.ops t memo →
-              HasKey input outs r.ops t memo.far.items x k')) new.0 has) outs right knows,
-        )
-      ],
-    ))
+  module _ (numbered : length t.rows.items ≡ row_of (direction_if t.backwards) t.length x) (key : Option Key)
+      (has : IfSome key (λ k. (outs : ℕ → Out) → AreRight outs input.tables.now → Knows input outs r.ops t memo → HasKey input outs r.ops t memo.far.items x k)) where
+    abbrev row : ℕ
+    row = length t.rows.items
+
+    last-number : (t' : Table) (n : ℕ) → t'.rows.items ≡ t.rows.items ++ n ∷ [] → number_of t' row ≡ n
+    last-number t' n rows = ap (λ xs. get_or xs row (t'.distinct + (row - length t'.rows.items))) rows ∙ get_or_push t.rows.items n _ row refl
+
+    -- the number of a row that was computed from the same
+    pub known-hit : (t' : Table) (n : ℕ) → SameShape t t' → t'.rows.items ≡ t.rows.items ++ n ∷ [] → bits_of t'.bits ≡ bits_of t.bits →
+        evaluated t' ≡ evaluated t ++ row_bits t n → n < t.distinct → IsKept memo.slots.items key n → IsKnown input r t' memo
+    known-hit t' n same rows bits bits-more less kept =
+        let bits' : bits_of t'.bits ≡ bits_of t.bits ++ [] = bits ∙ sym (append-nil (bits_of t.bits)) in
+        known-next t t' [] bits' same input r memo memo x known refl
+        (λ outs solution right knows.
+        let out = outs (length input.tables.now) in
+        let is : Represents out t n x = represents outs solution right knows key kept has in (
+          right-next out t t' (row_bits t n) row x bits-more same (sym numbered) within (next-row t x at ∙ ap (λ k. k * (2 * t.width)) (sym numbered))
+              (length-row t n (row-stored t n less)) knows.right
+              (subst (λ k. Represents out t' k x) (sym (last-number t' n rows)) (represents-more t t' [] bits' same out n x is)),
+          λ k e is_e. inl is_e,
+        ))
+      where
+        represents : (outs : ℕ → Out) → IsSolution (subject input.rules input.text.now).setting input.text.now (code_routines input.code.now) outs →
+            AreRight outs input.tables.now → Knows input outs r.ops t memo → (o : Option Key) → IsKept memo.slots.items o n →
+            IfSome o (λ k. (outs' : ℕ → Out) → AreRight outs' input.tables.now → Knows input outs' r.ops t memo → HasKey input outs' r.ops t memo.far.items x k) →
+            Represents (outs (length input.tables.now)) t n x
+        represents outs solution right knows None kept' has' = absurd kept'
+        represents outs solution right knows (Some k) kept' has' =
+            let entry = knows.entries kept'.0 (record { key = k; row = n }) kept'.1 in
+            represents-same input outs r t memo.far.items x entry.position n k solution can known.covers entry.has (has' outs right knows) entry.row
+
+    -- the number of a row that was computed
+    pub known-miss : (t' u : Table) (memo' : Memo) (n : ℕ) (extra : List Bool) → Grows t t' extra → (IsFilled input t → IsFilled input t') →
+        SameShape t' u → u.rows.items ≡ t'.rows.items ++ n ∷ [] → bits_of u.bits ≡ take (u.distinct * (2 * t'.width)) (bits_of t'.bits) →
+        t'.distinct ≤ u.distinct → evaluated u ≡ evaluated t' → memo'.far.items ≡ memo.far.items →
+        ((i : ℕ) (e : Entry) → slice_get memo'.slots.items i ≡ Some (Some e) → (slice_get memo.slots.items i ≡ Some (Some e)) ⊎ ((key ≡ Some e.key) × (e.row ≡ n))) →
+        IsKnown input r u memo'
+    known-miss t' u memo' n extra grows filled shared rows bits le same far_is slots_is =
+        let shape : SameShape t u = SameShape-trans t t' u grows.shape shared in
+        let m = u.distinct * (2 * t'.width) in
+        let whole : t'.distinct * (2 * t'.width) ≡ length (bits_of t.bits) =
+        ap₂ (λ d w. d * (2 * w)) grows.distinct grows.shape.width ∙ sym (all-numbered t x at numbered) in
+        let k = m - length (bits_of t.bits) in
+        let sum : m ≡ length (bits_of t.bits) + k = omega (arith, whole, mul-le-mul_right (2 * t'.width) le) in
+        let bits' : bits_of u.bits ≡ bits_of t.bits ++ take k extra =
+        bits ∙ ap₂ take sum grows.bits ∙ take-append-add (bits_of t.bits) extra k in
+        let rows' : u.rows.items ≡ t.rows.items ++ n ∷ [] = rows ∙ ap (λ xs. xs ++ n ∷ []) grows.rows in
+        known-next t u (take k extra) bits' shape input r memo memo' x known far_is
+        (λ outs solution right knows.
+        let out = outs (length input.tables.now) in
+        let right' : IsRight out u = right-same out t' u same shared (filled (λ outs' solution' right'. (known.knows outs' solution' right').right) outs solution right) in
+        let is : Represents out u n x =
+        subst (λ m. Represents out u m x) (last-number u n rows')
+        (represented out u row x right' (same-row_of t u x shape ∙ sym numbered) (omega (arith, within, shape.length))
+        (omega (arith, ap length rows', length-append t.rows.items (n ∷ [])))) in (
+          right',
+          λ i e is_e. elim (slots_is i e is_e) [
+            | inl old ↦ inl old
+            | inr new ↦ inr (
+              subst (λ m. Represents out u m x) (sym new.1) is,
+              (subst (λ o. IfSome o (λ k'. (outs : ℕ → Out) → AreRight outs input.tables.now → Knows input outs r.ops t memo →
+                  HasKey input outs r.ops t memo.far.items x k')) new.0 has) outs right knows,
+            )
+          ],
+        ))
 
 -- ---- the instructions that are listed
 

@@ -14,12 +14,11 @@ use Rattle.regress_program.specs.Shape.{AllFit, Fits}
 use Rattle.regress_program.specs.Stays.{IsOnward}
 use Rattle.regress_program.proofs.lemmas.Onward.{Stays-tree, reached-one}
 use Rattle.regress_program.proofs.lemmas.Places.{place-row, row-onward}
-use Rattle.regress_tables.specs.Bits.{bits_of}
 use Rattle.regress_tables.specs.declared.probe.Probe.{Probe}
 use Rattle.regress_tables.specs.declared.probe.Probe.TheVariants as probes
 use Rattle.regress_tables.specs.declared.table.Table.{Table}
 use Rattle.regress_tables.specs.Probes.{IsProbe, Leads, jumps_if, landing, probe_bit, stays_if}
-use Rattle.regress_tables.specs.Table.{has_outcome, IsRight, Tells, TellsOf, cell, index}
+use Rattle.regress_tables.specs.Table.{has_outcome, IsRight, Tells, TellsOf, cell, evaluated, index}
 use Rattle.regress_tables.proofs.FillLemmas.{evaluated_tells}
 use Rattle.regress_tables.proofs.TellsLemmas.{split_tells, either_tells, advanced_tells, none_tells, one_tells, looked_tells, group_tells}
 
@@ -162,7 +161,7 @@ module _ (setting : Setting) (bytes : List ℕ) (d : Direction) (body_of : ℕ �
       by false = refl
 
   -- a part, by where it ends
-  pub part_lands : (table : Table) → IsRight out table → (pc position : ℕ) → index table 0 false position ≡ length (bits_of table.bits) → pc < table.width →
+  pub part_lands : (table : Table) → IsRight out table → (pc position : ℕ) → index table 0 false position ≡ length (evaluated table) → pc < table.width →
       position ≤ table.length → (t : Tree) (next : ℕ) (to : Option ℕ) → table.length ≡ length bytes → direction_if table.backwards ≡ d → next < pc →
       ((s : MatchState) → s.position ≡ position → steps setting bytes d t s ≡ put s to) →
       Leads setting bytes d body_of out (part t next) next position (landing table next position to)
@@ -176,7 +175,7 @@ module _ (setting : Setting) (bytes : List ℕ) (d : Direction) (body_of : ℕ �
         let on : IsOnward (direction_if table.backwards) position q = subst (λ e. IsOnward e position q) (sym dir) reached.1 in
         let in_text : q ≤ table.length = omega (arith, len, reached.0) in
         let before = row-onward table.width table.length (direction_if table.backwards) position q within in_text other on in
-        let lower : index table next true q < length (bits_of table.bits) =
+        let lower : index table next true q < length (evaluated table) =
         omega (arith, at, place-row table.width table.length (direction_if table.backwards) 0 next false true position q (omega (arith, lt, in_w)) before) in
         subst (λ (b : Bool). Leads setting bytes d body_of out (part t next) next position (if b then probes.Stays else jumps_if (cell table next true q)))
         (let h : false ≡ (q == position) = grind (arith, other) in h)

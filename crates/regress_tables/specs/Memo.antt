@@ -1,9 +1,9 @@
 -- Rows that are equal, because they are computed from the same.
-use Rattle.std.specs.Prelude.{◌≡◌, ◌≢◌, ℕ, ◌+◌, ◌*◌, ◌<◌, ◌≤◌, ◌⊎◌, Bool, true, false, List, length, slice_get, slice_index, slice_index_or, Option, Some, None}
+use Rattle.std.specs.Prelude.{◌≡◌, ◌≢◌, ℕ, ◌+◌, ◌*◌, ◌<◌, ◌≤◌, ◌⊎◌, Bool, true, false, List, length, slice_get, slice_index_or, Option, Some, None}
 use Rattle.regress_prefilter.specs.OneCharacter.{takes_one}
 use Rattle.regress_leaves.specs.Subject.{subject}
-use Rattle.regress_tree.specs.Reading.{Read, direction_if, next_character, of_bytes}
-use Rattle.regress_program.specs.Below.{column, row_of}
+use Rattle.regress_tree.specs.Reading.{Read, next_character, of_bytes}
+use Rattle.regress_program.specs.Below.{column}
 use Rattle.regress_program.specs.Program.{Op, Out, Routine, IsSolution, part, look, matcher_of}
 use Rattle.regress_code.specs.Code.{code_routines}
 use Rattle.regress_tables.specs.Bits.{bits_of}
@@ -15,14 +15,14 @@ use Rattle.regress_tables.specs.declared.memo.Key.{Key}
 use Rattle.regress_tables.specs.declared.memo.Memo.{Memo}
 use Rattle.regress_tables.specs.declared.table.Table.{Table}
 
--- a bit of a row
-abbrev pub row_bit : Table → (row pc : ℕ) (moved : Bool) → Bool
-row_bit t row pc moved = slice_index_or (bits_of t.bits) (row * (2 * t.width) + column t.width moved pc) false
+-- a bit of the row with a number
+abbrev pub row_bit : Table → (number pc : ℕ) (moved : Bool) → Bool
+row_bit t number pc moved = slice_index_or (bits_of t.bits) (number * (2 * t.width) + column t.width moved pc) false
 
--- The row is filled, and tells which states at the position have an outcome.
-pub record Represents (out : Out) (t : Table) (row position : ℕ) : Type 0 where
-  pub filled : (row + 1) * (2 * t.width) ≤ length (bits_of t.bits)
-  pub tells : (pc : ℕ) (moved : Bool) → pc < t.width → Tells out pc moved position (row_bit t row pc moved)
+-- The row with this number is stored, and tells which states at the position have an outcome.
+pub record Represents (out : Out) (t : Table) (number position : ℕ) : Type 0 where
+  pub stored : (number + 1) * (2 * t.width) ≤ length (bits_of t.bits)
+  pub tells : (pc : ℕ) (moved : Bool) → pc < t.width → Tells out pc moved position (row_bit t number pc moved)
 
 -- The symbol is that of the next character, and `from` represents the position after it.
 abbrev pub IsSymbol : Out → Table → (position from symbol : ℕ) → Option Read → Type 0
@@ -55,17 +55,14 @@ pub record IsEntry (input : Input) (outs : ℕ → Out) (ops : List Op) (t : Tab
   pub has : HasKey input outs ops t far position entry.key
   pub row : Represents (outs (length input.tables.now)) t entry.row position
 
--- The table is right so far, each position has a row that represents it, and the entries are right.
+-- The table is right so far, and the entries are right.
 pub record Knows (input : Input) (outs : ℕ → Out) (ops : List Op) (t : Table) (memo : Memo) : Type 0 where
   pub right : IsRight (outs (length input.tables.now)) t
-  pub rows : (position : ℕ) → position ≤ t.length → row_of (direction_if t.backwards) t.length position < length memo.rows.items →
-      Represents (outs (length input.tables.now)) t (slice_index memo.rows.items (row_of (direction_if t.backwards) t.length position)) position
   pub entries : (k : ℕ) (entry : Entry) → slice_get memo.slots.items k ≡ Some (Some entry) → IsEntry input outs ops t memo.far.items entry
 
--- That holds with any outcomes of the program, if the tables before are right. Whole rows are filled.
+-- That holds with any outcomes of the program, if the tables before are right.
 pub record IsKnown (input : Input) (r : Routine) (t : Table) (memo : Memo) : Type 0 where
   pub covers : Covers r.ops memo.far.items
-  pub filled : length (bits_of t.bits) ≡ length memo.rows.items * (2 * t.width)
   pub knows : (outs : ℕ → Out) → IsSolution (subject input.rules input.text.now).setting input.text.now (code_routines input.code.now) outs →
       AreRight outs input.tables.now → Knows input outs r.ops t memo
 

@@ -6,12 +6,11 @@ use Rattle.regress_program.specs.Linear.{is_back_reference}
 use Rattle.regress_program.specs.Program.{Op, Out, part, look, outcomes_by}
 use Rattle.regress_program.specs.Shape.{Fits}
 use Rattle.regress_code.specs.Code.{code_routines}
-use Rattle.regress_tables.specs.Bits.{bits_of}
 use Rattle.regress_tables.specs.declared.evaluate.Input.{Input}
 use Rattle.regress_tables.specs.declared.probe.Probe.{Probe}
 use Rattle.regress_tables.specs.declared.probe.Probe.TheVariants as probes
 use Rattle.regress_tables.specs.declared.table.Table.{Table}
-use Rattle.regress_tables.specs.Table.{cell, index, Tells, TellsOf}
+use Rattle.regress_tables.specs.Table.{cell, evaluated, index, Tells, TellsOf}
 
 -- whether there is an outcome, by whether there is one from the next instruction at the same position
 abbrev pub probe_bit : Probe → Bool → Bool
@@ -41,7 +40,7 @@ pub record CanProbe (input : Input) (t : Table) (op : Op) (position : ℕ) : Typ
   pub pc : ℕ
   pub pc_in : pc < t.width
   pub position_in : position ≤ t.length
-  pub at : index t 0 false position ≡ length (bits_of t.bits)
+  pub at : index t 0 false position ≡ length (evaluated t)
   pub fits : Fits (take (length input.tables.now) (code_routines input.code.now)) t.width pc op
   pub no_reference : is_back_reference op ≡ false
   pub length : t.length ≡ length input.text.now

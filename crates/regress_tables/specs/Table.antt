@@ -1,5 +1,5 @@
 -- Tables: which states of a routine have an outcome.
-use Rattle.std.specs.Prelude.{◌≡◌, ℕ, ◌+◌, ◌*◌, ◌≤◌, ◌<◌, Bool, true, false, List, [], ◌∷◌, length, slice_get, slice_index_or, Some}
+use Rattle.std.specs.Prelude.{◌≡◌, ℕ, ◌+◌, ◌-◌, ◌*◌, ◌≤◌, ◌<◌, Bool, true, false, List, [], ◌∷◌, ◌++◌, length, take, drop, flat_map, slice_get, slice_index_or, Some}
 use Rattle.regress_tree.specs.Reading.{direction_if}
 use Rattle.regress_tree.specs.Steps.{MatchState}
 use Rattle.regress_program.specs.Below.{place}
@@ -21,9 +21,21 @@ Tells out pc moved position bit = (a : At) → a.pc ≡ pc → a.moved ≡ moved
 abbrev pub index : Table → (pc : ℕ) (moved : Bool) (position : ℕ) → ℕ
 index t pc moved position = place t.width t.length (direction_if t.backwards) pc moved position
 
+-- the bits of the row with a number
+abbrev pub row_bits : Table → (number : ℕ) → List Bool
+row_bits t number = take (2 * t.width) (drop (number * (2 * t.width)) (bits_of t.bits))
+
+-- the bits of the states that were evaluated so far, in order: those of the rows that have a number, then the others
+unfoldable pub evaluated : Table → List Bool
+evaluated t = flat_map (row_bits t) t.rows.items ++ drop (t.distinct * (2 * t.width)) (bits_of t.bits)
+
+-- The number of a row. Those that have none yet are stored in order.
+abbrev pub number_of : Table → (row : ℕ) → ℕ
+number_of t row = slice_index_or t.rows.items row (t.distinct + (row - length t.rows.items))
+
 -- the bit of a state
 unfoldable pub cell : Table → (pc : ℕ) (moved : Bool) (position : ℕ) → Bool
-cell t pc moved position = slice_index_or (bits_of t.bits) (index t pc moved position) false
+cell t pc moved position = slice_index_or (evaluated t) (index t pc moved position) false
 
 -- the number of bits of a full table
 abbrev pub size : Table → ℕ
@@ -32,7 +44,7 @@ size t = (t.length + 1) * (2 * t.width)
 -- Each bit so far tells whether its state has an outcome.
 pub record IsRight (out : Out) (t : Table) : Type 0 where
   pub tells : (pc : ℕ) (moved : Bool) (position : ℕ) → pc < t.width → position ≤ t.length →
-      index t pc moved position < length (bits_of t.bits) → Tells out pc moved position (cell t pc moved position)
+      index t pc moved position < length (evaluated t) → Tells out pc moved position (cell t pc moved position)
 
 -- a table for a routine and a text
 pub record IsTableOf (bytes : List ℕ) (r : Routine) (t : Table) : Type 0 where
@@ -42,7 +54,7 @@ pub record IsTableOf (bytes : List ℕ) (r : Routine) (t : Table) : Type 0 where
 
 -- Every state was evaluated.
 abbrev pub IsFull : Table → Type 0
-IsFull t = length (bits_of t.bits) ≡ size t
+IsFull t = length (evaluated t) ≡ size t
 
 -- the full tables of the first routines of a program
 pub record AreTables (bytes : List ℕ) (program : List Routine) (tables : List Table) : Type 0 where
@@ -63,10 +75,17 @@ TellsOf f moved position bit = (a : At) → a.moved ≡ moved → a.state.positi
 pub record IsNext (t : Table) (pc : ℕ) (moved : Bool) (position : ℕ) : Type 0 where
   pub pc_in : pc < t.width
   pub position_in : position ≤ t.length
-  pub at : index t pc moved position ≡ length (bits_of t.bits)
+  pub at : index t pc moved position ≡ length (evaluated t)
 
 -- Only the bits may differ.
 pub record SameShape (t t' : Table) : Type 0 where
   pub width : t'.width ≡ t.width
   pub length : t'.length ≡ t.length
   pub backwards : t'.backwards ≡ t.backwards
+
+-- These bits are added, of the rows that have no number yet.
+pub record Grows (t t' : Table) (extra : List Bool) : Type 0 where
+  pub shape : SameShape t t'
+  pub rows : t'.rows.items ≡ t.rows.items
+  pub distinct : t'.distinct ≡ t.distinct
+  pub bits : bits_of t'.bits ≡ bits_of t.bits ++ extra

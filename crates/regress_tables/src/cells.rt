@@ -1,16 +1,15 @@
 //! The bits of a table.
-ghost use Rattle.std.specs.Prelude.{◌≡◌, ◌<◌, ◌≤◌, ◌++◌, ◌*◌, ◌^◌, [], ◌∷◌, IfOk, length};
+ghost use Rattle.std.specs.Prelude.{◌≡◌, ◌<◌, ◌≤◌, ◌*◌, ◌^◌, [], ◌∷◌, IfOk, length};
 ghost use Rattle.regress_tree.specs.Reading.{direction_if};
 ghost use Rattle.regress_program.specs.Below.{column, row_of};
-ghost use Rattle.regress_tables.specs.Bits.{bits_of};
-ghost use Rattle.regress_tables.specs.Table.{SameShape, cell, size};
+ghost use Rattle.regress_tables.specs.Table.{Grows, cell, evaluated, number_of, size};
 
 use crate::bits::Bits;
 use crate::table::Table;
 use std::alloc::{AllocError, Global};
 
 impl Table {
-    /// Returns an empty table for a routine, with memory for all of its bits.
+    /// Returns an empty table for a routine, with memory for the numbers of all rows.
     ///
     /// # Errors
     /// Returns [`AllocError`] if no memory can hold the table.
@@ -24,7 +23,7 @@ impl Table {
         ensures width { IfOk result (λ t. t.width ≡ width) }
         ensures length { IfOk result (λ t. t.length ≡ length) }
         ensures backwards { IfOk result (λ t. t.backwards ≡ backwards) }
-        ensures empty { IfOk result (λ t. (bits_of t.bits) ≡ []) }
+        ensures empty { IfOk result (λ t. evaluated t ≡ []) }
     {
         let Some(half) = width.checked_mul(length + 1) else {
             return Err(AllocError);
@@ -33,23 +32,34 @@ impl Table {
             return Err(AllocError);
         }
         Ok(Table {
-            bits: Bits::with_room(alloc, 2 * half)?,
+            bits: Bits::new(alloc, length / 4, (2 * half).div_ceil(64)),
+            rows: Vec::with_capacity(alloc, length + 1)?,
+            distinct: 0,
             width,
             length,
             backwards,
         })
     }
 
+    /// Returns the number of states: two for each instruction and position.
+    pub(crate) fn size(&self) -> usize
+        ensures { result ≡ size self.now }
+    {
+        (self.length + 1) * (2 * self.width)
+    }
+
     /// Adds the bit of the next state.
     ///
     /// # Preconditions
     /// The table is not full.
-    pub(crate) fn push(&mut self, bit: bool)
-        requires { length (bits_of self.old.bits) < size self.old }
-        ensures bits { (bits_of self.new.bits) ≡ (bits_of self.old.bits) ++ bit ∷ [] }
-        ensures shape { SameShape self.old self.new }
+    ///
+    /// # Errors
+    /// Returns [`AllocError`] if an allocation fails.
+    pub(crate) fn push(&mut self, bit: bool) -> Result<(), AllocError>
+        requires { length (evaluated self.old) < size self.old }
+        ensures { IfOk result (λ _. Grows self.old self.new (bit ∷ [])) }
     {
-        self.bits.push(bit);
+        self.bits.push(bit)
     }
 
     /// Returns whether there is an outcome from a state, or false if it was not evaluated yet.
@@ -60,11 +70,24 @@ impl Table {
     {
         let row = row_of(self.backwards, self.length, position);
         let column = column(self.width, moved, pc);
-        let index = row * (2 * self.width) + column;
+        let index = self.number_of(row) * (2 * self.width) + column;
         if index < self.bits.len() {
             self.bits.get(index)
         } else {
             false
+        }
+    }
+
+    /// Returns the number of a row, or the number that it would have if none of the rows after those with a number were equal.
+    pub(crate) fn number_of(&self, row: usize) -> usize
+        requires { row ≤ self.now.length }
+        ensures value { result ≡ number_of self.now row }
+        ensures within { result ≤ self.now.length }
+    {
+        if row < self.rows.len() {
+            self.rows[row] as usize
+        } else {
+            self.distinct + (row - self.rows.len())
         }
     }
 }

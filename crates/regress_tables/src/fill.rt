@@ -1,5 +1,5 @@
 //! Filling the table of a routine.
-ghost use Rattle.std.specs.Prelude.{◌≡◌, ◌≤◌, ◌+◌, ◌++◌, ◌*◌, ◌^◌, ◌<◌, ℕ, Bool, IfOk, List, Some, false, length, slice_get, true};
+ghost use Rattle.std.specs.Prelude.{◌≡◌, ◌≤◌, ◌+◌, ◌*◌, ◌^◌, ◌<◌, Bool, IfOk, List, Some, false, length, slice_get, true};
 ghost use Rattle.regress_tree.specs.Reading.{direction_if};
 ghost use Rattle.regress_program.specs.Below.{row_of};
 ghost use Rattle.regress_program.specs.Tidy.{has_no_back_reference};
@@ -7,8 +7,8 @@ ghost use Rattle.regress_code.specs.Code.{code_routines};
 ghost use Rattle.regress_program.specs.Views.{routine_in};
 ghost use Rattle.regress_tables.specs.Bits.{bits_of};
 ghost use Rattle.regress_tables.specs.Evaluated.{CanFill, IsFilled};
-ghost use Rattle.regress_tables.specs.Memo.{IsKnown, row_bit};
-ghost use Rattle.regress_tables.specs.Table.{AreTables, IsFull, IsTableOf, SameShape, index};
+ghost use Rattle.regress_tables.specs.Memo.{IsKnown};
+ghost use Rattle.regress_tables.specs.Table.{AreTables, Grows, IsFull, IsTableOf, SameShape, evaluated, index, row_bits};
 
 use crate::cells::row_of;
 use crate::evaluate::{Input, evaluate};
@@ -52,7 +52,7 @@ pub(crate) fn fill(
     Ok(table)
 }
 
-/// Adds the row of a position: a copy of a row that was computed from the same, if there is one.
+/// Adds the row of a position.
 ///
 /// # Errors
 /// Returns [`AllocError`] if an allocation fails.
@@ -67,35 +67,66 @@ fn fill_row(
     requires tables { AreTables input.text.now (code_routines input.code.now) input.tables.now }
     requires can { CanFill input (routine_in input.code.now.program.leaves.items routine.now) table.old }
     requires position { position ≤ table.old.length }
-    requires at { row_of (direction_if table.old.backwards) table.old.length position ≡ length memo.old.rows.items }
+    requires at { index table.old 0 false position ≡ length (evaluated table.old) }
     requires known { IsKnown input (routine_in input.code.now.program.leaves.items routine.now) table.old memo.old }
     ensures shape { IfOk result (λ _. SameShape table.old table.new) }
-    ensures rows { IfOk result (λ _. length memo.new.rows.items ≡ length memo.old.rows.items + 1) }
+    ensures more { IfOk result (λ _. length (evaluated table.new) ≡ length (evaluated table.old) + 2 * table.old.width) }
     ensures known { IfOk result (λ _. IsKnown input.entry (routine_in input.entry.code.now.program.leaves.items routine.now) table.new memo.new) }
 {
-    let key = key_at(input, routine, table, memo, position);
-    if let Some(row) = memo.find(key) {
-        table.repeat(table.start_of(row));
-        memo.rows.push(row)?;
-        return Ok(());
+    if table.rows.len() == row_of(table.backwards, table.length, position) {
+        return fill_shared(input, routine, table, memo, position);
     }
-    fill_both(input, routine, table, position);
-    let row = first_equal(table, memo);
-    memo.add(key, row)?;
+    fill_both(input, routine, table, position)?;
     Ok(())
 }
 
-/// Returns a row that is equal to the last one of a table: an earlier one, if one is found.
-fn first_equal(table: &Table, memo: &mut Memo) -> usize
-    requires whole { length (bits_of table.now.bits) ≡ (length memo.old.rows.items + 1) * (2 * table.now.width) }
-    requires inside { length memo.old.rows.items ≤ table.now.length }
-    ensures far { memo.new.far.items ≡ memo.old.far.items }
-    ensures rows { memo.new.rows.items ≡ memo.old.rows.items }
-    ensures slots { memo.new.slots.items ≡ memo.old.slots.items }
-    ensures earlier { result ≤ length memo.old.rows.items }
-    ensures same { (pc : ℕ) (moved : Bool) → pc < table.now.width → row_bit table.now result pc moved ≡ row_bit table.now (length memo.old.rows.items) pc moved }
+/// Adds the row of a position to a table whose other rows all have a number: the number of an equal row, if one is found.
+///
+/// # Errors
+/// Returns [`AllocError`] if an allocation fails.
+fn fill_shared(
+    input: Input<'_, '_>,
+    routine: &Routine,
+    table: &mut Table,
+    memo: &mut Memo,
+    position: usize,
+) -> Result<(), AllocError>
+    requires no_reference { has_no_back_reference (code_routines input.code.now) ≡ true }
+    requires tables { AreTables input.text.now (code_routines input.code.now) input.tables.now }
+    requires can { CanFill input (routine_in input.code.now.program.leaves.items routine.now) table.old }
+    requires position { position ≤ table.old.length }
+    requires at { index table.old 0 false position ≡ length (evaluated table.old) }
+    requires numbered { length table.old.rows.items ≡ row_of (direction_if table.old.backwards) table.old.length position }
+    requires known { IsKnown input (routine_in input.code.now.program.leaves.items routine.now) table.old memo.old }
+    ensures shape { IfOk result (λ _. SameShape table.old table.new) }
+    ensures more { IfOk result (λ _. length (evaluated table.new) ≡ length (evaluated table.old) + 2 * table.old.width) }
+    ensures known { IfOk result (λ _. IsKnown input.entry (routine_in input.entry.code.now.program.leaves.items routine.now) table.new memo.new) }
 {
-    let last = memo.rows.len();
+    let key = key_at(input, routine, table, memo, position);
+    if let Some(number) = memo.find(key, table.distinct) {
+        table.repeat(number)?;
+        return Ok(());
+    }
+    fill_both(input, routine, table, position)?;
+    if table.distinct > u32::MAX as usize {
+        return Ok(());
+    }
+    let number = first_equal(table, memo);
+    table.share(number)?;
+    memo.add(key, number);
+    Ok(())
+}
+
+/// Returns the number of a row that is equal to the last one of a table: an earlier one, if one is found.
+fn first_equal(table: &Table, memo: &mut Memo) -> usize
+    requires one { length (bits_of table.now.bits) ≡ (table.now.distinct + 1) * (2 * table.now.width) }
+    requires inside { table.now.distinct ≤ table.now.length }
+    ensures far { memo.new.far.items ≡ memo.old.far.items }
+    ensures slots { memo.new.slots.items ≡ memo.old.slots.items }
+    ensures earlier { result ≤ table.now.distinct }
+    ensures same { row_bits table.now result ≡ row_bits table.now table.now.distinct }
+{
+    let last = table.distinct;
     let start = table.start_of(last);
     let slot = table.hash_of(start);
     if slot >= memo.heads.len() {
@@ -112,41 +143,54 @@ fn first_equal(table: &Table, memo: &mut Memo) -> usize
 }
 
 /// Adds the row of a position: the bits of all instructions, first those without an advance.
-fn fill_both(input: Input<'_, '_>, routine: &Routine, table: &mut Table, position: usize)
+///
+/// # Errors
+/// Returns [`AllocError`] if an allocation fails.
+fn fill_both(
+    input: Input<'_, '_>,
+    routine: &Routine,
+    table: &mut Table,
+    position: usize,
+) -> Result<(), AllocError>
     requires no_reference { has_no_back_reference (code_routines input.code.now) ≡ true }
     requires tables { AreTables input.text.now (code_routines input.code.now) input.tables.now }
     requires can { CanFill input (routine_in input.code.now.program.leaves.items routine.now) table.old }
     requires position { position ≤ table.old.length }
-    requires at { index table.old 0 false position ≡ length (bits_of table.old.bits) }
-    ensures more { length (bits_of table.new.bits) ≡ length (bits_of table.old.bits) + 2 * table.old.width }
-    ensures shape { SameShape table.old table.new }
-    ensures kept { (extra : List Bool) × (bits_of table.new.bits ≡ bits_of table.old.bits ++ extra) }
-    ensures filled { IsFilled input.entry table.old → IsFilled input.entry table.new }
+    requires at { index table.old 0 false position ≡ length (evaluated table.old) }
+    ensures more { IfOk result (λ _. length (evaluated table.new) ≡ length (evaluated table.old) + 2 * table.old.width) }
+    ensures shape { IfOk result (λ _. SameShape table.old table.new) }
+    ensures grows { IfOk result (λ _. (extra : List Bool) × Grows table.old table.new extra) }
+    ensures filled { IfOk result (λ _. IsFilled input.entry table.old → IsFilled input.entry table.new) }
 {
-    fill_half(input, routine, table, false, position);
-    fill_half(input, routine, table, true, position);
+    fill_half(input, routine, table, false, position)?;
+    fill_half(input, routine, table, true, position)?;
+    Ok(())
 }
 
 /// Adds the bits of all instructions at a position.
+///
+/// # Errors
+/// Returns [`AllocError`] if an allocation fails.
 fn fill_half(
     input: Input<'_, '_>,
     routine: &Routine,
     table: &mut Table,
     moved: bool,
     position: usize,
-)
+) -> Result<(), AllocError>
     requires no_reference { has_no_back_reference (code_routines input.code.now) ≡ true }
     requires tables { AreTables input.text.now (code_routines input.code.now) input.tables.now }
     requires can { CanFill input (routine_in input.code.now.program.leaves.items routine.now) table.old }
     requires position { position ≤ table.old.length }
-    requires at { index table.old 0 moved position ≡ length (bits_of table.old.bits) }
-    ensures more { length (bits_of table.new.bits) ≡ length (bits_of table.old.bits) + table.old.width }
-    ensures shape { SameShape table.old table.new }
-    ensures kept { (extra : List Bool) × (bits_of table.new.bits ≡ bits_of table.old.bits ++ extra) }
-    ensures filled { IsFilled input.entry table.old → IsFilled input.entry table.new }
+    requires at { index table.old 0 moved position ≡ length (evaluated table.old) }
+    ensures more { IfOk result (λ _. length (evaluated table.new) ≡ length (evaluated table.old) + table.old.width) }
+    ensures shape { IfOk result (λ _. SameShape table.old table.new) }
+    ensures grows { IfOk result (λ _. (extra : List Bool) × Grows table.old table.new extra) }
+    ensures filled { IfOk result (λ _. IsFilled input.entry table.old → IsFilled input.entry table.new) }
 {
     for pc in 0..routine.instructions.len() {
         let bit = evaluate(input, table, routine.instructions[pc], moved, position);
-        table.push(bit);
+        table.push(bit)?;
     }
+    Ok(())
 }

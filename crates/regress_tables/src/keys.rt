@@ -5,11 +5,10 @@ ghost use Rattle.regress_program.specs.Program.{Out, matcher_of};
 ghost use Rattle.regress_program.specs.Tidy.{has_no_back_reference};
 ghost use Rattle.regress_program.specs.Views.{routine_in};
 ghost use Rattle.regress_code.specs.Code.{code_routines};
-ghost use Rattle.regress_tables.specs.Bits.{bits_of};
 ghost use Rattle.regress_tables.specs.Evaluated.{CanFill};
 ghost use Rattle.regress_tables.specs.Memo.{HasKey, Knows};
 ghost use Rattle.regress_tables.specs.Probes.{Coded, digit};
-ghost use Rattle.regress_tables.specs.Table.{AreRight, AreTables, IsRight, index};
+ghost use Rattle.regress_tables.specs.Table.{AreRight, AreTables, IsRight, evaluated, index};
 
 use crate::cells::row_of;
 use crate::evaluate::Input;
@@ -31,7 +30,7 @@ pub(crate) fn key_at(
     requires tables { AreTables input.text.now (code_routines input.code.now) input.tables.now }
     requires can { CanFill input (routine_in input.code.now.program.leaves.items routine.now) table.now }
     requires position { position ≤ table.now.length }
-    requires at { index table.now 0 false position ≡ length (bits_of table.now.bits) }
+    requires at { index table.now 0 false position ≡ length (evaluated table.now) }
     ensures { IfSome result (λ key. (outs : ℕ → Out) → AreRight outs input.entry.tables.now →
         (let ops = (routine_in input.entry.code.now.program.leaves.items routine.now).ops in
         Knows input.entry outs ops table.now memo.now → HasKey input.entry outs ops table.now memo.now.far.items position key)) }
@@ -51,10 +50,10 @@ pub(crate) fn key_at(
                 return None;
             }
             let row = row_of(table.backwards, table.length, to);
-            if row >= memo.rows.len() {
+            if row >= table.rows.len() {
                 return None;
             }
-            let from = memo.rows[row];
+            let from = table.number_of(row);
             Some(Key {
                 symbol: u64::from(c) + 1,
                 from,
@@ -76,7 +75,7 @@ fn probes_at(
     requires tables { AreTables input.text.now (code_routines input.code.now) input.tables.now }
     requires can { CanFill input (routine_in input.code.now.program.leaves.items routine.now) table.now }
     requires position { position ≤ table.now.length }
-    requires at { index table.now 0 false position ≡ length (bits_of table.now.bits) }
+    requires at { index table.now 0 false position ≡ length (evaluated table.now) }
     ensures { IfSome result (λ code. (outs : ℕ → Out) → AreRight outs input.entry.tables.now → IsRight (outs (length input.entry.tables.now)) table.now →
         (let u = subject input.entry.rules input.entry.text.now in
         Coded u.setting u.bytes u.direction (matcher_of u.setting u.bytes (code_routines input.entry.code.now) outs) (outs (length input.entry.tables.now))

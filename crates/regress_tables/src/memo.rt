@@ -1,5 +1,5 @@
 //! Rows that were filled, by what they were computed from.
-ghost use Rattle.std.specs.Prelude.{◌≡◌, ◌<◌, ◌++◌, ◌∷◌, ℕ, ◌⊎◌, [], IfOk, IfSome, Some, false, length, slice_get, true};
+ghost use Rattle.std.specs.Prelude.{◌≡◌, ◌<◌, ℕ, ◌⊎◌, IfOk, IfSome, Some, false, slice_get, true};
 ghost use Rattle.regress_program.specs.Views.{op_in, ops_in};
 ghost use Rattle.regress_tables.specs.Memo.{Covers, IsKept, IsNear};
 
@@ -13,7 +13,7 @@ use std::alloc::{AllocError, Global};
 pub struct Key {
     /// The next character, plus 1; 0 if there is none.
     pub symbol: u64,
-    /// The row at the position after that character, in the direction of matching.
+    /// The number of the row at the position after that character, in the direction of matching.
     pub from: usize,
     /// What the other instructions lead to that look at the text, as digits.
     pub probes: u64,
@@ -24,7 +24,7 @@ pub struct Key {
 pub struct Entry {
     /// What it was computed from.
     pub key: Key,
-    /// The number of rows before it.
+    /// Its number.
     pub row: usize,
 }
 
@@ -33,8 +33,6 @@ pub struct Entry {
 pub(crate) struct Memo {
     /// The instructions that look at the text, but for those that match one character.
     pub(crate) far: Vec<usize>,
-    /// For each row one that is equal: the first one, if that is known.
-    pub(crate) rows: Vec<usize>,
     /// Rows by the hash of what they were computed from.
     pub(crate) slots: Vec<Option<Entry>>,
     /// Rows by the hash of their bits.
@@ -55,20 +53,18 @@ impl Memo {
         routine: &Routine,
     ) -> Result<Memo, AllocError>
         ensures covers { IfOk result (λ memo. Covers (ops_in input.entry.code.now.program.leaves.items routine.now.instructions.items) memo.far.items) }
-        ensures rows { IfOk result (λ memo. memo.rows.items ≡ []) }
         ensures slots { IfOk result (λ memo. (k : ℕ) (entry : Entry) → slice_get memo.slots.items k ≡ Some (Some entry) → ⊥) }
     {
         Ok(Memo {
             far: far_of(alloc, input, routine)?,
-            rows: Vec::with_capacity(alloc, input.text.len() + 1)?,
             slots: empty_slots(alloc)?,
             heads: vec![in alloc; 0; SLOTS]?,
         })
     }
 
-    /// Returns a row that was computed from this, or `None` if none is found.
-    pub(crate) fn find(&self, key: Option<Key>) -> Option<usize>
-        ensures row { IfSome result (λ row. row < length self.now.rows.items) }
+    /// Returns the number of a row that was computed from this, below `rows`, or `None` if none is found.
+    pub(crate) fn find(&self, key: Option<Key>, rows: usize) -> Option<usize>
+        ensures row { IfSome result (λ row. row < rows) }
         ensures found { IfSome result (λ row. IsKept self.now.slots.items key row) }
     {
         let key = key?;
@@ -77,32 +73,25 @@ impl Memo {
             return None;
         }
         let entry = self.slots[slot]?;
-        if !is_same(entry.key, key) || entry.row >= self.rows.len() {
+        if !is_same(entry.key, key) || entry.row >= rows {
             return None;
         }
         Some(entry.row)
     }
 
-    /// Adds that a row is equal to the next one, and keeps it by what it was computed from, if that is known.
-    ///
-    /// # Errors
-    /// Returns [`AllocError`] if an allocation fails.
-    pub(crate) fn add(&mut self, key: Option<Key>, row: usize) -> Result<(), AllocError>
-        ensures far { IfOk result (λ _. self.new.far.items ≡ self.old.far.items) }
-        ensures rows { IfOk result (λ _. self.new.rows.items ≡ self.old.rows.items ++ row ∷ []) }
-        ensures slots { IfOk result (λ _. (k : ℕ) (entry : Entry) → slice_get self.new.slots.items k ≡ Some (Some entry) →
-            (slice_get self.old.slots.items k ≡ Some (Some entry)) ⊎ ((key ≡ Some entry.key) × (entry.row ≡ row))) }
+    /// Keeps the number of a row by what it was computed from, if that is known.
+    pub(crate) fn add(&mut self, key: Option<Key>, row: usize)
+        ensures far { self.new.far.items ≡ self.old.far.items }
+        ensures slots { (k : ℕ) (entry : Entry) → slice_get self.new.slots.items k ≡ Some (Some entry) →
+            (slice_get self.old.slots.items k ≡ Some (Some entry)) ⊎ ((key ≡ Some entry.key) × (entry.row ≡ row)) }
     {
-        self.rows.push(row)?;
         let Some(key) = key else {
-            return Ok(());
+            return;
         };
         let slot = slot_of(key);
-        if slot >= self.slots.len() {
-            return Ok(());
+        if slot < self.slots.len() {
+            self.slots[slot] = Some(Entry { key, row });
         }
-        self.slots[slot] = Some(Entry { key, row });
-        Ok(())
     }
 }
 

@@ -1,19 +1,20 @@
 //! Rows of a table.
-ghost use Rattle.std.specs.Prelude.{◌≡◌, ◌≤◌, ◌<◌, ◌+◌, ◌*◌, ◌^◌, ◌++◌, ℕ, drop, false, length, slice_index_or, take, true};
+ghost use Rattle.std.specs.Prelude.{◌≡◌, ◌≤◌, ◌<◌, ◌+◌, ◌*◌, ◌^◌, ◌++◌, [], ◌∷◌, ℕ, IfOk, false, length, slice_index_or, take, true};
 ghost use Rattle.regress_tables.specs.Bits.{bits_of};
-ghost use Rattle.regress_tables.specs.Table.{SameShape, size};
+ghost use Rattle.regress_tables.specs.Table.{SameShape, evaluated, row_bits, size};
 
 use crate::table::Table;
+use std::alloc::AllocError;
 
 impl Table {
-    /// Returns the index of the first bit of a row.
-    pub(crate) fn start_of(&self, row: usize) -> usize
-        requires { row ≤ self.now.length }
-        ensures value { result ≡ row * (2 * self.now.width) }
+    /// Returns the index of the first bit of the row with a number.
+    pub(crate) fn start_of(&self, number: usize) -> usize
+        requires { number ≤ self.now.length }
+        ensures value { result ≡ number * (2 * self.now.width) }
         ensures within { result + 2 * self.now.width ≤ size self.now }
         ensures small { result + 2 * self.now.width < 2 ^ 62 }
     {
-        row * (2 * self.width)
+        number * (2 * self.width)
     }
 
     /// Returns whether two rows have the same bits. They begin at these indices.
@@ -47,13 +48,42 @@ impl Table {
         (hash >> 54) as usize
     }
 
-    /// Adds a row that is equal to the one that begins at this index.
-    pub(crate) fn repeat(&mut self, start: usize)
-        requires start { start + 2 * self.old.width ≤ length (bits_of self.old.bits) }
-        requires room { length (bits_of self.old.bits) + 2 * self.old.width ≤ size self.old }
-        ensures bits { bits_of self.new.bits ≡ bits_of self.old.bits ++ take (2 * self.old.width) (drop start (bits_of self.old.bits)) }
-        ensures shape { SameShape self.old self.new }
+    /// Gives the next row the number of an equal one.
+    ///
+    /// # Errors
+    /// Returns [`AllocError`] if an allocation fails.
+    pub(crate) fn repeat(&mut self, number: usize) -> Result<(), AllocError>
+        requires number { number < self.old.distinct }
+        requires whole { length (bits_of self.old.bits) ≡ self.old.distinct * (2 * self.old.width) }
+        requires room { length self.old.rows.items ≤ self.old.length }
+        ensures shape { IfOk result (λ _. SameShape self.old self.new) }
+        ensures rows { IfOk result (λ _. self.new.rows.items ≡ self.old.rows.items ++ number ∷ []) }
+        ensures bits { IfOk result (λ _. bits_of self.new.bits ≡ bits_of self.old.bits) }
+        ensures evaluated { IfOk result (λ _. evaluated self.new ≡ evaluated self.old ++ row_bits self.old number) }
     {
-        self.bits.repeat(start, 2 * self.width);
+        self.rows.push(number as u32)?;
+        Ok(())
+    }
+
+    /// Gives the row that was evaluated last the number of an equal one, or the next number.
+    ///
+    /// # Errors
+    /// Returns [`AllocError`] if an allocation fails.
+    pub(crate) fn share(&mut self, number: usize) -> Result<(), AllocError>
+        requires number { number ≤ self.old.distinct }
+        requires narrow { self.old.distinct < 2 ^ 32 }
+        requires one { length (bits_of self.old.bits) ≡ (self.old.distinct + 1) * (2 * self.old.width) }
+        requires room { length self.old.rows.items ≤ self.old.length }
+        requires same { row_bits self.old number ≡ row_bits self.old self.old.distinct }
+        ensures shape { IfOk result (λ _. SameShape self.old self.new) }
+        ensures rows { IfOk result (λ _. self.new.rows.items ≡ self.old.rows.items ++ number ∷ []) }
+        ensures bits { IfOk result (λ _. bits_of self.new.bits ≡ take (self.new.distinct * (2 * self.old.width)) (bits_of self.old.bits)) }
+        ensures distinct { IfOk result (λ _. self.old.distinct ≤ self.new.distinct) }
+        ensures evaluated { IfOk result (λ _. evaluated self.new ≡ evaluated self.old) }
+    {
+        self.rows.push(number as u32)?;
+        self.distinct = self.distinct.max(number + 1);
+        self.bits.truncate(self.distinct * (2 * self.width));
+        Ok(())
     }
 }

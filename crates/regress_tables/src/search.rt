@@ -38,8 +38,9 @@ impl Linear<'_, '_> {
     ///
     /// # Complexity
     /// The steps are at most [`Linear::steps_per_byte`] for each byte of the text, and once more. A step takes
-    /// constant time, but for literals and sets. The tables take a quarter of a byte for each instruction, and 8 bytes, for
-    /// each byte of the text, and once more.
+    /// constant time, but for literals and sets. For each byte of the text, and once more, a quarter of a byte for each
+    /// instruction, and 8 bytes, count as the memory of the tables. So much it takes if all rows differ, and 4 bytes more for
+    /// each lookaround. Equal rows are stored once.
     ///
     /// # Errors
     /// - [`MemoryFault::TooMuchMemory`] if the tables take more than `memory` bytes. They are not made then.

@@ -1,5 +1,5 @@
 //! A table with a bit for each state of a routine.
-ghost use Rattle.std.specs.Prelude.{◌≡◌, ◌+◌, ◌*◌, ◌<◌, ◌^◌};
+ghost use Rattle.std.specs.Prelude.{◌≡◌, ◌+◌, ◌*◌, ◌<◌, ◌≤◌, ◌^◌, All, vec_len};
 ghost use Rattle.std.specs.Int.{div_ceil};
 ghost use Rattle.regress_tables.specs.Bits.{words_of};
 
@@ -10,17 +10,28 @@ use crate::bits::Bits;
 /// A row has the states at one position. First come those whose innermost iteration has not advanced, then the others.
 /// The rows are in the order in which positions are filled: against the direction of the routine.
 ///
-/// It has memory for all of its bits, two for each instruction and position, and for no further word.
+/// Equal rows are stored once. The first positions have the number of their row, and the rows of the positions after them
+/// are stored in order. The bits take no more words than those of all rows would.
 #[derive(Drop)]
 pub struct Table {
-    /// The bits of the states that were evaluated so far.
+    /// The bits of the rows that have a number, and those of the rows of the other positions so far.
     pub(crate) bits: Bits,
+    /// For the first positions the number of their row: how many rows are stored before it.
+    pub(crate) rows: Vec<u32>,
+    /// The number of rows that have a number.
+    pub(crate) distinct: usize,
     /// The number of instructions.
     pub(crate) width: usize,
     /// The length of the text.
     pub(crate) length: usize,
     /// Whether the routine matches backwards.
     pub(crate) backwards: bool,
+    ghost short: { length < 2 ^ 63 },
     ghost small: { (length + 1) * (2 * width) < 2 ^ 62 },
-    ghost words: { words_of bits ≡ div_ceil ((length + 1) * (2 * width)) 64 },
+    ghost words: { words_of bits ≤ div_ceil ((length + 1) * (2 * width)) 64 },
+    ghost numbers: { All (λ n. n < distinct) rows.items },
+    ghost filled: { distinct * (2 * width) ≤ bits.len },
+    ghost few: { distinct ≤ vec_len rows },
+    ghost inside: { vec_len rows ≤ length + 1 },
+    ghost narrow: { distinct ≤ 2 ^ 32 },
 }

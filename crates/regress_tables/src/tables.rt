@@ -40,7 +40,7 @@ impl Linear<'_, '_> {
                 tables: &tables,
             };
             let table = fill(alloc, input, routine)?;
-            bits = bits.saturating_add(table.bits.len() as u64);
+            bits = bits.saturating_add(table.size() as u64);
             tables.push(table)?;
         }
         *steps = steps.saturating_add(bits);

@@ -2,21 +2,25 @@ use Rattle.std.proofs.Common.{◌≡◌, ◌+◌, ◌*◌, length, sym, ap, ◌�
 use Rattle.std.proofs.lemmas.List.{length-map}
 use Rattle.regress_tree.specs.Reading.{direction_if}
 use Rattle.regress_program.specs.Views.{op_in}
+use Rattle.regress_tables.specs.Table.{evaluated}
 use Rattle.regress_tables.proofs.FillLemmas.{row-is}
 use Rattle.regress_tables.proofs.MemoLemmas.{known-start}
+use Rattle.regress_tables.proofs.RowLemmas.{first-row}
 use Rattle.regress_tables.proofs.fill.fill.Goals as goal
 
 pub fill_row-requires-clause-at : goal.fill_row-requires-clause-at
 fill_row-requires-clause-at c =
     let so_far = c.loop-row.invariant in
-    row-is c.loop-row.table _ _ c.loop-row.row c.row_of-position.result c.row_of-position.ensures.value so_far.backwards
-    (omega (arith, so_far.of.text)) (omega arith)
-    ∙ sym so_far.rows
+    first-row c.loop-row.table c.row_of-position.result c.loop-row.row
+    (row-is c.loop-row.table _ _ c.loop-row.row c.row_of-position.result c.row_of-position.ensures.value so_far.backwards (omega (arith, so_far.of.text)) (omega arith))
+    so_far.rows
 
 pub loop-row-preserved : goal.loop-row-preserved
 loop-row-preserved c =
     let so_far = c.loop-row.invariant in
     let same = c.in_ok-fill_row.ensures.shape in
+    let t = c.loop-row.table in
+    let more : length (evaluated c.fill_row.new.table) ≡ (c.loop-row.row + 1) * (2 * t.width) = omega (arith, c.in_ok-fill_row.ensures.more, so_far.rows) in
     record {
       of = record {
         width = same.width ∙ so_far.of.width;
@@ -24,7 +28,7 @@ loop-row-preserved c =
         direction = ap direction_if same.backwards ∙ so_far.of.direction;
       };
       backwards = same.backwards ∙ so_far.backwards;
-      rows = omega (arith, c.in_ok-fill_row.ensures.rows, so_far.rows);
+      rows = more ∙ ap (λ w. (c.loop-row.row + 1) * (2 * w)) (sym same.width);
       known = c.in_ok-fill_row.ensures.known;
     }
 
@@ -38,17 +42,17 @@ loop-row-init c = record {
     direction = ap direction_if c.in_ok-table.ensures.backwards;
   };
   backwards = c.in_ok-table.ensures.backwards;
-  rows = ap length c.in_ok-memo.ensures.rows;
-  known = known-start _ _ c.in_ok-table.table c.in_ok-memo.memo c.in_ok-table.ensures.empty c.in_ok-memo.ensures.covers c.in_ok-memo.ensures.rows c.in_ok-memo.ensures.slots;
+  rows = ap length c.in_ok-table.ensures.empty ∙ omega arith;
+  known = known-start _ _ c.in_ok-table.table c.in_ok-memo.memo c.in_ok-table.ensures.empty c.in_ok-memo.ensures.covers c.in_ok-memo.ensures.slots;
 }
 
 pub returns-clause-full : goal.returns-clause-full
 returns-clause-full c =
     let so_far = c.loop-row.invariant in
     let t = c.loop-row.table in
-    let count : length c.loop-row.memo.rows.items ≡ t.length + 1 =
-    omega (arith, so_far.rows, so_far.of.text, c.loop-row-test.false, c.loop-row.auto.row-end) in
-    so_far.known.filled ∙ ap (λ k. k * (2 * t.width)) count
+    let count : c.loop-row.row ≡ t.length + 1 =
+    omega (arith, so_far.of.text, c.loop-row-test.false, c.loop-row.auto.row-end) in
+    so_far.rows ∙ ap (λ k. k * (2 * t.width)) count
 
 pub returns-clause-filled : goal.returns-clause-filled
 returns-clause-filled c = λ outs solution right. (c.loop-row.invariant.known.knows outs solution right).right

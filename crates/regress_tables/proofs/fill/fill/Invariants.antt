@@ -1,13 +1,13 @@
-use Rattle.std.proofs.Common.{◌≡◌, length}
+use Rattle.std.proofs.Common.{◌≡◌, ◌*◌, length}
 use Rattle.regress_program.specs.Views.{routine_in}
 use Rattle.regress_tables.specs.Memo.{IsKnown}
-use Rattle.regress_tables.specs.Table.{IsTableOf}
+use Rattle.regress_tables.specs.Table.{IsTableOf, evaluated}
 use Rattle.regress_tables.proofs.fill.fill.Given as goal
 
 abbrev pub invariant-loop-row : goal.invariant-loop-row
 invariant-loop-row l = record {
   of : IsTableOf l.input.text.now (routine_in l.input.code.now.program.leaves.items l.routine) l.table;
   backwards : l.table.backwards ≡ l.routine.backwards;
-  rows : length l.memo.rows.items ≡ l.row;
+  rows : length (evaluated l.table) ≡ l.row * (2 * l.table.width);
   known : IsKnown l.input (routine_in l.input.code.now.program.leaves.items l.routine) l.table l.memo;
 }

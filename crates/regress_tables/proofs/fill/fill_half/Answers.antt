@@ -1,14 +1,14 @@
 use Rattle.std.proofs.Common.{◌≡◌, ◌<◌, ◌++◌, [], ◌∷◌, length, slice_get, Some, option_map, refl, sym, ap, ◌∙◌, subst, arith, length-append}
-use Rattle.std.proofs.lemmas.List.{append_assoc, append-nil, length-map}
+use Rattle.std.proofs.lemmas.List.{length-map}
 use Rattle.std.proofs.lemmas.Option.{slice_get-map, slice_get_read}
 use Rattle.regress_leaves.specs.Subject.{subject}
 use Rattle.regress_tree.specs.Reading.{direction_if}
 use Rattle.regress_code.specs.Code.{code_routines}
 use Rattle.regress_program.specs.Views.{op_in, ops_in, routine_in}
-use Rattle.regress_tables.specs.Bits.{bits_of}
-use Rattle.regress_tables.specs.Table.{size}
+use Rattle.regress_tables.specs.Table.{evaluated, size}
 use Rattle.regress_tables.proofs.EvaluateLemmas.{index-within}
 use Rattle.regress_tables.proofs.FillLemmas.{SameShape-trans, push_right, evaluated_tells, is_next, can_evaluate}
+use Rattle.regress_tables.proofs.RowLemmas.{Grows-none, Grows-trans, evaluated-grows}
 use Rattle.regress_tables.proofs.fill.fill_half.Goals as goal
 
 pub evaluate-bit-requires-clause-can : goal.evaluate-bit-requires-clause-can
@@ -38,33 +38,34 @@ loop-pc-preserved c =
     let r = routine_in c.args.input.code.now.program.leaves.items c.args.routine.now in
     let items = c.args.routine.now.instructions.items in
     let pc = c.loop-pc.pc in
+    let t = c.loop-pc.table in
+    let t2 = c.push.new.self in
+    let bit = c.evaluate-bit.result in
     let so_far = c.loop-pc.invariant in
+    let pushed = c.in_ok-push.ensures in
+    let bits = evaluated-grows t t2 (bit ∷ []) pushed in
     let is_op : slice_get (ops_in c.args.input.code.now.program.leaves.items items) pc ≡ Some (op_in c.args.input.code.now.program.leaves.items c.index.result.now) =
     slice_get-map (op_in c.args.input.code.now.program.leaves.items) items pc ∙ ap (option_map (op_in c.args.input.code.now.program.leaves.items)) (slice_get_read items _ pc _ refl (omega arith) c.index.ensures) in
     let can = c.requires.can in
     let lt : pc < length r.ops = omega (arith, length-map items (op_in c.args.input.code.now.program.leaves.items)) in
-    let next = is_next c.args.input r c.args.table.now c.loop-pc.table pc c.args.moved c.args.position can c.requires.position c.requires.at so_far.shape so_far.more lt in
+    let next = is_next c.args.input r c.args.table.now t pc c.args.moved c.args.position can c.requires.position c.requires.at so_far.shape so_far.more lt in
     record {
-      more = ap length c.push.ensures.bits ∙ omega (arith, so_far.more, length-append (bits_of c.loop-pc.table.bits) (c.evaluate-bit.result ∷ []));
-      kept = (
-        so_far.kept.0 ++ c.evaluate-bit.result ∷ [],
-        c.push.ensures.bits ∙ ap (λ xs. xs ++ c.evaluate-bit.result ∷ []) so_far.kept.1
-            ∙ append_assoc (bits_of c.args.table.now.bits) so_far.kept.0 (c.evaluate-bit.result ∷ []),
-      );
-      shape = SameShape-trans c.args.table.now c.loop-pc.table c.push.new.self so_far.shape c.push.ensures.shape;
+      more = ap length bits ∙ omega (arith, so_far.more, length-append (evaluated t) (bit ∷ []));
+      shape = SameShape-trans c.args.table.now t t2 so_far.shape pushed.shape;
+      grows = (so_far.grows.0 ++ bit ∷ [], Grows-trans c.args.table.now t t2 so_far.grows.0 (bit ∷ []) so_far.grows.1 pushed);
       filled = λ old outs solution tables.
           let right = so_far.filled old outs solution tables in
-          push_right (outs i) c.loop-pc.table c.push.new.self pc c.args.moved c.args.position c.evaluate-bit.result right next
-          (evaluated_tells u.setting u.bytes program outs i r (op_in c.args.input.code.now.program.leaves.items c.index.result.now) u.direction pc c.args.moved c.args.position c.evaluate-bit.result
+          push_right (outs i) t t2 pc c.args.moved c.args.position bit right next
+          (evaluated_tells u.setting u.bytes program outs i r (op_in c.args.input.code.now.program.leaves.items c.index.result.now) u.direction pc c.args.moved c.args.position bit
           solution can.is is_op lt (sym can.of.direction ∙ ap direction_if can.backwards) (omega (arith, c.requires.position, can.of.text))
           (c.evaluate-bit.ensures outs tables right))
-          c.push.ensures.bits c.push.ensures.shape;
+          bits pushed.shape;
     }
 
 pub loop-pc-init : goal.loop-pc-init
 loop-pc-init c = record {
   more = omega arith;
-  kept = ([], sym (append-nil (bits_of c.args.table.now.bits)));
   shape = record { width = refl; length = refl; backwards = refl };
+  grows = ([], Grows-none c.args.table.now);
   filled = λ filled. filled;
 }

@@ -1,5 +1,4 @@
-use Rattle.std.proofs.Common.{◌≡◌, ◌≤◌, ◌<◌, ◌+◌, ℕ, List, length, get_or, option_map, refl, sym, ap, ◌∙◌, subst, arith}
-use Rattle.std.proofs.lemmas.List.{get_or_read}
+use Rattle.std.proofs.Common.{◌≡◌, ◌≤◌, ◌<◌, ◌+◌, ℕ, List, length, option_map, refl, sym, ap, ◌∙◌, subst, arith}
 use Rattle.regress_leaves.specs.Leaves.{read_of}
 use Rattle.regress_leaves.specs.Subject.{subject}
 use Rattle.regress_tree.specs.Reading.{direction_if}
@@ -9,7 +8,8 @@ use Rattle.regress_program.specs.Views.{routine_in}
 use Rattle.regress_code.specs.Code.{code_routines}
 use Rattle.regress_tables.specs.Memo.{Represents}
 use Rattle.regress_tables.specs.Probes.{Coded}
-use Rattle.regress_tables.proofs.MemoLemmas.{key-none, key-some}
+use Rattle.regress_tables.specs.Table.{number_of}
+use Rattle.regress_tables.proofs.MemoLemmas.{key-none, key-some, represented}
 use Rattle.regress_tables.proofs.keys.key_at.Goals as goal
 
 pub returns-in-None : goal.returns-in-None
@@ -29,7 +29,6 @@ returns-else-row-len c = λ outs right knows.
     let input = c.args.input in
     let u = subject input.rules input.text.now in
     let t = c.args.table.now in
-    let rows = c.args.memo.now.rows.items in
     let ops = (routine_in input.code.now.program.leaves.items c.args.routine.now).ops in
     let probes = c.in_ok-probes.probes in
     let coded = subst (λ (far : List ℕ). Coded u.setting u.bytes u.direction (matcher_of u.setting u.bytes (code_routines input.code.now) outs)
@@ -37,11 +36,11 @@ returns-else-row-len c = λ outs right knows.
     let to = c.in-Some.to in
     let within : to ≤ t.length = omega (arith, c.if-to-table.false) in
     let row_is : c.row_of-row.result ≡ row_of (direction_if t.backwards) t.length to = c.row_of-row.ensures.value in
-    let lt : c.row_of-row.result < length rows = omega (arith, c.if-row-len.false, c.len.ensures) in
-    let from_is : c.index-from.result.now ≡ get_or rows (row_of (direction_if t.backwards) t.length to) 0 =
-    get_or_read rows c.row_of-row.result _ lt c.index-from.ensures 0 ∙ ap (λ k. get_or rows k 0) row_is in
+    let lt : c.row_of-row.result < length t.rows.items = omega (arith, c.if-row-len.false, c.len.ensures) in
+    let from_is : c.number_of-from.result ≡ number_of t (row_of (direction_if t.backwards) t.length to) = c.number_of-from.ensures.value ∙ ap (number_of t) row_is in
     key-some input outs ops t c.args.memo.now.far.items c.args.position
-    (record { symbol = c.from.result + 1; from = c.index-from.result.now; probes = probes })
+    (record { symbol = c.from.result + 1; from = c.number_of-from.result; probes = probes })
     (omega (arith, c.requires.position, c.requires.can.of.text)) coded (read_of (c.in-Some.c, to))
     (sym c.next_read.ensures ∙ ap (option_map read_of) c.in-Some.is) (omega (arith, c.from.ensures)) (λ e. omega (arith, e, c.if-to-position.false))
-    (subst (λ k. Represents (outs (length input.tables.now)) t k to) (sym from_is) (knows.rows to within (omega (arith, lt, row_is))))
+    (subst (λ k. Represents (outs (length input.tables.now)) t k to) (sym from_is)
+    (represented (outs (length input.tables.now)) t (row_of (direction_if t.backwards) t.length to) to knows.right refl within (omega (arith, lt, row_is))))

@@ -5,7 +5,6 @@ use Rattle.std.proofs.lemmas.Option.{slice_get-map, slice_get_read}
 use Rattle.regress_program.specs.Compiled.{total}
 use Rattle.regress_code.specs.Code.{code_routines}
 use Rattle.regress_program.specs.Views.{routine_in}
-use Rattle.regress_tables.specs.Bits.{bits_of}
 use Rattle.regress_tables.specs.declared.table.Table.{Table}
 use Rattle.regress_tables.specs.Table.{IsTableOf, AreTables, AreRight, IsRight}
 use Rattle.regress_program.proofs.lemmas.Totals.{total-more}
@@ -40,10 +39,10 @@ loop-routine-preserved c =
           (push_are_right tables t outs (so_far.right outs solution)
           (subst (λ (xs : List Table). IsRight (outs (length xs)) t) c.deref.ensures.value
           (c.in_ok-table.ensures.filled outs solution (subst (AreRight outs) (sym c.deref.ensures.value) (so_far.right outs solution)))));
-      counted = more_bits n (length r.ops) (total (take i program)) (total (take (i + 1) program)) (length (bits_of t.bits)) c.loop-routine.bits
+      counted = more_bits n (length r.ops) (total (take i program)) (total (take (i + 1) program)) c.size.result c.loop-routine.bits
           c.saturating_add-bits.result
           (total-more program i r is)
-          (c.in_ok-table.ensures.full ∙ ap (λ k. (k + 1) * (2 * t.width)) of.text ∙ ap (λ w. (n + 1) * (2 * w)) of.width)
+          (c.size.ensures ∙ ap (λ k. (k + 1) * (2 * t.width)) of.text ∙ ap (λ w. (n + 1) * (2 * w)) of.width)
           so_far.counted (omega arith);
     }
 

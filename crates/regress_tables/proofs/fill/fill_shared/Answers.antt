@@ -1,0 +1,100 @@
+use Rattle.std.proofs.Common.{◌≡◌, ◌+◌, ◌*◌, ◌≤◌, ◌<◌, ◌⊎◌, ◌++◌, List, Option, Some, IfSome, length, slice_get, refl, ap, ap₂, sym, ◌∙◌, subst, arith, length-append}
+use Rattle.regress_tree.specs.Reading.{direction_if}
+use Rattle.regress_program.specs.Views.{routine_in}
+use Rattle.regress_tables.specs.Memo.{IsKept}
+use Rattle.regress_tables.specs.Table.{evaluated, row_bits}
+use Rattle.regress_tables.specs.declared.memo.Entry.{Entry}
+use Rattle.regress_tables.proofs.FillLemmas.{SameShape-trans}
+use Rattle.regress_tables.proofs.MemoLemmas.{known-flat, known-hit, known-miss}
+use Rattle.regress_tables.proofs.RowLemmas.{all-numbered, length-row, one-row, row-most, row-stored}
+use Rattle.regress_tables.proofs.fill.fill_shared.Goals as goal
+
+pub repeat-requires-clause-number : goal.repeat-requires-clause-number
+repeat-requires-clause-number c = subst (λ o. IfSome o (λ row. row < c.args.table.now.distinct)) c.in-Some.is c.find.ensures.row
+
+pub repeat-requires-clause-whole : goal.repeat-requires-clause-whole
+repeat-requires-clause-whole c = all-numbered c.args.table.now c.args.position c.requires.at c.requires.numbered
+
+pub repeat-requires-clause-room : goal.repeat-requires-clause-room
+repeat-requires-clause-room c =
+    let t = c.args.table.now in
+    omega (arith, c.requires.numbered, row-most (direction_if t.backwards) t.length c.args.position c.requires.position)
+
+pub returns-in-Some-clause-more : goal.returns-in-Some-clause-more
+returns-in-Some-clause-more c =
+    let t = c.args.table.now in
+    let n = c.in-Some.number in
+    let less = subst (λ o. IfSome o (λ row. row < t.distinct)) c.in-Some.is c.find.ensures.row in
+    ap length c.in_ok-repeat.ensures.evaluated ∙ length-append (evaluated t) (row_bits t n)
+    ∙ ap (λ k. length (evaluated t) + k) (length-row t n (row-stored t n less))
+
+pub returns-in-Some-clause-known : goal.returns-in-Some-clause-known
+returns-in-Some-clause-known c =
+    let t = c.args.table.now in
+    let memo = c.args.memo.now in
+    let n = c.in-Some.number in
+    let r = routine_in c.args.input.code.now.program.leaves.items c.args.routine.now in
+    let next = c.in_ok-repeat.ensures in
+    known-hit c.args.input r t memo c.args.position c.requires.can c.requires.position c.requires.at c.requires.known c.requires.numbered c.key_at-key.result c.key_at-key.ensures
+    c.repeat.new.self n next.shape next.rows next.bits next.evaluated
+    (subst (λ o. IfSome o (λ row. row < t.distinct)) c.in-Some.is c.find.ensures.row)
+    (subst (λ o. IfSome o (IsKept memo.slots.items c.key_at-key.result)) c.in-Some.is c.find.ensures.found)
+
+pub returns-then-table-clause-known : goal.returns-then-table-clause-known
+returns-then-table-clause-known c =
+    let both = c.in_ok-fill_both.ensures in
+    let r = routine_in c.args.input.code.now.program.leaves.items c.args.routine.now in
+    known-flat c.args.input r c.args.table.now c.args.memo.now c.args.position c.requires.can c.requires.position c.requires.at c.requires.known
+    c.fill_both.new.table both.grows.0 both.grows.1 both.filled
+
+pub first_equal-number-requires-clause-one : goal.first_equal-number-requires-clause-one
+first_equal-number-requires-clause-one c =
+    let t = c.args.table.now in
+    let both = c.in_ok-fill_both.ensures in
+    one-row t c.fill_both.new.table both.grows.0 both.grows.1 (all-numbered t c.args.position c.requires.at c.requires.numbered) both.more
+
+pub first_equal-number-requires-clause-inside : goal.first_equal-number-requires-clause-inside
+first_equal-number-requires-clause-inside c =
+    let t = c.args.table.now in
+    let grows = c.in_ok-fill_both.ensures.grows.1 in
+    omega (arith, grows.distinct, grows.shape.length, t.few, c.requires.numbered, row-most (direction_if t.backwards) t.length c.args.position c.requires.position)
+
+pub share-requires-clause-one : goal.share-requires-clause-one
+share-requires-clause-one c =
+    let t = c.args.table.now in
+    let both = c.in_ok-fill_both.ensures in
+    one-row t c.fill_both.new.table both.grows.0 both.grows.1 (all-numbered t c.args.position c.requires.at c.requires.numbered) both.more
+
+pub share-requires-clause-room : goal.share-requires-clause-room
+share-requires-clause-room c =
+    let t = c.args.table.now in
+    let grows = c.in_ok-fill_both.ensures.grows.1 in
+    omega (
+      arith,
+      ap length grows.rows,
+      grows.shape.length,
+      c.requires.numbered,
+      row-most (direction_if t.backwards) t.length c.args.position c.requires.position,
+    )
+
+pub returns-clause-shape : goal.returns-clause-shape
+returns-clause-shape c =
+    SameShape-trans c.args.table.now c.fill_both.new.table c.share.new.self c.in_ok-fill_both.ensures.shape c.in_ok-share.ensures.shape
+
+pub returns-clause-more : goal.returns-clause-more
+returns-clause-more c = ap length c.in_ok-share.ensures.evaluated ∙ c.in_ok-fill_both.ensures.more
+
+pub returns-clause-known : goal.returns-clause-known
+returns-clause-known c =
+    let t = c.args.table.now in
+    let memo = c.args.memo.now in
+    let n = c.first_equal-number.result in
+    let both = c.in_ok-fill_both.ensures in
+    let found = c.first_equal-number.ensures in
+    let shared = c.in_ok-share.ensures in
+    let r = routine_in c.args.input.code.now.program.leaves.items c.args.routine.now in
+    known-miss c.args.input r t memo c.args.position c.requires.can c.requires.position c.requires.at c.requires.known c.requires.numbered c.key_at-key.result c.key_at-key.ensures
+    c.fill_both.new.table c.share.new.self c.add.new.self n both.grows.0 both.grows.1 both.filled shared.shape shared.rows shared.bits shared.distinct shared.evaluated
+    (c.add.ensures.far ∙ found.far)
+    (λ k e is. subst (λ (xs : List (Option Entry)). (slice_get xs k ≡ Some (Some e)) ⊎ ((c.key_at-key.result ≡ Some e.key) × (e.row ≡ n))) found.slots
+    (c.add.ensures.slots k e is))
