@@ -87,7 +87,8 @@ typedef struct regress_matches {
    - linear_instructions: the number of instructions up to which a search may be linear, by default a thousand. It takes
      up to two bits of memory for each instruction and byte of the text.
    - memory: the bytes that the tables of one search may take, by default 256 MiB: a quarter of a byte for each
-     instruction, and 8 bytes, for each byte of the text, and once more. */
+     instruction, and 8 bytes, for each byte of the text, and once more. A lookaround takes up to 4 bytes more for each
+     byte of the text, which do not count. */
 typedef struct regress_limits {
     uint64_t steps;
     size_t nodes;

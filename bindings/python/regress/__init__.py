@@ -134,7 +134,8 @@ def compile(pattern, flags='', *, steps=None, nodes=None, instructions=None, lin
                       the instructions up to which a search may take linear time; a thousand by default. It takes up to
                       two bits of memory for each instruction and byte of the text
         memory        the bytes that the tables of one search may take, 256 MiB by default: a quarter of a byte for each
-                      instruction, and 8 bytes, for each byte of the text in UTF-8, and once more
+                      instruction, and 8 bytes, for each byte of the text in UTF-8, and once more; 4 bytes more for each
+                      lookaround do not count
 
     Raises error if the pattern or the flags are rejected.
     """

@@ -89,7 +89,8 @@ pub struct Options {
     /// memory for each instruction and byte of the text.
     pub linear_instructions: usize,
     /// The memory in bytes that the tables of one search may take: a quarter of a byte for each instruction, and 8
-    /// bytes, for each byte of the text, and once more. By default 256 MiB.
+    /// bytes, for each byte of the text, and once more. By default 256 MiB. A lookaround takes up to 4 bytes more for
+    /// each byte of the text, which do not count.
     pub memory: usize,
     pub table: Table,
 }

@@ -20,7 +20,8 @@ pub struct Options {
     pub linear_instructions: usize,
     /// The memory in bytes that the tables of one search may take: a quarter of a byte for each instruction, and 8 bytes,
     /// for each byte of the text, and once more. A search that needs larger tables ends with
-    /// [`SearchError::TooMuchMemory`](crate::SearchError::TooMuchMemory). 256 MiB by default.
+    /// [`SearchError::TooMuchMemory`](crate::SearchError::TooMuchMemory). 256 MiB by default. A lookaround takes up to 4 bytes
+    /// more for each byte of the text, which do not count.
     pub memory: usize,
 }
 

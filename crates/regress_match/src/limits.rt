@@ -10,7 +10,8 @@ pub struct Limits {
     /// bits for each instruction and byte of a text. A thousand by default, so at most 250 times the length of the text.
     pub linear_instructions: usize,
     /// The memory in bytes that the tables of a search may take: a quarter of a byte for each instruction, and 8 bytes, for
-    /// each byte of the text, and once more. A search that needs larger tables is not made. 256 MiB by default.
+    /// each byte of the text, and once more. A search that needs larger tables is not made. 256 MiB by default. A lookaround
+    /// takes up to 4 bytes more for each byte of the text, which do not count.
     pub memory: usize,
 }
 
