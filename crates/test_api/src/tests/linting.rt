@@ -11,7 +11,7 @@ use std::test::Fail;
 #[test]
 fn a_linter_lists_groups_and_warns_of_nested_loops(rt: HostRuntime) -> Result<(), Fail> {
     let alloc = rt.alloc();
-    for (pattern, wanted) in [
+    for (pattern, wanted) in &[
         (
             "(?<year>a)|(b(c))",
             "Report { groups: [Group { id: 0, name: Some(\"year\") }, Group { id: 1, name: None }, Group { id: 2, name: None }], loops: 0, lookarounds: 0, nested: false }",
@@ -29,7 +29,7 @@ fn a_linter_lists_groups_and_warns_of_nested_loops(rt: HostRuntime) -> Result<()
         let report = lint(alloc, &parsed(alloc, pattern, false)?)?;
         expect_eq!(rt;
             format!(in alloc; "{report:?}")?.as_str(),
-            wanted,
+            *wanted,
             "{pattern}"
         );
     }
@@ -39,7 +39,7 @@ fn a_linter_lists_groups_and_warns_of_nested_loops(rt: HostRuntime) -> Result<()
 #[test]
 fn nested_unbounded_loops_are_reported(rt: HostRuntime) -> Result<(), Fail> {
     let alloc = rt.alloc();
-    for (pattern, wanted) in [
+    for (pattern, wanted) in &[
         ("(a*)*", true),
         ("(?:b|(?=a{2,}))+", true),
         ("a*(?:b(?:c+d)?)*", true),
@@ -51,7 +51,7 @@ fn nested_unbounded_loops_are_reported(rt: HostRuntime) -> Result<(), Fail> {
         ("(?:a|a)*", false),
     ] {
         let report = lint(alloc, &parsed(alloc, pattern, false)?)?;
-        expect_eq!(rt; report.nested, wanted, "{pattern}");
+        expect_eq!(rt; report.nested, *wanted, "{pattern}");
     }
     Ok(())
 }
@@ -61,7 +61,7 @@ fn nested_unbounded_loops_are_reported(rt: HostRuntime) -> Result<(), Fail> {
 fn what_matches_otherwise_than_in_javascript_is_explained(rt: HostRuntime) -> Result<(), Fail> {
     let alloc = rt.alloc();
     let tables = Tables::small(alloc)?;
-    for (pattern, icase, wanted) in [
+    for (pattern, icase, wanted) in &[
         ("a[k]", true, Some((1, 4, "case-closure", "U+212A"))),
         (
             "(?:(?<a>x)|(?<a>y))\\k<a>",
@@ -73,11 +73,11 @@ fn what_matches_otherwise_than_in_javascript_is_explained(rt: HostRuntime) -> Re
         ("(?:(?<a>x)|(?<b>y))\\k<a>", false, None),
     ] {
         let flags = Flags {
-            icase,
+            icase: *icase,
             ..Flags::default()
         };
         let found = remarks(alloc, pattern, flags, &tables)?;
-        assert!(rt; are_as_wanted(&found, wanted), "{pattern}");
+        assert!(rt; are_as_wanted(&found, *wanted), "{pattern}");
     }
     Ok(())
 }
