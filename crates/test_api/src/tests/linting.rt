@@ -6,6 +6,7 @@ use example_callers::remarks::{Remark, remarks};
 use regress_front::parse::Span;
 use regress_front::types::Flags;
 use regress_front::unicode::Tables;
+use std::alloc::Global;
 use std::test::Fail;
 
 #[test]
@@ -59,8 +60,6 @@ fn nested_unbounded_loops_are_reported(rt: HostRuntime) -> Result<(), Fail> {
 // docs/differences.md has the first two patterns. V8 matches the others as this library does.
 #[test]
 fn what_matches_otherwise_than_in_javascript_is_explained(rt: HostRuntime) -> Result<(), Fail> {
-    let alloc = rt.alloc();
-    let tables = Tables::small(alloc)?;
     for (pattern, icase, wanted) in &[
         ("a[k]", true, Some((1, 4, "case-closure", "U+212A"))),
         (
@@ -72,14 +71,20 @@ fn what_matches_otherwise_than_in_javascript_is_explained(rt: HostRuntime) -> Re
         ("a[b]", true, None),
         ("(?:(?<a>x)|(?<b>y))\\k<a>", false, None),
     ] {
-        let flags = Flags {
-            icase: *icase,
-            ..Flags::default()
-        };
-        let found = remarks(alloc, pattern, flags, &tables)?;
+        let found = remarked(rt.alloc(), pattern, *icase)?;
         assert!(rt; are_as_wanted(&found, *wanted), "{pattern}");
     }
     Ok(())
+}
+
+/// Returns the remarks on a pattern.
+fn remarked(alloc: Global, pattern: &str, icase: bool) -> Result<Vec<Remark>, Fail> {
+    let tables = Tables::small(alloc)?;
+    let flags = Flags {
+        icase,
+        ..Flags::default()
+    };
+    Ok(remarks(alloc, pattern, flags, &tables)?)
 }
 
 /// Returns whether there is one remark with this span, name and example, or none if none is wanted.
