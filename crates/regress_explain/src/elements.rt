@@ -48,24 +48,39 @@ pub(crate) fn add_elements<'a>(
             contents,
             ..
         } => {
-            all.push(Element::Begin(name.as_str()))?;
-            add_elements(alloc, contents, optional, all)?;
-            Ok(all.push(Element::End)?)
+            let ends = (Element::Begin(name.as_str()), Element::End);
+            add_between(alloc, contents, optional, ends, all)
         }
         Node::CaptureGroup { contents, .. } => add_elements(alloc, contents, optional, all),
         Node::Loop { loopee, quant, .. } | Node::Loop1CharBody { loopee, quant } => {
             match (quant.min, quant.max) {
                 (0, Some(1)) => add_elements(alloc, loopee, true, all),
                 (0, _) => Ok(all.push(Element::Other)?),
-                _ => {
-                    all.push(Element::Other)?;
-                    add_elements(alloc, loopee, optional, all)?;
-                    Ok(all.push(Element::Other)?)
-                }
+                _ => add_between(
+                    alloc,
+                    loopee,
+                    optional,
+                    (Element::Other, Element::Other),
+                    all,
+                ),
             }
         }
         _ => Ok(all.push(leaf_element(alloc, node, optional)?)?),
     }
+}
+
+/// Adds the elements of a node between two others.
+#[cycle(elements)]
+fn add_between<'a>(
+    alloc: Global,
+    node: &'a Node,
+    optional: bool,
+    ends: (Element<'a>, Element<'a>),
+    all: &mut Elements<'a>,
+) -> Result<(), AllocError> {
+    all.push(ends.0)?;
+    add_elements(alloc, node, optional, all)?;
+    Ok(all.push(ends.1)?)
 }
 
 #[cycle(elements)]

@@ -36,7 +36,7 @@ fn heading(alloc: Global, flags: Flags) -> Result<String, AllocError> {
     if flags.is_empty() {
         return String::from_str(alloc, "Pattern");
     }
-    Ok(format!(in alloc; "Pattern, {flags}")?)
+    ["Pattern, ", &flags].concat(alloc)
 }
 
 /// Writes a range of the pattern, with an element for each part that begins in it after the part before, is not empty,

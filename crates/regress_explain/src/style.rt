@@ -3,6 +3,7 @@
 use crate::markup::{Markup, Written};
 use crate::outline::Part;
 use regress_parse::Span;
+use std::alloc::{AllocError, Global};
 
 /// The style sheet without the rule that marks parts. It contains no character that is escaped in markup.
 const STYLE: &str = "\
@@ -62,9 +63,26 @@ fn select_all(parts: &[Part], page: &mut Markup) -> Written {
 fn select(part: &Part, page: &mut Markup) -> Written {
     let Span { start, end } = part.span;
     let class = format!(in page.alloc(); ".s{start}-{end}")?;
-    let selector = format!(in page.alloc();
-        "main:has({class}:is(:hover,:focus-within,:target)):not(:has({class} .m:not({class}):is(:hover,:focus-within,:target))) {class},"
-    )?;
-    page.text(&selector)?;
+    page.text(&selector_of(page.alloc(), &class)?)?;
     select_all(&part.parts, page)
+}
+
+/// Returns the selector of the elements of a class.
+fn selector_of(alloc: Global, class: &str) -> Result<String, AllocError> {
+    let pointed_at = ":is(:hover,:focus-within,:target)";
+    [
+        "main:has(",
+        class,
+        pointed_at,
+        "):not(:has(",
+        class,
+        " .m:not(",
+        class,
+        ")",
+        pointed_at,
+        ")) ",
+        class,
+        ",",
+    ]
+    .concat(alloc)
 }

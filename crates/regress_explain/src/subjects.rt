@@ -73,7 +73,7 @@ pub(crate) fn subject(
     let kind = named.kind();
     let list = list(alloc, &named.names)?;
     let separators = separator_words(alloc, named.separator)?;
-    Ok(Some(format!(in alloc; "{kind} as {list}{separators}")?))
+    [kind, " as ", &list, &separators].concat(alloc).map(Some)
 }
 
 impl<'a> Named<'a> {
@@ -174,7 +174,7 @@ fn separator_words(alloc: Global, separator: Separator) -> Result<String, AllocE
         return Ok(String::new(alloc));
     };
     match name_of_character(c, count > 1) {
-        Some(words) => Ok(format!(in alloc; ", with {words}")?),
+        Some(words) => [", with ", words].concat(alloc),
         None => Ok(String::new(alloc)),
     }
 }

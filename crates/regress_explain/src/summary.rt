@@ -21,33 +21,55 @@ pub(crate) fn summary(alloc: Global, root: &Node) -> Result<String, AllocError> 
     };
     let mut elements = Vec::new(alloc);
     add_elements(alloc, root, false, &mut elements)?;
-    let mut sentence = String::from_str(alloc, "Matches ")?;
-    if let Some(text) = whole_text(alloc, &elements)? {
-        sentence.push_str(&text_words(alloc, &text.characters)?)?;
-    } else if let Some(subject) = subject(alloc, &elements)? {
-        let length = length_words(alloc, length)?;
-        sentence.push_str(&format!(in alloc; "{subject}: {length}")?)?;
-    } else {
-        sentence.push_str(&length_words(alloc, length)?)?;
-        sentence.push_str(&required_words(alloc, &elements, length)?)?;
+    let words = matched_words(alloc, &elements, length)?;
+    ["Matches ", &words, place_words(&elements), "."].concat(alloc)
+}
+
+/// Returns the words of what these elements match.
+fn matched_words(
+    alloc: Global,
+    elements: &[Element<'_>],
+    length: Length,
+) -> Result<String, AllocError> {
+    if let Some(text) = whole_text(alloc, elements)? {
+        return text_words(alloc, &text.characters);
     }
-    sentence.push_str(place_words(&elements))?;
-    sentence.push('.')?;
-    Ok(sentence)
+    let subject = subject(alloc, elements)?;
+    let length_words = length_words(alloc, length)?;
+    match subject {
+        Some(subject) => [&subject, ": ", &length_words].concat(alloc),
+        None => {
+            let required = required_words(alloc, elements, length)?;
+            [length_words, required].concat(alloc)
+        }
+    }
 }
 
 fn length_words(alloc: Global, length: Length) -> Result<String, AllocError> {
-    match (length.min, length.max) {
-        (0, Some(0)) => String::from_str(alloc, "an empty text"),
-        (1, Some(1)) => String::from_str(alloc, "1 character"),
-        (0, None) => String::from_str(alloc, "any number of characters"),
-        (1, None) => String::from_str(alloc, "at least 1 character"),
-        (min, None) => Ok(format!(in alloc; "at least {min} characters")?),
-        (0, Some(1)) => String::from_str(alloc, "at most 1 character"),
-        (0, Some(max)) => Ok(format!(in alloc; "at most {max} characters")?),
-        (min, Some(max)) if min == max => Ok(format!(in alloc; "{min} characters")?),
-        (min, Some(max)) => Ok(format!(in alloc; "{min} to {max} characters")?),
+    if let Some(words) = fixed_length(length) {
+        return String::from_str(alloc, words);
     }
+    match (length.min, length.max) {
+        (min, None) => number_of_characters(alloc, "at least ", min),
+        (0, Some(max)) => number_of_characters(alloc, "at most ", max),
+        (min, Some(max)) if min == max => number_of_characters(alloc, "", min),
+        (min, Some(max)) => number_of_characters(alloc, &format!(in alloc; "{min} to ")?, max),
+    }
+}
+
+fn fixed_length(length: Length) -> Option<&'static str> {
+    Some(match (length.min, length.max) {
+        (0, Some(0)) => "an empty text",
+        (1, Some(1)) => "1 character",
+        (0, None) => "any number of characters",
+        (1, None) => "at least 1 character",
+        (0, Some(1)) => "at most 1 character",
+        _ => return None,
+    })
+}
+
+fn number_of_characters(alloc: Global, front: &str, number: usize) -> Result<String, AllocError> {
+    Ok(format!(in alloc; "{front}{number} characters")?)
 }
 
 /// A text in a pattern: characters that can be shown as one text.
@@ -108,17 +130,18 @@ fn required_words(
         return Ok(String::new(alloc));
     }
     let words = quoted_text(alloc, &text)?;
-    let them = if length.min == 1 && length.max.unwrap_or(1) == 1 {
-        "it"
-    } else {
-        "them"
-    };
-    let case = if text.iter().any(|one| one.either_case) {
-        ", in either case"
-    } else {
-        ""
-    };
-    Ok(format!(in alloc; ", with {words} in {them}{case}")?)
+    let is_one = length.min == 1 && length.max.unwrap_or(1) == 1;
+    [", with ", &words, in_them(is_one, &text)].concat(alloc)
+}
+
+/// Returns that a text is in the one character of a match or in its characters, and whether its case matters.
+fn in_them(is_one: bool, text: &[Character]) -> &'static str {
+    match (is_one, text.iter().any(|one| one.either_case)) {
+        (true, false) => " in it",
+        (true, true) => " in it, in either case",
+        (false, false) => " in them",
+        (false, true) => " in them, in either case",
+    }
 }
 
 /// Returns the longest text that each match has, the first one if several are as long.

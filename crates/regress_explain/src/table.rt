@@ -42,16 +42,26 @@ fn write_table(matched: Matched<'_>, names: &[Option<String>], page: &mut Markup
         .zip(matched.captures.chunks(groups))
         .take(ROWS)
     {
-        page.tag(Tag::Open(Element::Row))?;
-        write_cell(matched.text, Some(range), page)?;
-        for capture in captures.iter().take(COLUMNS) {
-            write_cell(matched.text, capture.as_ref(), page)?;
-        }
-        page.tag(Tag::Close(Element::Row))?;
+        write_row(matched.text, range, captures, page)?;
     }
     page.tag(Tag::Close(Element::Table))?;
     page.tag(Tag::Close(Element::Figure))?;
     write_rest(matched.ranges.len(), groups, page)
+}
+
+/// Writes a match and its captures.
+fn write_row(
+    text: &str,
+    range: &Range<usize>,
+    captures: &[Option<Range<usize>>],
+    page: &mut Markup,
+) -> Written {
+    page.tag(Tag::Open(Element::Row))?;
+    write_cell(text, Some(range), page)?;
+    for capture in captures.iter().take(COLUMNS) {
+        write_cell(text, capture.as_ref(), page)?;
+    }
+    page.tag(Tag::Close(Element::Row))
 }
 
 /// Writes the names of the columns.

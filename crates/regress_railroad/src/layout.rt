@@ -4,7 +4,7 @@ use crate::boxes::{boxed, framed, hung, loop_around, set_box, tracks};
 use crate::diagram::{BoxKind, Diagram, FrameKind, Iterations};
 use crate::row::{Piece, Row};
 use crate::source::{Source, excerpt};
-use regress_base::types::Quantifier;
+use regress_base::types::{CaptureGroupID, Quantifier};
 use regress_labels::{
     Character, Label, anchor_words, columns, group_text, iterations_text, lookaround_words,
     name_of, set_label, set_of, strings_label,
@@ -84,27 +84,16 @@ fn add(node: &Node, setting: &mut Setting<'_>, pieces: &mut Pieces) -> Result<()
 /// Returns the piece of a node that is not a `Cat`.
 #[cycle(lay_out)]
 fn piece(node: &Node, setting: &mut Setting<'_>) -> Result<Option<Piece>, AllocError> {
-    let alloc = setting.alloc;
     let part = match node {
-        Node::Alt(..) if is_reference_by_name(node, setting) => references(node, setting)?,
-        Node::Alt(..) if is_set(node, setting)? => written_box(node, setting)?,
-        Node::Alt(..) => lay_out_tracks(node, setting)?,
+        Node::Alt(..) => match atom(node, setting)? {
+            Some(part) => Ok(part),
+            None => lay_out_tracks(node, setting),
+        },
         Node::CaptureGroup { id, contents, .. } => {
-            let group = u32::from(*id) + 1;
-            let label = group_text(
-                alloc,
-                "group ",
-                group,
-                name_of(group, setting.source.written.names),
-            )?;
-            framed(alloc, FrameKind::Group, label, lay_out(contents, setting)?)?
+            group_around(*id, lay_out(contents, setting)?, setting)
         }
         Node::Loop { loopee, quant, .. } | Node::Loop1CharBody { loopee, quant } => {
-            let body = lay_out(loopee, setting)?;
-            match quant.max {
-                Some(0) => nothing(setting)?,
-                _ => loop_around(alloc, iterations(alloc, quant)?, body)?,
-            }
+            repeated(quant, lay_out(loopee, setting)?, setting)
         }
         Node::LookaroundAssertion {
             negate,
@@ -115,11 +104,46 @@ fn piece(node: &Node, setting: &mut Setting<'_>) -> Result<Option<Piece>, AllocE
             let reversed = mem::replace(&mut setting.reversed, *backwards);
             let body = lay_out(contents, setting)?;
             setting.reversed = reversed;
-            lookaround(alloc, *negate, *backwards, body)?
+            lookaround(setting.alloc, *negate, *backwards, body)
         }
         _ => return leaf(node, setting),
     };
-    Ok(Some(Piece::Part(part)))
+    Ok(Some(Piece::Part(part?)))
+}
+
+/// Returns the box of alternatives that are written as one atom: a reference by name, a class or a property.
+fn atom(node: &Node, setting: &mut Setting<'_>) -> Result<Option<Diagram>, AllocError> {
+    if is_reference_by_name(node, setting) {
+        return references(node, setting).map(Some);
+    }
+    if is_set(node, setting)? {
+        return written_box(node, setting).map(Some);
+    }
+    Ok(None)
+}
+
+/// Returns a group around its contents.
+fn group_around(
+    id: CaptureGroupID,
+    contents: Diagram,
+    setting: &Setting<'_>,
+) -> Result<Diagram, AllocError> {
+    let group = u32::from(id) + 1;
+    let name = name_of(group, setting.source.written.names);
+    let label = group_text(setting.alloc, "group ", group, name)?;
+    framed(setting.alloc, FrameKind::Group, label, contents)
+}
+
+/// Returns a loop around its body.
+fn repeated(
+    quant: &Quantifier,
+    body: Diagram,
+    setting: &Setting<'_>,
+) -> Result<Diagram, AllocError> {
+    match quant.max {
+        Some(0) => nothing(setting),
+        _ => loop_around(setting.alloc, iterations(setting.alloc, quant)?, body),
+    }
 }
 
 /// Lays out alternatives. It iterates over right sides: there may be as many nested ones as alternatives.

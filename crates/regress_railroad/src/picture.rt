@@ -103,22 +103,28 @@ fn drawn(
     ensures { IfOk result (λ sheet. sheet.depth ≡ 0) }
 {
     let diagram = laid_out(alloc, regex, pattern, spans, lines)?;
-    let extent = diagram.extent;
     let flags = flags_text(alloc, regex.flags)?;
+    on_sheet(alloc, &diagram, &flags)
+}
+
+/// Draws a diagram, and the flags above it, on a sheet with room for both.
+fn on_sheet(alloc: Global, diagram: &Diagram, flags: &str) -> Result<Sheet, AllocError>
+    ensures { IfOk result (λ sheet. sheet.depth ≡ 0) }
+{
+    let extent = diagram.extent;
     let top = if flags.is_empty() { MARGIN / 2 } else { MARGIN };
     let width = extent
         .width
-        .max(text_width(columns(&flags)))
+        .max(text_width(columns(flags)))
         .saturating_add(2 * MARGIN);
     let height = extent.height().saturating_add(top + MARGIN / 2);
-    let mut sheet = Sheet::new(alloc, width, height);
-    draw_paper(width, height, &mut sheet)?;
-    draw_text("small", &flags, FLAGS_AT, &mut sheet)?;
     let start = Point {
         x: MARGIN,
         y: extent.above.saturating_add(top),
     };
-    draw_whole(&diagram, start, &mut sheet)?;
+    let mut sheet = Sheet::new(alloc, width, height);
+    draw_paper(width, height, &mut sheet)?;
+    draw_whole(diagram, flags, start, &mut sheet)?;
     Ok(sheet)
 }
 
@@ -162,10 +168,11 @@ fn draw_paper(width: u32, height: u32, sheet: &mut Sheet) -> Drawn
     })
 }
 
-/// Draws the start of the line, and the diagram after it.
-fn draw_whole(diagram: &Diagram, start: Point, sheet: &mut Sheet) -> Drawn
+/// Draws the flags, the start of the line, and the diagram after it.
+fn draw_whole(diagram: &Diagram, flags: &str, start: Point, sheet: &mut Sheet) -> Drawn
     ensures { OnOk result (sheet.new.depth ≡ sheet.old.depth) }
 {
+    draw_text("small", flags, FLAGS_AT, sheet)?;
     draw_line(start.left(MARGIN / 2), start, sheet)?;
     draw_circle("mark", 5, start.left(MARGIN / 2), sheet)?;
     draw(diagram, start, sheet)

@@ -113,8 +113,7 @@ fn property(inverted: bool, name: &[u32], source: Source<'_>) -> Result<String, 
     if !inverted {
         return Ok(nouns.one);
     }
-    let many = nouns.many;
-    Ok(format!(in alloc; "any character except {many}")?)
+    ["any character except ", &nouns.many].concat(alloc)
 }
 
 /// Returns what a class escape matches.

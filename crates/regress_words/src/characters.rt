@@ -84,16 +84,15 @@ pub fn character_words(alloc: Global, c: u32, either_case: bool) -> Result<Strin
     push_symbol(c, alloc, &mut shown)?;
     match (full_name(c), c) {
         (Some(Name(one, _)), 0x20) => String::from_str(alloc, one),
-        (Some(Name(one, _)), _) => Ok(format!(in alloc; "{one} ({shown})")?),
+        (Some(Name(one, _)), _) => [one, " (", &shown, ")"].concat(alloc),
         (None, 0xD800..=0xDFFF) => {
-            Ok(format!(in alloc; "the surrogate {shown}, which no text contains")?)
+            ["the surrogate ", &shown, ", which no text contains"].concat(alloc)
         }
         (None, c) if is_seen(c) => {
             let text = quoted(alloc, &[c])?;
-            let case = case_words(either_case);
-            Ok(format!(in alloc; "the character {text}{case}")?)
+            ["the character ", &text, case_words(either_case)].concat(alloc)
         }
-        _ => Ok(format!(in alloc; "the character {shown}")?),
+        _ => ["the character ", &shown].concat(alloc),
     }
 }
 

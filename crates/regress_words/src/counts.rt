@@ -20,11 +20,15 @@ fn times(alloc: Global, min: usize, max: Option<usize>) -> Result<String, AllocE
         return String::from_str(alloc, words);
     }
     match (min, max) {
-        (min, None) => Ok(format!(in alloc; "at least {min} times")?),
-        (0, Some(max)) => Ok(format!(in alloc; "at most {max} times")?),
-        (min, Some(max)) if min == max => Ok(format!(in alloc; "exactly {min} times")?),
-        (min, Some(max)) => Ok(format!(in alloc; "{min} to {max} times")?),
+        (min, None) => number_of_times(alloc, "at least ", min),
+        (0, Some(max)) => number_of_times(alloc, "at most ", max),
+        (min, Some(max)) if min == max => number_of_times(alloc, "exactly ", min),
+        (min, Some(max)) => { number_of_times(alloc, &format!(in alloc; "{min} to ")?, max) }
     }
+}
+
+fn number_of_times(alloc: Global, front: &str, number: usize) -> Result<String, AllocError> {
+    Ok(format!(in alloc; "{front}{number} times")?)
 }
 
 fn fixed(min: usize, max: Option<usize>) -> Option<&'static str> {

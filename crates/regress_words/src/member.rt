@@ -85,10 +85,14 @@ impl Member {
         if !inverted {
             return Member::nouns(alloc, &nouns.one, &nouns.many);
         }
-        let many = nouns.many;
-        let one = format!(in alloc; "any character except {many}")?;
-        let many = format!(in alloc; "all characters except {many}")?;
-        Member::nouns(alloc, &one, &many)
+        Member::all_except(alloc, &nouns.many)
+    }
+
+    /// Returns what matches any character except these.
+    fn all_except(alloc: Global, many: &str) -> Result<Member, AllocError> {
+        let one = ["any character except ", many].concat(alloc)?;
+        let all = ["all characters except ", many].concat(alloc)?;
+        Member::nouns(alloc, &one, &all)
     }
 
     fn is_character(&self) -> bool {
@@ -150,9 +154,7 @@ fn except(alloc: Global, operator: Operator, members: &[Member]) -> Result<Membe
         [only] if matches!(only.kind, Kind::Named) => String::from_str(alloc, &only.alone)?,
         _ => all_of(alloc, operator, members)?,
     };
-    let one = format!(in alloc; "any character except {many}")?;
-    let many = format!(in alloc; "all characters except {many}")?;
-    Member::nouns(alloc, &one, &many)
+    Member::all_except(alloc, &many)
 }
 
 /// Returns one character of those of the members.
@@ -162,15 +164,14 @@ fn one_of(alloc: Global, operator: Operator, members: &[Member]) -> Result<Strin
         (_, [first, rest @ ..]) => (first, rest),
         _ => return Ok(String::new(alloc)),
     };
-    let mut words = String::from_str(alloc, &first.alone)?;
     if let Operator::Difference = operator {
         let rest = list(alloc, rest, Form::Except, " and ")?;
-        words.push_str(&format!(in alloc; ", except {rest}")?)?;
-        return Ok(words);
+        return [&first.alone, ", except ", &rest].concat(alloc);
     }
+    let mut words = String::from_str(alloc, &first.alone)?;
     for other in rest {
-        let other = &other.alone;
-        words.push_str(&format!(in alloc; " that is also {other}")?)?;
+        words.push_str(" that is also ")?;
+        words.push_str(&other.alone)?;
     }
     Ok(words)
 }
@@ -182,7 +183,7 @@ fn one_listed(alloc: Global, members: &[Member]) -> Result<String, AllocError> {
         return list(alloc, members, Form::Listed, " or ");
     }
     let list = list(alloc, members, Form::Listed, " and ")?;
-    Ok(format!(in alloc; "one of {list}")?)
+    ["one of ", &list].concat(alloc)
 }
 
 /// Returns all characters of the members, for an exception.
@@ -193,12 +194,11 @@ fn all_of(alloc: Global, operator: Operator, members: &[Member]) -> Result<Strin
         _ => return Ok(String::new(alloc)),
     };
     let word = match operator {
-        Operator::Difference => "other than",
-        _ => "that are also",
+        Operator::Difference => " other than ",
+        _ => " that are also ",
     };
-    let first = &first.except;
     let rest = list(alloc, rest, Form::Except, " and ")?;
-    Ok(format!(in alloc; "{first} {word} {rest}")?)
+    [&first.except, word, &rest].concat(alloc)
 }
 
 /// The form of the members of a list.

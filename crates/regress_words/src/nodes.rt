@@ -24,12 +24,11 @@ pub fn words(node: &Node, span: Span, source: Source<'_>) -> Result<String, Allo
         Node::Loop { quant, .. } | Node::Loop1CharBody { quant, .. } => count_words(alloc, quant),
         Node::BackRef { group, icase } => {
             let group = group_words(*group, source)?;
-            let case = case_words(*icase);
-            Ok(format!(in alloc; "the same text as {group}{case}")?)
+            ["the same text as ", &group, case_words(*icase)].concat(alloc)
         }
         Node::ByteSequence(bytes) => {
             let text = String::from_utf8_lossy(alloc, bytes)?;
-            Ok(format!(in alloc; "the text \"{text}\"")?)
+            ["the text \"", &text, "\""].concat(alloc)
         }
         Node::Alt(left, _) => alternatives(left, span, source),
         node => set_or_character(node, span, source),
@@ -79,9 +78,10 @@ fn lookaround_words(negate: bool, backwards: bool) -> &'static str {
 
 /// Returns the number of a group, from 1, and its name.
 fn group_words(group: u32, source: Source<'_>) -> Result<String, AllocError> {
+    let words = format!(in source.alloc; "group {group}")?;
     match name_of(group, source.names) {
-        Some(name) => Ok(format!(in source.alloc; "group {group}, named {name}")?),
-        None => Ok(format!(in source.alloc; "group {group}")?),
+        Some(name) => [&words, ", named ", name].concat(source.alloc),
+        None => Ok(words),
     }
 }
 
@@ -113,6 +113,6 @@ fn set_or_character(node: &Node, span: Span, source: Source<'_>) -> Result<Strin
     let members = set_words(alloc, node)?.unwrap_or(String::new(alloc));
     Ok(match members.as_str() {
         "any character" | "no character" => members,
-        _ => format!(in alloc; "a character: {members}")?,
+        _ => ["a character: ", &members].concat(alloc)?,
     })
 }

@@ -37,7 +37,7 @@ fn another_crate_calls_the_library(rt: HostRuntime) -> Result<(), Fail> {
 
 #[test]
 fn a_caret_is_below_the_position_of_a_syntax_error(rt: HostRuntime) -> Result<(), Fail> {
-    for (pattern, wanted) in [
+    for (pattern, wanted) in &[
         (
             "ab[c",
             Some("ab[c\n  ^ Unbalanced bracket: a bracket of the text is `\\[`"),
@@ -46,7 +46,7 @@ fn a_caret_is_below_the_position_of_a_syntax_error(rt: HostRuntime) -> Result<()
         ("ab", None),
     ] {
         let shown = with_caret(rt.alloc(), pattern)?;
-        expect_eq!(rt; shown.as_deref(), wanted, "{pattern}");
+        expect_eq!(rt; shown.as_deref(), *wanted, "{pattern}");
     }
     Ok(())
 }
@@ -71,9 +71,9 @@ fn a_kind_of_error_has_a_name_and_a_number(rt: HostRuntime) -> Result<(), Fail> 
 
 #[test]
 fn a_loop_without_a_bound_is_underlined(rt: HostRuntime) -> Result<(), Fail> {
-    for (pattern, wanted) in [("x(?:ab)*y", Some("x(?:ab)*y\n ~~~~~~~")), ("a{2}", None)] {
+    for (pattern, wanted) in &[("x(?:ab)*y", Some("x(?:ab)*y\n ~~~~~~~")), ("a{2}", None)] {
         let shown = underlined(rt.alloc(), pattern)?;
-        expect_eq!(rt; shown.as_deref(), wanted, "{pattern}");
+        expect_eq!(rt; shown.as_deref(), *wanted, "{pattern}");
     }
     Ok(())
 }
@@ -111,12 +111,12 @@ fn matches_in(
 fn a_text_is_sliced_by_its_first_match(rt: HostRuntime) -> Result<(), Fail> {
     let alloc = rt.alloc();
     let matcher = prepared(alloc, "(é)\\1*")?;
-    for (text, steps, wanted) in [
+    for (text, steps, wanted) in &[
         ("caféé é", 100, Ok(Some("éé"))),
         ("cafe", 100, Ok(None)),
         ("café", 1, Err(SearchError::OutOfSteps)),
     ] {
-        expect_eq!(rt; first_match(alloc, &matcher, text, steps), wanted, "{text}");
+        expect_eq!(rt; first_match(alloc, &matcher, text, *steps), *wanted, "{text}");
     }
     Ok(())
 }

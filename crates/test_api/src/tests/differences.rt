@@ -2,7 +2,7 @@
 //! others is from ECMA-262.
 
 use regress_differences::DifferenceKind::{CaseClosure, SameName, StringSet};
-use regress_differences::{Difference, PlacedFault, differences};
+use regress_differences::{Difference, DifferenceKind, PlacedFault, differences};
 use regress_front::parse::Span;
 use regress_front::types::Flags;
 use regress_front::unicode::Tables;
@@ -22,13 +22,22 @@ fn reported(
     Ok(differences(alloc, &points, flags, tables)?)
 }
 
-/// The flags of JavaScript's flag v, and the flag i if `icase` is set.
-fn sets(icase: bool) -> Flags {
+/// Returns the flags with these letters, of i, u and v.
+fn flags_of(letters: &str) -> Flags {
+    let unicode_sets = letters.contains('v');
     Flags {
-        icase,
-        unicode: true,
-        unicode_sets: true,
+        icase: letters.contains('i'),
+        unicode: unicode_sets || letters.contains('u'),
+        unicode_sets,
         ..Flags::default()
+    }
+}
+
+/// Returns whether one construct differs, of this kind and with this span.
+fn is_only(found: &[Difference], kind: DifferenceKind, start: usize, end: usize) -> bool {
+    match found {
+        [one] => one.kind == kind && one.span == Span { start, end },
+        _ => false,
     }
 }
 
@@ -36,35 +45,23 @@ fn sets(icase: bool) -> Flags {
 fn constructs_that_differ_are_reported(rt: HostRuntime) -> Result<(), Fail> {
     let alloc = rt.alloc();
     let tables = unicode_tables(alloc)?;
-    let none = Flags::default();
-    let icase = Flags {
-        icase: true,
-        ..none
-    };
-    let unicode = Flags {
-        unicode: true,
-        ..icase
-    };
-    let cases = [
-        ("[k]", icase, CaseClosure, 0, 3),
-        ("[\u{DF}]", icase, CaseClosure, 0, 3),
-        ("[^\u{1FB3}]", icase, CaseClosure, 0, 4),
-        ("x\\w", icase, CaseClosure, 1, 3),
-        ("[\\W]", unicode, CaseClosure, 0, 4),
-        ("\\P{Lu}", sets(true), CaseClosure, 0, 6),
-        ("[[^A]]", sets(true), CaseClosure, 0, 6),
-        ("[[A-Z]&&[a-z]]", sets(true), CaseClosure, 0, 14),
-        ("[\\q{}]", sets(true), CaseClosure, 0, 6),
-        ("(?i:[k])", none, CaseClosure, 4, 7),
-        ("[\\q{ab}]", sets(true), CaseClosure, 0, 8),
-        ("x\\p{RGI_Emoji}", sets(false), StringSet, 1, 14),
-        ("(?:(?<a>x)|(?<a>y))\\k<a>", none, SameName, 19, 24),
-    ];
-    for (pattern, flags, kind, start, end) in cases {
-        let found = reported(alloc, pattern, flags, &tables)?;
-        expect_eq!(rt; found.len(), 1);
-        expect_eq!(rt; found[0].kind, kind);
-        expect_eq!(rt; found[0].span, Span { start, end });
+    for (pattern, letters, kind, start, end) in &[
+        ("[k]", "i", CaseClosure, 0, 3),
+        ("[\u{DF}]", "i", CaseClosure, 0, 3),
+        ("[^\u{1FB3}]", "i", CaseClosure, 0, 4),
+        ("x\\w", "i", CaseClosure, 1, 3),
+        ("[\\W]", "iu", CaseClosure, 0, 4),
+        ("\\P{Lu}", "iv", CaseClosure, 0, 6),
+        ("[[^A]]", "iv", CaseClosure, 0, 6),
+        ("[[A-Z]&&[a-z]]", "iv", CaseClosure, 0, 14),
+        ("[\\q{}]", "iv", CaseClosure, 0, 6),
+        ("(?i:[k])", "", CaseClosure, 4, 7),
+        ("[\\q{ab}]", "iv", CaseClosure, 0, 8),
+        ("x\\p{RGI_Emoji}", "v", StringSet, 1, 14),
+        ("(?:(?<a>x)|(?<a>y))\\k<a>", "", SameName, 19, 24),
+    ] {
+        let found = reported(alloc, pattern, flags_of(letters), &tables)?;
+        assert!(rt; is_only(&found, *kind, *start, *end));
     }
     Ok(())
 }
@@ -73,34 +70,25 @@ fn constructs_that_differ_are_reported(rt: HostRuntime) -> Result<(), Fail> {
 fn constructs_that_agree_are_not_reported(rt: HostRuntime) -> Result<(), Fail> {
     let alloc = rt.alloc();
     let tables = Tables::small(alloc)?;
-    let icase = Flags {
-        icase: true,
-        ..Flags::default()
-    };
-    let unicode = Flags {
-        unicode: true,
-        ..icase
-    };
-    let cases = [
-        ("", icase),
-        ("^k|s*?$", icase),
+    for (pattern, letters) in &[
+        ("", "i"),
+        ("^k|s*?$", "i"),
         // with i: class escapes, and classes without characters whose case variants depend on u
-        ("\\d\\D\\s\\S", icase),
-        ("[0-9a-f][^\"\\s][^,]", icase),
-        ("[\u{C0}-\u{C4}][^\u{430}-\u{44F}]", icase),
-        ("[k-s]\\w\\W[^\\w]", unicode),
-        ("(?=.)(?<!\\b)", icase),
-        ("[k]\\w", Flags::default()),
-        ("(?-i:[k])", Flags::default()),
-        ("(?m:[k])", Flags::default()),
-        ("(?<a>x)\\k<a>\\1", icase),
-        ("(.)(.)(?:\\1|\\2)", icase),
-        ("[a\\q{}\\q{bc}]", sets(false)),
+        ("\\d\\D\\s\\S", "i"),
+        ("[0-9a-f][^\"\\s][^,]", "i"),
+        ("[\u{C0}-\u{C4}][^\u{430}-\u{44F}]", "i"),
+        ("[k-s]\\w\\W[^\\w]", "iu"),
+        ("(?=.)(?<!\\b)", "i"),
+        ("[k]\\w", ""),
+        ("(?-i:[k])", ""),
+        ("(?m:[k])", ""),
+        ("(?<a>x)\\k<a>\\1", "i"),
+        ("(.)(.)(?:\\1|\\2)", "i"),
+        ("[a\\q{}\\q{bc}]", "v"),
         // alternatives without terms
-        ("a|()", sets(true)),
-    ];
-    for (pattern, flags) in cases {
-        let found = reported(alloc, pattern, flags, &tables)?;
+        ("a|()", "iv"),
+    ] {
+        let found = reported(alloc, pattern, flags_of(letters), &tables)?;
         assert!(rt; found.is_empty());
     }
     Ok(())
@@ -108,7 +96,7 @@ fn constructs_that_agree_are_not_reported(rt: HostRuntime) -> Result<(), Fail> {
 
 #[test]
 fn kinds_have_a_name_and_a_text(rt: HostRuntime) -> Result<(), Fail> {
-    for (kind, name, example) in [
+    for (kind, name, example) in &[
         (
             CaseClosure,
             "case-closure",
@@ -117,8 +105,8 @@ fn kinds_have_a_name_and_a_text(rt: HostRuntime) -> Result<(), Fail> {
         (StringSet, "string-set", "\\p{RGI_Emoji}"),
         (SameName, "same-name", "(?:(?<a>x)|(?<a>y))\\k<a>"),
     ] {
-        expect_eq!(rt; kind.name(), name);
-        assert!(rt; kind.text().contains(example));
+        expect_eq!(rt; kind.name(), *name);
+        assert!(rt; kind.text().contains(*example));
     }
     Ok(())
 }

@@ -54,14 +54,15 @@ fn a_text_is_escaped(rt: HostRuntime) -> Result<(), Fail> {
 #[test]
 fn each_kind_of_character_is_escaped(rt: HostRuntime) -> Result<(), Fail> {
     let alloc = rt.alloc();
-    let line_feed = escape(alloc, "foo\nbar")?;
-    expect_eq!(rt; line_feed.as_str(), "\\x66oo\\nbar");
-    let separator = escape(alloc, "foo\u{2028}bar")?;
-    expect_eq!(rt; separator.as_str(), "\\x66oo\\u2028bar");
-    let emoji = escape(alloc, "foo😀_bar")?;
-    expect_eq!(rt; emoji.as_str(), "\\x66oo😀_bar");
-    let empty = escape(alloc, "")?;
-    expect_eq!(rt; empty.as_str(), "");
+    for (text, wanted) in &[
+        ("foo\nbar", "\\x66oo\\nbar"),
+        ("foo\u{2028}bar", "\\x66oo\\u2028bar"),
+        ("foo😀_bar", "\\x66oo😀_bar"),
+        ("", ""),
+    ] {
+        let pattern = escape(alloc, text)?;
+        expect_eq!(rt; pattern.as_str(), *wanted);
+    }
     Ok(())
 }
 

@@ -8,7 +8,7 @@ use std::test::Fail;
 #[test]
 fn the_shortest_match_of_a_pattern(rt: HostRuntime) -> Result<(), Fail> {
     let alloc = rt.alloc();
-    for (pattern, wanted) in [
+    for (pattern, wanted) in &[
         ("", 0),
         ("abc", 3),
         ("(ab)[cd].", 4),
@@ -19,7 +19,7 @@ fn the_shortest_match_of_a_pattern(rt: HostRuntime) -> Result<(), Fail> {
         ("^(?=abc)d\\b(?<!e)", 1),
     ] {
         let regex = parsed(alloc, pattern, false)?;
-        expect_eq!(rt; least_length(&regex.node), wanted, "{pattern}");
+        expect_eq!(rt; least_length(&regex.node), *wanted, "{pattern}");
     }
     Ok(())
 }

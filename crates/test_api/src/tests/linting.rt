@@ -6,12 +6,13 @@ use example_callers::remarks::{Remark, remarks};
 use regress_front::parse::Span;
 use regress_front::types::Flags;
 use regress_front::unicode::Tables;
+use std::alloc::Global;
 use std::test::Fail;
 
 #[test]
 fn a_linter_lists_groups_and_warns_of_nested_loops(rt: HostRuntime) -> Result<(), Fail> {
     let alloc = rt.alloc();
-    for (pattern, wanted) in [
+    for (pattern, wanted) in &[
         (
             "(?<year>a)|(b(c))",
             "Report { groups: [Group { id: 0, name: Some(\"year\") }, Group { id: 1, name: None }, Group { id: 2, name: None }], loops: 0, lookarounds: 0, nested: false }",
@@ -29,7 +30,7 @@ fn a_linter_lists_groups_and_warns_of_nested_loops(rt: HostRuntime) -> Result<()
         let report = lint(alloc, &parsed(alloc, pattern, false)?)?;
         expect_eq!(rt;
             format!(in alloc; "{report:?}")?.as_str(),
-            wanted,
+            *wanted,
             "{pattern}"
         );
     }
@@ -39,7 +40,7 @@ fn a_linter_lists_groups_and_warns_of_nested_loops(rt: HostRuntime) -> Result<()
 #[test]
 fn nested_unbounded_loops_are_reported(rt: HostRuntime) -> Result<(), Fail> {
     let alloc = rt.alloc();
-    for (pattern, wanted) in [
+    for (pattern, wanted) in &[
         ("(a*)*", true),
         ("(?:b|(?=a{2,}))+", true),
         ("a*(?:b(?:c+d)?)*", true),
@@ -51,7 +52,7 @@ fn nested_unbounded_loops_are_reported(rt: HostRuntime) -> Result<(), Fail> {
         ("(?:a|a)*", false),
     ] {
         let report = lint(alloc, &parsed(alloc, pattern, false)?)?;
-        expect_eq!(rt; report.nested, wanted, "{pattern}");
+        expect_eq!(rt; report.nested, *wanted, "{pattern}");
     }
     Ok(())
 }
@@ -59,9 +60,7 @@ fn nested_unbounded_loops_are_reported(rt: HostRuntime) -> Result<(), Fail> {
 // docs/differences.md has the first two patterns. V8 matches the others as this library does.
 #[test]
 fn what_matches_otherwise_than_in_javascript_is_explained(rt: HostRuntime) -> Result<(), Fail> {
-    let alloc = rt.alloc();
-    let tables = Tables::small(alloc)?;
-    for (pattern, icase, wanted) in [
+    for (pattern, icase, wanted) in &[
         ("a[k]", true, Some((1, 4, "case-closure", "U+212A"))),
         (
             "(?:(?<a>x)|(?<a>y))\\k<a>",
@@ -72,14 +71,20 @@ fn what_matches_otherwise_than_in_javascript_is_explained(rt: HostRuntime) -> Re
         ("a[b]", true, None),
         ("(?:(?<a>x)|(?<b>y))\\k<a>", false, None),
     ] {
-        let flags = Flags {
-            icase,
-            ..Flags::default()
-        };
-        let found = remarks(alloc, pattern, flags, &tables)?;
-        assert!(rt; are_as_wanted(&found, wanted), "{pattern}");
+        let found = remarked(rt.alloc(), pattern, *icase)?;
+        assert!(rt; are_as_wanted(&found, *wanted), "{pattern}");
     }
     Ok(())
+}
+
+/// Returns the remarks on a pattern.
+fn remarked(alloc: Global, pattern: &str, icase: bool) -> Result<Vec<Remark>, Fail> {
+    let tables = Tables::small(alloc)?;
+    let flags = Flags {
+        icase,
+        ..Flags::default()
+    };
+    Ok(remarks(alloc, pattern, flags, &tables)?)
 }
 
 /// Returns whether there is one remark with this span, name and example, or none if none is wanted.

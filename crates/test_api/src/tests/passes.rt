@@ -81,7 +81,7 @@ fn visited(
 
 #[test]
 fn children_are_visited_before_parents_and_left_before_right(rt: HostRuntime) -> Result<(), Fail> {
-    for (pattern, unicode, want) in [
+    for (pattern, unicode, want) in &[
         (
             "(?:a|bc)d",
             true,
@@ -99,8 +99,8 @@ fn children_are_visited_before_parents_and_left_before_right(rt: HostRuntime) ->
             "Char at 4, forwards, no unicode\nLookaroundAssertion at 3, backwards, no unicode\nChar at 3, backwards, no unicode\nCat at 2, backwards, no unicode\nLookaroundAssertion at 1, forwards, no unicode\nGoal at 1, forwards, no unicode\nCat at 0, forwards, no unicode\nnot changed",
         ),
     ] {
-        let found = visited(rt.alloc(), pattern, unicode, 9)?;
-        expect_eq!(rt; found.as_str(), want, "{pattern}");
+        let found = visited(rt.alloc(), pattern, *unicode, 9)?;
+        expect_eq!(rt; found.as_str(), *want, "{pattern}");
     }
     Ok(())
 }

@@ -25,11 +25,11 @@ fn a_picture_has_the_characters_and_the_names_of_its_pattern(rt: HostRuntime) ->
     let picture = svg(alloc, &regex)?;
     assert!(rt; picture.starts_with("<svg xmlns=\"http://www.w3.org/2000/svg\""));
     assert!(rt; picture.ends_with("</svg>"));
-    for text in ["year", "é", "U+000A", "&lt;"] {
-        assert!(rt; picture.contains(text));
+    for text in &["year", "é", "U+000A", "&lt;"] {
+        assert!(rt; picture.contains(*text));
     }
-    for reference in ["href", "url("] {
-        assert!(rt; !picture.contains(reference));
+    for reference in &["href", "url("] {
+        assert!(rt; !picture.contains(*reference));
     }
     Ok(())
 }
@@ -41,8 +41,8 @@ fn a_pattern_is_explained_and_drawn_part_by_part(rt: HostRuntime) -> Result<(), 
     let lines =
         "Matches 5 characters, with \"-\" in them.\n0..5  \\d{4}  exactly 4 times: a digit (0-9)\n5..6  -  a hyphen (-)\n";
     expect_eq!(rt; text.as_str(), lines);
-    for class in ["s0-2", "s0-5", "s5-6"] {
-        assert!(rt; picture.contains(class));
+    for class in &["s0-2", "s0-5", "s5-6"] {
+        assert!(rt; picture.contains(*class));
     }
     expect_eq!(rt; links.as_slice(), [0, 0, 1].as_slice());
     Ok(())
@@ -75,7 +75,7 @@ fn a_page_shows_a_pattern_its_diagram_its_explanation_and_the_matches(
     let page = page_of(rt.alloc(), "(?<year>\\d{4})-(\\d\\d)", Some(matched))?;
     assert!(rt; page.starts_with("<!DOCTYPE html><html lang=\"en\">"));
     assert!(rt; page.ends_with("</main></body></html>"));
-    for text in [
+    for text in &[
         "<span class=\"m s8-10\" id=\"p8-10\">\\d</span>",
         "<svg xmlns=\"http://www.w3.org/2000/svg\"",
         "<g class=\"m s8-10\">",
@@ -85,7 +85,7 @@ fn a_page_shows_a_pattern_its_diagram_its_explanation_and_the_matches(
         "<tr><td>2024-05</td><td>2024</td><td>05</td></tr>",
         "<tr><td>2025-01</td><td><small>unset</small></td><td>01</td></tr>",
     ] {
-        assert!(rt; page.contains(text));
+        assert!(rt; page.contains(*text));
     }
     Ok(())
 }

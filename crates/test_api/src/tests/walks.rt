@@ -110,14 +110,14 @@ fn change(alloc: Global, postorder: bool, skip: bool, depth: usize) -> Result<St
 #[test]
 fn each_node_is_visited_before_its_children_or_after_them(rt: HostRuntime) -> Result<(), Fail> {
     let alloc = rt.alloc();
-    for depth in [0, usize::MAX] {
-        for (postorder, skip, wanted) in [
+    for depth in &[0, usize::MAX] {
+        for (postorder, skip, wanted) in &[
             (false, false, PREORDER),
             (true, false, POSTORDER),
             (false, true, WITHOUT),
         ] {
-            expect_eq!(rt; look(alloc, postorder, skip, depth)?.as_str(), wanted);
-            expect_eq!(rt; change(alloc, postorder, skip, depth)?.as_str(), wanted);
+            expect_eq!(rt; look(alloc, *postorder, *skip, *depth)?.as_str(), *wanted);
+            expect_eq!(rt; change(alloc, *postorder, *skip, *depth)?.as_str(), *wanted);
         }
     }
     Ok(())
