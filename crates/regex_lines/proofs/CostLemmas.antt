@@ -5,7 +5,7 @@ use Rattle.regress.specs.Costs.{AllCostLimit, CostsLimit, factor_of}
 use Rattle.regress.specs.declared.failure.SearchError.{SearchError}
 use Rattle.regress.specs.declared.failure.SearchError.TheVariants as errors
 use Rattle.regress.specs.declared.pattern.Regex.{Regex}
-use Rattle.regex_lines.specs.Ending.{IsCostly, IsSearchError, IsSearchFailure, search_failure}
+use Rattle.regex_lines.specs.Ending.{IsCostly, IsSearchError, IsInputFailure, search_failure}
 
 module _ (r : Regex) (text : List ℕ) where
   -- a search for all matches
@@ -26,6 +26,6 @@ module _ (r : Regex) (text : List ℕ) where
   costly_one (Err errors.Memory) linear costs = tt
   costly_one (Err errors.OutOfSteps) linear costs = record { linear = linear refl; text = text; costs = inl (costs refl) }
 
-pub searched : (costly : Type 0) (error : SearchError) → IsSearchError costly error → IsSearchFailure costly (search_failure error)
+pub searched : (costly : Type 0) (error : SearchError) → IsSearchError costly error → IsInputFailure costly (search_failure error)
 searched costly errors.Memory h = tt
 searched costly errors.OutOfSteps h = h
