@@ -16,7 +16,9 @@ module _ (input old start between new : Option (List ℕ)) (empty : start ≡ ap
   does_through : (flags : Flags) (text : List ℕ) (action : Action) (found : Bool) →
       Does flags text action input start between found → Does flags text action input old new found
   does_through flags text (search job multiline files) found h =
-      (h.0, h.1, (h.2.0, h.2.1, (h.2.2.0, h.2.2.1, appends_through old start between new empty kept h.2.2.0 h.2.2.2)))
+      let all = h.2.2 in
+      let written = all.2 in
+      (h.0, h.1, (h.2.0, h.2.1, (all.0, all.1, (written.0, written.1, appends_through old start between new empty kept written.0 written.2))))
   does_through flags text (show view) found h = took_through old start between new empty kept _ h
   does_through flags text lint found h = took_through old start between new empty kept _ h
   does_through flags text (explain form) found h = took_through old start between new empty kept _ h

@@ -9,7 +9,7 @@ use Rattle.regex_lines.specs.Ending.{IsOwn, search_failure}
 use Rattle.regex_command.specs.Patterns.{IsAcceptedPattern, MayFailToFind}
 use Rattle.regex_command.specs.Printed.{IsRejected}
 use Rattle.regex_lines.specs.declared.failure.Failure.{Failure}
-use Rattle.regex_lines.specs.declared.failure.Failure.TheVariants.{Argument, Memory, Output, Closed, Syntax, TooLarge, OutOfSteps, Unreadable, PatternNotUtf8, TooLong}
+use Rattle.regex_lines.specs.declared.failure.Failure.TheVariants.{Argument, Memory, Output, Closed, Syntax, TooLarge, OutOfSteps, Unreadable, Incomplete, PatternNotUtf8, TooLong}
 
 module _ (r : Regex) (text : List ℕ) where
   -- a search of `explain`
@@ -31,6 +31,7 @@ found_large setting source accepted Closed h = absurd h
 found_large setting source accepted (Syntax pattern message position) h = absurd (h accepted.0 accepted.1)
 found_large setting source accepted TooLarge h = h
 found_large setting source accepted OutOfSteps h = absurd h
-found_large setting source accepted (Unreadable name) h = absurd h
+found_large setting source accepted (Unreadable unread) h = absurd h
+found_large setting source accepted Incomplete h = absurd h
 found_large setting source accepted (PatternNotUtf8 name offset) h = absurd h
 found_large setting source accepted (TooLong name) h = absurd h

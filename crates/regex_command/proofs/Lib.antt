@@ -6,3 +6,4 @@ pub mod PatternLemmas
 pub mod SettingLemmas
 pub mod SizeLemmas
 pub mod TreeLemmas
+pub mod UnreadLemmas

@@ -27,7 +27,7 @@ use Rattle.regex_command.specs.Patterns.{HasDifferences, HasWarnings, IsAccepted
 use Rattle.regex_command.specs.Printed.{IsRejected}
 use Rattle.regex_command.specs.Size.{IsSizeWarning, said_of_size}
 use Rattle.regex_command.specs.declared.size.SizeWarning.{SizeWarning}
-use Rattle.regex_lines.specs.declared.failure.Failure.TheVariants.{Argument, Memory, Output, Closed, Syntax, TooLarge, OutOfSteps, Unreadable, PatternNotUtf8, TooLong}
+use Rattle.regex_lines.specs.declared.failure.Failure.TheVariants.{Argument, Memory, Output, Closed, Syntax, TooLarge, OutOfSteps, Unreadable, Incomplete, PatternNotUtf8, TooLong}
 use Rattle.regress.specs.Unicode.{unicode_setting}
 use Rattle.regex_lines.specs.declared.failure.Failure.{Failure}
 use Rattle.regex_command.proofs.SettingLemmas.{under_unicode}

@@ -29,7 +29,7 @@ use Rattle.regress_syntax.specs.Syntax.{Pattern}
 use Rattle.regress_tree.specs.Steps.{Setting}
 use Rattle.regress_warnings.specs.Warned as warnings
 use Rattle.regex_lines.specs.Ending.{IsCostlyPattern, IsLate}
-use Rattle.regex_lines.specs.declared.failure.Failure.TheVariants.{Argument, Memory, Output, Closed, Syntax, TooLarge, OutOfSteps, Unreadable, PatternNotUtf8, TooLong}
+use Rattle.regex_lines.specs.declared.failure.Failure.TheVariants.{Argument, Memory, Output, Closed, Syntax, TooLarge, OutOfSteps, Unreadable, Incomplete, PatternNotUtf8, TooLong}
 use Rattle.regex_lines.specs.declared.failure.Failure.{Failure}
 use Rattle.regex_command.specs.Size.{IsSizeWarning, said_of_size}
 use Rattle.regex_command.specs.declared.size.SizeWarning.{SizeWarning}
@@ -66,7 +66,8 @@ IsShowFailure request Closed = ⊥
 IsShowFailure request (Syntax pattern text position) = ⊥
 IsShowFailure request TooLarge = ⊥
 IsShowFailure request OutOfSteps = ⊥
-IsShowFailure request (Unreadable name) = ⊥
+IsShowFailure request (Unreadable unread) = ⊥
+IsShowFailure request Incomplete = ⊥
 IsShowFailure request (PatternNotUtf8 name offset) = ⊥
 IsShowFailure request (TooLong name) = ⊥
 
@@ -113,7 +114,8 @@ MayFailToLint setting source Closed = ⊤
 MayFailToLint setting source (Syntax pattern text position) = NoneIsAccepted setting source
 MayFailToLint setting source TooLarge = ⊥
 MayFailToLint setting source OutOfSteps = ⊥
-MayFailToLint setting source (Unreadable name) = ⊥
+MayFailToLint setting source (Unreadable unread) = ⊥
+MayFailToLint setting source Incomplete = ⊥
 MayFailToLint setting source (PatternNotUtf8 name offset) = ⊥
 MayFailToLint setting source (TooLong name) = ⊥
 
@@ -171,7 +173,8 @@ MayFailToFind setting source Closed = ⊥
 MayFailToFind setting source (Syntax pattern text position) = ⊥
 MayFailToFind setting source TooLarge = IsTooLarge setting (chars source) default_options
 MayFailToFind setting source OutOfSteps = IsCostlyPattern setting source
-MayFailToFind setting source (Unreadable name) = ⊥
+MayFailToFind setting source (Unreadable unread) = ⊥
+MayFailToFind setting source Incomplete = ⊥
 MayFailToFind setting source (PatternNotUtf8 name offset) = ⊥
 MayFailToFind setting source (TooLong name) = ⊥
 

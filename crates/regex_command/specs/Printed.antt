@@ -1,5 +1,5 @@
 -- What the program writes for a request, and where its pattern is.
-use Rattle.std.specs.Prelude.{◌≡◌, ⊤, ℕ, List, [], ◌∷◌, Bool, true, false, ◌⊎◌, ◌||◌, ◌++◌, Option, chars, codes}
+use Rattle.std.specs.Prelude.{◌≡◌, ⊤, ℕ, List, [], ◌∷◌, Bool, true, false, ◌⊎◌, ◌||◌, ◌&&◌, ◌++◌, Option, chars, codes}
 use Rattle.std.specs.Io.KnownBytes.{Appends}
 use Rattle.std.specs.List.{Any, FoldsTo}
 use Rattle.regex_options.specs.Plain.{Job, matching, replacing, Source, in_argument, in_file}
@@ -21,8 +21,9 @@ use Rattle.regress_tree.specs.Steps.{Setting}
 use Rattle.regex_lines.specs.Ending.{IsCostlyPattern, IsLate, IsSearchFailure, MayFailToRead}
 use Rattle.regex_command.specs.Joined.{AreJoinable, are_parts, are_several, joined, refers, takes_several}
 use Rattle.regex_command.specs.Patterns.{IsExplanationIn, MayFailToExplain, MayFailToLint, IsReport, IsTreeOutput, IsQuietFor, IsShowFailure}
-use Rattle.regex_lines.specs.Searched.{WritesInputs, WritesSomeOf, inputs_of}
-use Rattle.regex_lines.specs.declared.failure.Failure.TheVariants.{Argument, Memory, Output, Closed, Syntax, TooLarge, OutOfSteps, Unreadable, PatternNotUtf8, TooLong}
+use Rattle.regex_lines.specs.Searched.{Input, WritesInputs, WritesSomeOf, inputs_of, is_nothing}
+use Rattle.regex_lines.specs.Unread.{Unread}
+use Rattle.regex_lines.specs.declared.failure.Failure.TheVariants.{Argument, Memory, Output, Closed, Syntax, TooLarge, OutOfSteps, Unreadable, Incomplete, PatternNotUtf8, TooLong}
 use Rattle.regex_lines.specs.declared.failure.Failure.{Failure}
 
 -- The patterns of one more source. Nothing is known of the lines of a file.
@@ -55,7 +56,8 @@ IsRejected setting text Closed = ⊥
 IsRejected setting text (Syntax pattern message position) = NoneIsAccepted setting (chars text)
 IsRejected setting text TooLarge = IsTooLarge setting (chars text) default_options
 IsRejected setting text OutOfSteps = ⊥
-IsRejected setting text (Unreadable name) = ⊥
+IsRejected setting text (Unreadable unread) = ⊥
+IsRejected setting text Incomplete = ⊥
 IsRejected setting text (PatternNotUtf8 name offset) = ⊥
 IsRejected setting text (TooLong name) = ⊥
 
@@ -87,24 +89,49 @@ abbrev pub LacksPattern : Request → Failure → Type 0
 LacksPattern request failure =
     AreUnread request.patterns failure ⊎ OfPatterns request.patterns (λ patterns. AreUnjoinable request patterns failure)
 
--- A failure of a search: a syntax error is due only if no pattern is accepted, and too many steps only if it is costly.
+-- A failure of a search: a syntax error is due only if no pattern is accepted, and too many steps only if it is costly. Or
+-- inputs were not read.
 abbrev pub IsDue : Setting → (text : List ℕ) → Failure → Type 0
-IsDue setting text failure = IsRejected setting text failure ⊎ IsSearchFailure (IsCostlyPattern setting text) failure
+IsDue setting text failure =
+    IsRejected setting text failure ⊎ IsSearchFailure (IsCostlyPattern setting text) failure ⊎ (failure ≡ Incomplete)
 
 -- a job that changes lines
 abbrev pub changes : Job → Bool
 changes (matching s) = false
 changes (replacing template) = true
 
-module _ (setting : Setting) (text : List ℕ) (job : Job) (multiline : Bool) (files : List (List ℕ)) where
-  -- All inputs were searched, and `found` states whether a line was selected, or the job changes lines.
-  abbrev pub PrintsAll : (input old new : Option (List ℕ)) → (found : Bool) → Type 0
-  PrintsAll input old new found =
-      (r : Regex) × IsCompiled setting text r × ((any : Bool) × (found ≡ any || changes job) × WritesInputs r job (inputs_of multiline files input) old new any)
+-- whether nothing is shown of selected lines
+abbrev pub is_silent : Job → Bool
+is_silent (matching s) = is_nothing s.shown
+is_silent (replacing template) = false
 
-  -- The first lines of the inputs were searched.
-  abbrev pub PrintsFirst : (input old new : Option (List ℕ)) → Type 0
-  PrintsFirst input old new = (r : Regex) × IsCompiled setting text r × WritesSomeOf r job (inputs_of multiline files input) old new
+-- whether these inputs may be left unread: there are none, or nothing is shown, and a line is selected
+abbrev pub is_complete : Job → (any : Bool) → (unread : List Unread) → Bool
+is_complete job any [] = true
+is_complete job any (input ∷ inputs) = any && is_silent job
+
+module _ (r : Regex) (job : Job) (inputs : List Input) where
+  -- All inputs were searched, and some not to their ends, as they could not be read: `complete` states whether this may be.
+  -- `found` states whether a line was selected, or the job changes lines.
+  abbrev pub Searches : (old new : Option (List ℕ)) → (complete found : Bool) → Type 0
+  Searches old new complete found =
+      (any : Bool) × (found ≡ any || changes job)
+      × ((unread : List Unread) × (is_complete job any unread ≡ complete) × WritesInputs r job inputs old new unread any)
+
+  -- What was searched before a failure: all inputs if it is that some were not read, and else the first lines.
+  abbrev pub SearchesUntil : Failure → (old new : Option (List ℕ)) → Type 0
+  SearchesUntil Incomplete old new = (found : Bool) × Searches old new false found
+  SearchesUntil failure old new = (unread : List Unread) × WritesSomeOf r job inputs old new unread
+
+module _ (setting : Setting) (text : List ℕ) (job : Job) (multiline : Bool) (files : List (List ℕ)) where
+  -- All inputs were searched.
+  abbrev pub PrintsAll : (input old new : Option (List ℕ)) → (found : Bool) → Type 0
+  PrintsAll input old new found = (r : Regex) × IsCompiled setting text r × Searches r job (inputs_of multiline files input) old new true found
+
+  -- What was searched before a failure.
+  abbrev pub PrintsFirst : (input old new : Option (List ℕ)) → Failure → Type 0
+  PrintsFirst input old new failure =
+      (r : Regex) × IsCompiled setting text r × SearchesUntil r job (inputs_of multiline files input) failure old new
 
 -- a text, escaped, on a line
 abbrev pub PrintsEscaped : (old new : Option (List ℕ)) → (text : List ℕ) → Type 0
@@ -129,12 +156,12 @@ module _ (flags : Flags) (text : List ℕ) where
   Does lint input old new found = Took old new (IsReport found (unicode_setting flags) text)
   Does (explain form) input old new found = Took old new (IsExplanationIn form found (unicode_setting flags) text)
 
-  -- What may be written before a failure: what a search writes for its first lines, or the first of two trees.
-  abbrev pub Begins : Action → (input old new : Option (List ℕ)) → Type 0
-  Begins (search job multiline files) input old new = PrintsFirst (unicode_setting flags) text job multiline files input old new
-  Begins (show view) input old new = Took old new (IsFirstOutput (view_of view flags text))
-  Begins lint input old new = ⊥
-  Begins (explain form) input old new = ⊥
+  -- What may be written before a failure: what a search writes before it, or the first of two trees.
+  abbrev pub Begins : Action → (input old new : Option (List ℕ)) → Failure → Type 0
+  Begins (search job multiline files) input old new failure = PrintsFirst (unicode_setting flags) text job multiline files input old new failure
+  Begins (show view) input old new failure = Took old new (IsFirstOutput (view_of view flags text))
+  Begins lint input old new failure = ⊥
+  Begins (explain form) input old new failure = ⊥
 
   -- A failure is due: a syntax error only for a search or a report whose pattern is rejected.
   abbrev pub MayFailAt : Action → Failure → Type 0
@@ -150,25 +177,38 @@ Prints input old new found (escape string) = (found ≡ true) × PrintsEscaped o
 Prints input old new found (apply request) =
     OfPattern request (λ pattern. Does request.flags pattern request.action input old new found)
 
--- Nothing is written to standard error, unless a pattern is rejected that is to be shown or explained: then its syntax
--- error is.
-abbrev pub IsQuietAt : (quiet : Type 0) → Action → Type 0
-IsQuietAt quiet (search job multiline files) = quiet
-IsQuietAt quiet (show view) = IsQuietFor view.format quiet
-IsQuietAt quiet lint = quiet
-IsQuietAt quiet (explain form) = ⊤
+-- Nothing is written to standard error where something is found, unless the search shows nothing: then messages of inputs
+-- that are not read may be.
+abbrev pub IsQuietFound : (quiet : Type 0) → Action → Type 0
+IsQuietFound quiet (search job multiline files) = is_silent job ≡ false → quiet
+IsQuietFound quiet (show view) = quiet
+IsQuietFound quiet lint = quiet
+IsQuietFound quiet (explain form) = quiet
 
-abbrev pub IsQuiet : (quiet : Type 0) → Ask → Type 0
-IsQuiet quiet (help text) = quiet
-IsQuiet quiet (escape string) = quiet
-IsQuiet quiet (apply request) = IsQuietAt quiet request.action
+abbrev pub IsQuietIfFound : (quiet : Type 0) → Ask → Type 0
+IsQuietIfFound quiet (help text) = quiet
+IsQuietIfFound quiet (escape string) = quiet
+IsQuietIfFound quiet (apply request) = IsQuietFound quiet request.action
+
+-- Nothing is written to standard error, unless a pattern is rejected that is to be shown or explained: then its syntax
+-- error is. Of a search this is known if it selects nothing.
+abbrev pub IsQuietAt : (none quiet : Type 0) → Action → Type 0
+IsQuietAt none quiet (search job multiline files) = none → quiet
+IsQuietAt none quiet (show view) = IsQuietFor view.format quiet
+IsQuietAt none quiet lint = quiet
+IsQuietAt none quiet (explain form) = ⊤
+
+abbrev pub IsQuiet : (none quiet : Type 0) → Ask → Type 0
+IsQuiet none quiet (help text) = quiet
+IsQuiet none quiet (escape string) = quiet
+IsQuiet none quiet (apply request) = IsQuietAt none quiet request.action
 
 -- What is written before a failure: nothing, or what an action begins with.
-abbrev pub PrintsSome : (input old new : Option (List ℕ)) → (nothing : Type 0) → Ask → Type 0
-PrintsSome input old new nothing (help text) = nothing
-PrintsSome input old new nothing (escape string) = nothing
-PrintsSome input old new nothing (apply request) =
-    nothing ⊎ OfPattern request (λ pattern. Begins request.flags pattern request.action input old new)
+abbrev pub PrintsSome : (input old new : Option (List ℕ)) → (nothing : Type 0) → Ask → Failure → Type 0
+PrintsSome input old new nothing (help text) failure = nothing
+PrintsSome input old new nothing (escape string) failure = nothing
+PrintsSome input old new nothing (apply request) failure =
+    nothing ⊎ OfPattern request (λ pattern. Begins request.flags pattern request.action input old new failure)
 
 -- A failure is due.
 abbrev pub MayFail : Ask → Failure → Type 0

@@ -4,14 +4,16 @@
 //! invalid, or an allocation for the arguments or the output buffer fails.
 #![tactic(auto)]
 
-ghost use Rattle.std.specs.Prelude.{◌≡◌, ◌≢◌, ◌≤◌, ◌⊎◌, true, false, IfSome, IfOk, IfErr, is_err, Ok, map, string_bytes};
+ghost use Rattle.std.specs.Prelude.{◌≡◌, ◌≢◌, ◌≤◌, ◌⊎◌, ◌||◌, ⊤, true, false, IfSome, IfOk, IfErr, is_err, is_ok, Ok, map, string_bytes};
 ghost use Rattle.std.specs.Io.KnownBytes.{Appends};
 ghost use Rattle.regress_display.specs.Request.{requested};
 ghost use Rattle.regex_options.specs.Table.{topic_text};
 ghost use Rattle.regex_options.specs.Request.{action, ask, asked_by, requested as request_asked};
 ghost use Rattle.regex_lines.specs.Ending.{IsLate, OrOutput};
 ghost use Rattle.regex_options.specs.Plain.{job};
-ghost use Rattle.regex_command.specs.Printed.{Begins, Does, IsDue, IsQuiet, IsQuietAt, LacksPattern, MayFail, MayFailAt, Prints, PrintsAll, PrintsEscaped, PrintsFirst, PrintsSome, changes, status_if_none, view_of, OfPattern};
+ghost use Rattle.regex_command.specs.Printed.{Begins, Does, IsDue, IsQuiet, IsQuietAt, IsQuietFound, IsQuietIfFound, LacksPattern, MayFail, MayFailAt, Prints, PrintsAll, PrintsEscaped, PrintsFirst, PrintsSome, changes, is_complete, is_silent, status_if_none, view_of, OfPattern};
+ghost use Rattle.regex_lines.specs.Unread.{unread_of};
+ghost use Rattle.regex_lines.specs.declared.failure.Failure.TheVariants.{Incomplete};
 ghost use Rattle.regress.specs.Unicode.{unicode_setting};
 
 mod checking;
@@ -27,10 +29,11 @@ use compiling::compiled;
 use explaining::print_explanation;
 use linting::print_lint;
 use pattern::{Pattern, pattern_text};
-use regex_lines::{Failure, flush, print, report, search_all};
+use regex_lines::{Failure, Searched, Unread, flush, print, report, report_unread, search_all};
 use regex_options::{
-    Action, Arguments, Asked, COMMANDS, OPTIONS, Output, ParseError, Request, Search, Task, Topic,
-    UsageError, View, allows_color, interpret, parse_arguments, topic_text, write_usage_error,
+    Action, Arguments, Asked, COMMANDS, OPTIONS, Output, ParseError, Request, Search, Shown, Task,
+    Topic, UsageError, View, allows_color, interpret, parse_arguments, topic_text,
+    write_usage_error,
 };
 use regress_arguments::{ArgumentsError, arguments};
 use regress_display::Request as TreeRequest;
@@ -92,8 +95,8 @@ fn run_buffered<R: Files + AllocGlobal, I: Read + Drop, W: Write + Drop, E: Writ
     ensures none { result.0 ≡ 1 → IfOk (asked_by arguments.entry) (λ ask. IfSome result.1 (λ new.
         Prints (I.remaining input) (W.contents out) (W.contents new) false ask)) }
     ensures usage { is_err (asked_by arguments.entry) ≡ true → result.0 ≡ 2 }
-    ensures quiet { result.0 ≡ 0 → err.new ≡ err.old }
-    ensures quiet_none { result.0 ≡ 1 → IfOk (asked_by arguments.entry) (IsQuiet (err.new ≡ err.old)) }
+    ensures quiet { result.0 ≡ 0 → IfOk (asked_by arguments.entry) (IsQuietIfFound (err.new ≡ err.old)) }
+    ensures quiet_none { result.0 ≡ 1 → IfOk (asked_by arguments.entry) (IsQuiet ⊤ (err.new ≡ err.old)) }
     ensures rejected { result.0 ≡ 1 → IfOk (asked_by arguments.entry) (λ ask. status_if_none ask ≡ 1) }
 {
     match BufWriter::new(rt.alloc(), out) {
@@ -126,8 +129,8 @@ fn run_arguments<R: Files + AllocGlobal, I: Read + Drop, W: Write, E: Write>(
         (Prints (I.remaining input) (W.contents out.old) (W.contents out.new) false) }
     ensures usage { is_err (asked_by arguments.entry) ≡ true → result ≡ 2 }
     ensures untouched { is_err (asked_by arguments.entry) ≡ true → out.new ≡ out.old }
-    ensures quiet { result ≡ 0 → err.new ≡ err.old }
-    ensures quiet_none { result ≡ 1 → IfOk (asked_by arguments.entry) (IsQuiet (err.new ≡ err.old)) }
+    ensures quiet { result ≡ 0 → IfOk (asked_by arguments.entry) (IsQuietIfFound (err.new ≡ err.old)) }
+    ensures quiet_none { result ≡ 1 → IfOk (asked_by arguments.entry) (IsQuiet ⊤ (err.new ≡ err.old)) }
     ensures rejected { result ≡ 1 → IfOk (asked_by arguments.entry) (λ ask. status_if_none ask ≡ 1) }
 {
     let parsed = match parse_arguments(rt.alloc(), arguments) {
@@ -160,8 +163,8 @@ fn run_asked<R: Files + AllocGlobal, I: Read + Drop, W: Write, E: Write>(
     ensures known { result ≤ 2 }
     ensures found { result ≡ 0 → Prints (I.remaining input) (W.contents out.old) (W.contents out.new) true (ask asked.entry) }
     ensures none { result ≡ 1 → Prints (I.remaining input) (W.contents out.old) (W.contents out.new) false (ask asked.entry) }
-    ensures quiet { result ≡ 0 → err.new ≡ err.old }
-    ensures quiet_none { result ≡ 1 → IsQuiet (err.new ≡ err.old) (ask asked.entry) }
+    ensures quiet { result ≡ 0 → IsQuietIfFound (err.new ≡ err.old) (ask asked.entry) }
+    ensures quiet_none { result ≡ 1 → IsQuiet ⊤ (err.new ≡ err.old) (ask asked.entry) }
     ensures rejected { result ≡ 1 → status_if_none (ask asked.entry) ≡ 1 }
 {
     match run_regex(rt, asked, input, out, err) {
@@ -200,11 +203,11 @@ pub fn run_regex<'a, R: Files + AllocGlobal, I: Read + Drop, W: Write, E: Write>
 ) -> Result<bool, Failure<'a>>
     ensures found { IfOk result (λ found. Prints (I.remaining input) (W.contents out.old) (W.contents out.new)
         found (ask asked.entry)) }
-    ensures first { IfErr result (OrOutput
-        (PrintsSome (I.remaining input) (W.contents out.old) (W.contents out.new) (out.new ≡ out.old) (ask asked.entry))) }
+    ensures first { IfErr result (λ failure. OrOutput
+        (PrintsSome (I.remaining input) (W.contents out.old) (W.contents out.new) (out.new ≡ out.old) (ask asked.entry) failure) failure) }
     ensures due { IfErr result (MayFail (ask asked.entry)) }
-    ensures quiet { result ≡ Ok true → err.new ≡ err.old }
-    ensures quiet_none { IsQuiet (err.new ≡ err.old) (ask asked.entry) }
+    ensures quiet { result ≡ Ok true → IsQuietIfFound (err.new ≡ err.old) (ask asked.entry) }
+    ensures quiet_none { IsQuiet (result ≡ Ok false) (err.new ≡ err.old) (ask asked.entry) }
 {
     match asked {
         Asked::Help(topic) => print_topic(rt.alloc(), topic, out),
@@ -223,12 +226,12 @@ fn apply<'a, R: Files + AllocGlobal, I: Read + Drop, W: Write, E: Write>(
 ) -> Result<bool, Failure<'a>>
     ensures found { IfOk result (λ found. OfPattern (request_asked request.entry) (λ pattern. Does request.entry.flags pattern
         (action request.entry.action) (I.remaining input) (W.contents out.old) (W.contents out.new) found)) }
-    ensures first { IfErr result (OrOutput ((out.new ≡ out.old) ⊎ OfPattern (request_asked request.entry)
-        (λ pattern. Begins request.entry.flags pattern (action request.entry.action) (I.remaining input) (W.contents out.old) (W.contents out.new)))) }
+    ensures first { IfErr result (λ failure. OrOutput ((out.new ≡ out.old) ⊎ OfPattern (request_asked request.entry)
+        (λ pattern. Begins request.entry.flags pattern (action request.entry.action) (I.remaining input) (W.contents out.old) (W.contents out.new) failure)) failure) }
     ensures due { IfErr result (λ failure. LacksPattern (request_asked request.entry) failure
         ⊎ OfPattern (request_asked request.entry) (λ pattern. MayFailAt request.entry.flags pattern (action request.entry.action) failure)) }
-    ensures quiet { result ≡ Ok true → err.new ≡ err.old }
-    ensures quiet_none { IsQuietAt (err.new ≡ err.old) (action request.entry.action) }
+    ensures quiet { result ≡ Ok true → IsQuietFound (err.new ≡ err.old) (action request.entry.action) }
+    ensures quiet_none { IsQuietAt (result ≡ Ok false) (err.new ≡ err.old) (action request.entry.action) }
 {
     let text = pattern_text(rt, request)?;
     let pattern = Pattern {
@@ -259,15 +262,17 @@ fn apply_to<'a, R: Files + AllocGlobal, I: Read + Drop, W: Write, E: Write>(
 ) -> Result<bool, Failure<'a>>
     ensures found { IfOk result (Does wanted.entry.pattern.flags wanted.entry.pattern.text.now (action wanted.entry.action) (I.remaining input)
         (W.contents out.old) (W.contents out.new)) }
-    ensures first { IfErr result (OrOutput ((out.new ≡ out.old) ⊎ Begins wanted.entry.pattern.flags wanted.entry.pattern.text.now
-        (action wanted.entry.action) (I.remaining input) (W.contents out.old) (W.contents out.new))) }
+    ensures first { IfErr result (λ failure. OrOutput ((out.new ≡ out.old) ⊎ Begins wanted.entry.pattern.flags wanted.entry.pattern.text.now
+        (action wanted.entry.action) (I.remaining input) (W.contents out.old) (W.contents out.new) failure) failure) }
     ensures due { IfErr result (MayFailAt wanted.entry.pattern.flags wanted.entry.pattern.text.now (action wanted.entry.action)) }
-    ensures quiet { result ≡ Ok true → err.new ≡ err.old }
-    ensures quiet_none { IsQuietAt (err.new ≡ err.old) (action wanted.entry.action) }
+    ensures quiet { result ≡ Ok true → IsQuietFound (err.new ≡ err.old) (action wanted.entry.action) }
+    ensures quiet_none { IsQuietAt (result ≡ Ok false) (err.new ≡ err.old) (action wanted.entry.action) }
 {
     let pattern = wanted.pattern;
     match wanted.action {
-        Action::Search(search) => print_search(rt, pattern, search, input, out),
+        Action::Search(search) => {
+            print_search(rt, PatternSearch { pattern, search }, input, out, err)
+        }
         Action::Show(view) => print_tree(rt.alloc(), view_of(view, pattern), out, err),
         Action::Lint => print_lint(rt.alloc(), pattern, out),
         Action::Explain(form) => print_explanation(rt.alloc(), pattern, form, out, err),
@@ -288,25 +293,72 @@ fn view_of(view: View, pattern: Pattern<'_>) -> TreeRequest<'_>
     }
 }
 
-/// Searches for a pattern, and returns whether a line is selected, or the task changes lines.
-fn print_search<'a, R: Files + AllocGlobal, I: Read + Drop, W: Write>(
-    rt: &R,
-    pattern: Pattern<'_>,
+/// A pattern, and the search for it.
+#[derive(Clone, Copy)]
+struct PatternSearch<'p, 'a> {
+    pattern: Pattern<'p>,
     search: Search<'a>,
+}
+
+/// Searches for a pattern, and returns whether a line is selected, or the task changes lines. The messages of inputs that
+/// are not read are written to `err`.
+///
+/// # Errors
+/// Returns `Incomplete` if there are such inputs, unless nothing is shown, and a line is selected.
+fn print_search<'a, R: Files + AllocGlobal, I: Read + Drop, W: Write, E: Write>(
+    rt: &R,
+    wanted: PatternSearch<'_, 'a>,
     input: I,
     out: &mut W,
+    err: &mut E,
 ) -> Result<bool, Failure<'a>>
-    ensures all { IfOk result (PrintsAll (unicode_setting pattern.entry.flags) pattern.entry.text.now (job search.entry.task)
-        search.entry.multiline (map string_bytes search.entry.files.now) (I.remaining input) (W.contents out.old) (W.contents out.new)) }
-    ensures first { IfErr result (OrOutput ((out.new ≡ out.old) ⊎ PrintsFirst (unicode_setting pattern.entry.flags) pattern.entry.text.now
-        (job search.entry.task) search.entry.multiline (map string_bytes search.entry.files.now) (I.remaining input) (W.contents out.old) (W.contents out.new))) }
-    ensures due { IfErr result (IsDue (unicode_setting pattern.entry.flags) pattern.entry.text.now) }
+    ensures all { IfOk result (PrintsAll (unicode_setting wanted.entry.pattern.flags) wanted.entry.pattern.text.now (job wanted.entry.search.task)
+        wanted.entry.search.multiline (map string_bytes wanted.entry.search.files.now) (I.remaining input) (W.contents out.old) (W.contents out.new)) }
+    ensures first { IfErr result (λ failure. OrOutput ((out.new ≡ out.old) ⊎ PrintsFirst (unicode_setting wanted.entry.pattern.flags) wanted.entry.pattern.text.now
+        (job wanted.entry.search.task) wanted.entry.search.multiline (map string_bytes wanted.entry.search.files.now) (I.remaining input) (W.contents out.old) (W.contents out.new) failure) failure) }
+    ensures due { IfErr result (IsDue (unicode_setting wanted.entry.pattern.flags) wanted.entry.pattern.text.now) }
+    ensures quiet { result ≡ Ok true → is_silent (job wanted.entry.search.task) ≡ false → err.new ≡ err.old }
+    ensures quiet_none { result ≡ Ok false → err.new ≡ err.old }
 {
-    let regex = compiled(rt.alloc(), pattern)?;
-    let searched = search_all(rt, &regex, search, input, out);
-    flush(out)?;
-    let any = searched?;
-    Ok(any || changes(search.task))
+    let regex = compiled(rt.alloc(), wanted.pattern)?;
+    let Searched { result, unread } = search_all(rt, &regex, wanted.search, input, out);
+    let flushed = flush(out);
+    report_unread(&unread, err);
+    flushed?;
+    let any = result?;
+    found(wanted.search.task, any, &unread)
+}
+
+/// Returns whether a line is selected, or the task changes lines.
+///
+/// # Errors
+/// Returns `Incomplete` if these inputs may not be left unread.
+fn found<'f>(task: Task<'_>, any: bool, unread: &[Unread<'_>]) -> Result<bool, Failure<'f>>
+    ensures complete { is_complete (job task.entry) any (map unread_of unread.now) ≡ is_ok result }
+    ensures found { IfOk result (λ found. found ≡ any || changes (job task.entry)) }
+    ensures failed { IfErr result (λ failure. failure ≡ Incomplete) }
+{
+    if is_complete(task, any, unread) {
+        Ok(any || changes(task))
+    } else {
+        Err(Failure::Incomplete)
+    }
+}
+
+/// Returns whether these inputs may be left unread: there are none, or nothing is shown, and a line is selected.
+fn is_complete(task: Task<'_>, any: bool, unread: &[Unread<'_>]) -> bool
+    ensures { result ≡ is_complete (job task.entry) any (map unread_of unread.now) }
+{
+    unread.is_empty() || (any && is_silent(task))
+}
+
+fn is_silent(task: Task<'_>) -> bool
+    ensures { result ≡ is_silent (job task.entry) }
+{
+    match task {
+        Task::Match(selection) => matches!(selection.shown, Shown::Nothing),
+        Task::Replace(_) => false,
+    }
 }
 
 fn changes(task: Task<'_>) -> bool

@@ -110,10 +110,21 @@ fn first_line(text: &str) -> (&str, &str)
 fn read_file<'a, R: Files + AllocGlobal>(rt: &R, name: &'a str) -> Result<Vec<u8>, Failure<'a>>
     ensures { IfErr result MayFailToRead }
 {
-    let mut bytes = Vec::new(rt.alloc());
-    let Ok(mut file) = File::open(rt, name) else {
-        return Err(Failure::Unreadable(name));
-    };
+    match File::open(rt, name) {
+        Ok(file) => read_open(rt.alloc(), name, file),
+        Err(error) => Err(read_failure(error, name)),
+    }
+}
+
+/// Returns the bytes of an open file.
+fn read_open<'a, F: Read + Drop>(
+    alloc: Global,
+    name: &'a str,
+    mut file: F,
+) -> Result<Vec<u8>, Failure<'a>>
+    ensures { IfErr result MayFailToRead }
+{
+    let mut bytes = Vec::new(alloc);
     match file.read_to_end(&mut bytes) {
         Ok(_) => Ok(bytes),
         Err(error) => Err(read_failure(error, name)),

@@ -5,7 +5,7 @@ use Rattle.regress.specs.Costs.{AllCostLimit, CostsLimit, factor_of}
 use Rattle.regress.specs.declared.failure.SearchError.{SearchError}
 use Rattle.regress.specs.declared.failure.SearchError.TheVariants as errors
 use Rattle.regress.specs.declared.pattern.Regex.{Regex}
-use Rattle.regex_lines.specs.Ending.{IsCostly, IsSearchError, IsSearchFailure, search_failure}
+use Rattle.regex_lines.specs.Ending.{IsCostly, IsSearchError, IsInputFailure, search_failure}
 
 module _ (r : Regex) (text : List ℕ) where
   -- a search for all matches
@@ -28,7 +28,7 @@ module _ (r : Regex) (text : List ℕ) where
   costly_one (Err errors.OutOfSteps) linear costs = record { linear = linear refl; text = text; costs = inl (costs refl) }
   costly_one (Err errors.TooMuchMemory) linear costs = tt
 
-pub searched : (costly : Type 0) (error : SearchError) → IsSearchError costly error → IsSearchFailure costly (search_failure error)
+pub searched : (costly : Type 0) (error : SearchError) → IsSearchError costly error → IsInputFailure costly (search_failure error)
 searched costly errors.Memory h = tt
 searched costly errors.OutOfSteps h = h
 searched costly errors.TooMuchMemory h = tt

@@ -9,5 +9,6 @@ mod ReplyLemmas
 mod RunLemmas
 mod SearchLemmas
 mod SearcherLemmas
+mod SkipLemmas
 mod SomewhereLemmas
 pub mod lemmas

@@ -9,13 +9,13 @@ use Rattle.std.proofs.lemmas.Fn.{FoldsTo-push}
 use Rattle.regress_arguments.proofs.lemmas.Output.{appends_both}
 use Rattle.regress_arguments.specs.Output.{Took}
 use Rattle.regress.specs.declared.pattern.Regex.{Regex}
-use Rattle.regex_lines.specs.Ending.{IsLate, IsSearchFailure, OrOutput}
+use Rattle.regex_lines.specs.Ending.{OrOutput}
 use Rattle.regex_lines.specs.Searched.{WritesInput, Line as TextLine, Named, AreLinesOf, IsSearchedLine, IsStep, Progress, SearchesAll, SearchesFirst, at_start, prefix_of, is_enough, one_if, written_at_end}
 use Rattle.regex_options.specs.Plain.{Job}
 use Rattle.regex_lines.specs.Reading.{IsRead, is_ended, is_last}
 use Rattle.regex_lines.specs.Reply.{IsReply}
 use Rattle.regex_lines.specs.declared.failure.Failure.{Failure}
-use Rattle.regex_lines.specs.declared.failure.Failure.TheVariants.{Argument, Memory, Output, Closed, Syntax, TooLarge, OutOfSteps, Unreadable, PatternNotUtf8, TooLong}
+use Rattle.regex_lines.specs.declared.failure.Failure.TheVariants.{Argument, Memory, Output, Closed, Syntax, TooLarge, OutOfSteps, Unreadable, Incomplete, PatternNotUtf8, TooLong}
 use Rattle.regex_lines.specs.declared.reading.Next.{Next}
 use Rattle.regex_lines.specs.declared.reading.Next.TheVariants.{Line, LastLine, End}
 use Rattle.regex_lines.proofs.FoldLemmas.{stays}

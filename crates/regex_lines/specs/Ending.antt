@@ -11,7 +11,7 @@ use Rattle.regress_parse.specs.declared.fault.PlacedFault.{PlacedFault}
 use Rattle.regress_parse.specs.declared.fault.PlacedFault.TheVariants as placed
 use Rattle.regress_tree.specs.Steps.{Setting}
 use Rattle.regex_lines.specs.declared.failure.Failure.{Failure}
-use Rattle.regex_lines.specs.declared.failure.Failure.TheVariants.{Argument, Memory, Output, Closed, Syntax, TooLarge, OutOfSteps, Unreadable, PatternNotUtf8, TooLong}
+use Rattle.regex_lines.specs.declared.failure.Failure.TheVariants.{Argument, Memory, Output, Closed, Syntax, TooLarge, OutOfSteps, Unreadable, Incomplete, PatternNotUtf8, TooLong}
 
 -- A failure that may occur for any pattern: memory is short, or the output cannot be written.
 abbrev pub IsLate : Failure → Type 0
@@ -22,7 +22,8 @@ IsLate Closed = ⊤
 IsLate (Syntax pattern text position) = ⊥
 IsLate TooLarge = ⊥
 IsLate OutOfSteps = ⊥
-IsLate (Unreadable name) = ⊥
+IsLate (Unreadable unread) = ⊥
+IsLate Incomplete = ⊥
 IsLate (PatternNotUtf8 name offset) = ⊥
 IsLate (TooLong name) = ⊥
 
@@ -54,7 +55,21 @@ IsSearchError costly errors.Memory = ⊤
 IsSearchError costly errors.OutOfSteps = costly
 IsSearchError costly errors.TooMuchMemory = ⊤
 
--- A failure that may occur while inputs are searched: the search may be out of steps if the pattern is costly.
+-- A failure that may occur while an input is searched: the search may be out of steps if the pattern is costly.
+abbrev pub IsInputFailure : (costly : Type 0) → Failure → Type 0
+IsInputFailure costly Argument = ⊥
+IsInputFailure costly Memory = ⊤
+IsInputFailure costly Output = ⊤
+IsInputFailure costly Closed = ⊤
+IsInputFailure costly (Syntax pattern text position) = ⊥
+IsInputFailure costly TooLarge = ⊥
+IsInputFailure costly OutOfSteps = costly
+IsInputFailure costly (Unreadable unread) = ⊤
+IsInputFailure costly Incomplete = ⊥
+IsInputFailure costly (PatternNotUtf8 name offset) = ⊥
+IsInputFailure costly (TooLong name) = ⊤
+
+-- A failure that may end the search of all inputs: one that cannot be read does not.
 abbrev pub IsSearchFailure : (costly : Type 0) → Failure → Type 0
 IsSearchFailure costly Argument = ⊥
 IsSearchFailure costly Memory = ⊤
@@ -63,7 +78,8 @@ IsSearchFailure costly Closed = ⊤
 IsSearchFailure costly (Syntax pattern text position) = ⊥
 IsSearchFailure costly TooLarge = ⊥
 IsSearchFailure costly OutOfSteps = costly
-IsSearchFailure costly (Unreadable name) = ⊤
+IsSearchFailure costly (Unreadable unread) = ⊥
+IsSearchFailure costly Incomplete = ⊥
 IsSearchFailure costly (PatternNotUtf8 name offset) = ⊥
 IsSearchFailure costly (TooLong name) = ⊤
 
@@ -76,7 +92,8 @@ MayFailToRead Closed = ⊥
 MayFailToRead (Syntax pattern text position) = ⊥
 MayFailToRead TooLarge = ⊥
 MayFailToRead OutOfSteps = ⊥
-MayFailToRead (Unreadable name) = ⊤
+MayFailToRead (Unreadable unread) = ⊤
+MayFailToRead Incomplete = ⊥
 MayFailToRead (PatternNotUtf8 name offset) = ⊤
 MayFailToRead (TooLong name) = ⊥
 
@@ -89,7 +106,8 @@ IsOutputFailure Closed = ⊤
 IsOutputFailure (Syntax pattern text position) = ⊥
 IsOutputFailure TooLarge = ⊥
 IsOutputFailure OutOfSteps = ⊥
-IsOutputFailure (Unreadable name) = ⊥
+IsOutputFailure (Unreadable unread) = ⊥
+IsOutputFailure Incomplete = ⊥
 IsOutputFailure (PatternNotUtf8 name offset) = ⊥
 IsOutputFailure (TooLong name) = ⊥
 

@@ -4,3 +4,4 @@ pub mod Prefix
 pub mod Reading
 pub mod Reply
 pub mod Searched
+pub mod Unread

@@ -1,5 +1,5 @@
 -- What is written for an input, and for all inputs.
-use Rattle.std.specs.Prelude.{ℕ, Bool, List, ◌≡◌, ◌-◌, true, false, [], ◌∷◌, ◌++◌, length, take, slice_index, if◌then◌else◌, ◌==◌, Option, IfSome, ◌+◌, ◌&&◌, ◌||◌, Some, None, codes, nat_le, nat_lt, map}
+use Rattle.std.specs.Prelude.{ℕ, Bool, List, ◌≡◌, ◌-◌, true, false, [], ◌∷◌, ◌++◌, length, take, slice_index, if◌then◌else◌, ◌==◌, Option, IfSome, ◌⊎◌, ◌+◌, ◌&&◌, ◌||◌, Some, None, codes, nat_le, nat_lt, map}
 use Rattle.std.specs.List.{FoldsTo}
 use Rattle.std.specs.Fmt.{decimal}
 use Rattle.std.specs.Io.KnownBytes.{Appends}
@@ -9,6 +9,7 @@ use Rattle.regex_options.specs.declared.task.Shown.{Shown}
 use Rattle.regress.specs.declared.pattern.Regex.{Regex}
 use Rattle.regress_arguments.specs.Output.{Took}
 use Rattle.regex_lines.specs.Reply.{IsReply, ended, json_prefix}
+use Rattle.regex_lines.specs.Unread.{IsAdded, Unread}
 use Rattle.regex_lines.specs.declared.place.Place.{Place}
 
 -- the name of an input, whether it is shown in front of each line, and whether the input is one line
@@ -179,10 +180,14 @@ abbrev pub inputs_of : (multiline : Bool) → (files : List (List ℕ)) → (inp
 inputs_of multiline [] input = (record { name = codes "(standard input)"; in_front = false; multiline = multiline }, input) ∷ []
 inputs_of multiline (file ∷ files) input = named_files multiline (file ∷ files)
 
--- whether a line was selected, and what was written
+-- whether a line was selected, which inputs were not read, and what was written
 pub record Result : Type 0 where
   pub any : Bool
+  pub unread : List Unread
   pub written : List ℕ
+
+abbrev pub nothing : Result
+nothing = record { any = false; unread = []; written = [] }
 
 abbrev pub is_nothing : Shown → Bool
 is_nothing Lines = false
@@ -208,38 +213,54 @@ module _ (r : Regex) (job : Job) where
   abbrev pub WritesInput : Named → (input old new : Option (List ℕ)) → (any : Bool) → Type 0
   WritesInput place input old new any = Took old new (IsWritten place input any)
 
+  -- An input was searched, or else its first lines, as it could not be read further. Then it is added to those that were
+  -- not read.
+  abbrev pub AddsInput : Named → (input old new : Option (List ℕ)) → (unread_old unread_new : List Unread) → (any : Bool) → Type 0
+  AddsInput place input old new unread_old unread_new any =
+      (WritesInput place input old new any × (unread_new ≡ unread_old))
+      ⊎ (SearchesFirst r job place input old new × IsAdded place.name unread_old unread_new × (any ≡ false))
+
   -- One input further, and it is searched.
   pub record IsSearchedInput (before : Result) (input : Input) (after : Result) : Type 0 where
     pub any : Bool
     pub bytes : List ℕ
     pub written : IsWritten input.0 input.1 any bytes
-    pub next : after ≡ record { any = before.any || any; written = before.written ++ bytes }
+    pub next : after ≡ record { any = before.any || any; unread = before.unread; written = before.written ++ bytes }
+
+  -- One input further, and only its first lines are searched, as it cannot be read further.
+  pub record IsUnreadInput (before : Result) (input : Input) (after : Result) : Type 0 where
+    pub progress : Progress
+    pub searched : IsSearched r job input.0 input.1 false progress
+    pub unread : List Unread
+    pub added : IsAdded input.0.name before.unread unread
+    pub next : after ≡ record { any = before.any; unread = unread; written = before.written ++ progress.written }
 
   -- One input further: it is passed over if the search ended before it.
   pub record IsInputStep (before : Result) (input : Input) (after : Result) : Type 0 where
     pub passed : has_ended job before.any ≡ true → after ≡ before
-    pub searched : has_ended job before.any ≡ false → IsSearchedInput before input after
+    pub searched : has_ended job before.any ≡ false → IsSearchedInput before input after ⊎ IsUnreadInput before input after
 
   -- all inputs in order
-  abbrev pub WritesInputs : List Input → (old new : Option (List ℕ)) → (any : Bool) → Type 0
-  WritesInputs inputs old new any =
-      (bytes : List ℕ) × FoldsTo IsInputStep (record { any = false; written = [] }) inputs (record { any = any; written = bytes }) × Appends old new bytes
+  abbrev pub WritesInputs : List Input → (old new : Option (List ℕ)) → List Unread → (any : Bool) → Type 0
+  WritesInputs inputs old new unread any =
+      (bytes : List ℕ) × FoldsTo IsInputStep nothing inputs (record { any = any; unread = unread; written = bytes }) × Appends old new bytes
 
   -- what is written for the first lines of the first input, if there is one
   abbrev pub IsBegun : List Input → (bytes : List ℕ) → Type 0
   IsBegun [] bytes = bytes ≡ []
   IsBegun (input ∷ others) bytes = (p : Progress) × IsSearched r job input.0 input.1 false p × (bytes ≡ p.written)
 
-  -- what is written for the first inputs, and the first lines of the next one
-  pub record IsFirst (inputs : List Input) (bytes : List ℕ) : Type 0 where
+  -- what is written for the first inputs, of which these were not read, and the first lines of the next one
+  pub record IsFirst (inputs : List Input) (unread : List Unread) (bytes : List ℕ) : Type 0 where
     pub before : List Input
     pub others : List Input
     pub parts : inputs ≡ before ++ others
     pub result : Result
-    pub steps : FoldsTo IsInputStep (record { any = false; written = [] }) before result
+    pub steps : FoldsTo IsInputStep nothing before result
+    pub unread_are : result.unread ≡ unread
     pub more : List ℕ
     pub begun : IsBegun others more
     pub is : bytes ≡ result.written ++ more
 
-  abbrev pub WritesSomeOf : List Input → (old new : Option (List ℕ)) → Type 0
-  WritesSomeOf inputs old new = Took old new (IsFirst inputs)
+  abbrev pub WritesSomeOf : List Input → (old new : Option (List ℕ)) → List Unread → Type 0
+  WritesSomeOf inputs old new unread = Took old new (IsFirst inputs unread)

@@ -1,8 +1,9 @@
 //! Failures of a run.
-ghost use Rattle.std.specs.Prelude.{◌≡◌};
-ghost use Rattle.regex_lines.specs.Ending.{IsLate, IsOutputFailure, IsSearchFailure, MayFailToRead, unaccepted};
+ghost use Rattle.std.specs.Prelude.{◌≡◌, []};
+ghost use Rattle.regex_lines.specs.Ending.{IsLate, IsOutputFailure, IsInputFailure, MayFailToRead, unaccepted};
 ghost use Rattle.regex_lines.specs.declared.failure.Failure.TheVariants.{Output};
 
+use crate::unread::{Unread, reason_of, text_of};
 use regress::{Error, SearchError};
 use regress_arguments::{write_visible, write_with_caret};
 use regress_parse::PlacedFault;
@@ -32,8 +33,10 @@ pub enum Failure<'a> {
     TooLarge,
     /// The step limit was reached.
     OutOfSteps,
-    /// The file with this name cannot be opened or read.
-    Unreadable(&'a str),
+    /// A file cannot be opened or read.
+    Unreadable(Unread<'a>),
+    /// Inputs cannot be opened or read, of which the messages are written by [`report_unread`].
+    Incomplete,
     /// The pattern in the file with this name is not UTF-8 from this byte offset on.
     PatternNotUtf8 {
         name: &'a str,
@@ -94,7 +97,7 @@ fn write_message<E: Write>(failure: Failure<'_>, err: &mut E) -> io::Result<()> 
         Failure::Argument => writeln!(err, "regex: an argument is not UTF-8"),
         Failure::Memory => writeln!(err, "regex: out of memory"),
         Failure::Output => writeln!(err, "regex: can't write standard output"),
-        Failure::Closed => Ok(()),
+        Failure::Closed | Failure::Incomplete => Ok(()),
         Failure::Syntax {
             pattern,
             text,
@@ -102,10 +105,7 @@ fn write_message<E: Write>(failure: Failure<'_>, err: &mut E) -> io::Result<()> 
         } => write_syntax_error(&text, &pattern, position, err),
         Failure::TooLarge => writeln!(err, "regex: the pattern is too large"),
         Failure::OutOfSteps => writeln!(err, "regex: the search takes too many steps"),
-        Failure::Unreadable(name) => {
-            write_name(name, err)?;
-            writeln!(err, "can't be read")
-        }
+        Failure::Unreadable(unread) => write_unread(unread, err),
         Failure::PatternNotUtf8 { name, offset } => {
             write_name(name, err)?;
             writeln!(err, "the pattern is not UTF-8, at byte offset {offset}")
@@ -115,6 +115,21 @@ fn write_message<E: Write>(failure: Failure<'_>, err: &mut E) -> io::Result<()> 
             writeln!(err, "too many lines")
         }
     }
+}
+
+/// Writes the messages of inputs that are not read, in order. An error of such a write is ignored.
+pub fn report_unread<E: Write>(unread: &[Unread<'_>], err: &mut E)
+    ensures quiet { unread.now ≡ [] → err.new ≡ err.old }
+{
+    for input in unread {
+        let _ = write_unread(*input, err);
+    }
+}
+
+/// Writes the message of an input that is not read.
+fn write_unread<E: Write>(unread: Unread<'_>, err: &mut E) -> io::Result<()> {
+    write_name(unread.name, err)?;
+    writeln!(err, "{}", text_of(unread.reason))
 }
 
 /// Writes what is in front of a message about an input.
@@ -161,12 +176,15 @@ pub(crate) fn output_failure<'a>(error: io::Error) -> Failure<'a>
 
 /// Returns why a file cannot be read.
 pub fn read_failure(error: io::Error, name: &str) -> Failure<'_>
-    ensures search { IsSearchFailure ⊥ result }
+    ensures search { IsInputFailure ⊥ result }
     ensures reading { MayFailToRead result }
 {
     match error.kind() {
         ErrorKind::OutOfMemory => Failure::Memory,
-        _ => Failure::Unreadable(name),
+        kind => Failure::Unreadable(Unread {
+            name,
+            reason: reason_of(kind),
+        }),
     }
 }
 

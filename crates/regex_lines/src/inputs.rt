@@ -1,74 +1,88 @@
 //! The files that are searched, or standard input.
-ghost use Rattle.std.specs.Prelude.{◌≡◌, IfOk, IfErr, None, map, string_bytes};
-ghost use Rattle.regex_lines.specs.Ending.{IsCostly, IsSearchFailure, OrOutput};
-ghost use Rattle.regex_lines.specs.Searched.{WritesInput, WritesInputs, WritesSomeOf, has_ended, inputs_of, named_files, named, SearchesFirst};
+ghost use Rattle.std.specs.Prelude.{◌≡◌, [], IfOk, IfErr, None, map, string_bytes};
+ghost use Rattle.regex_lines.specs.Ending.{IsCostly, IsInputFailure, IsSearchFailure, OrOutput};
+ghost use Rattle.regex_lines.specs.Searched.{AddsInput, WritesInput, WritesInputs, WritesSomeOf, has_ended, inputs_of, named_files, named, SearchesFirst};
+ghost use Rattle.regex_lines.specs.Unread.{IsSkipped, all_unread};
 ghost use Rattle.regex_options.specs.Plain.{job};
 
-use crate::failure::Failure;
+use crate::failure::{Failure, read_failure};
 use crate::place::Place;
 use crate::searcher::Searcher;
 use crate::searching::{InputSearch, reaches, search_lines, write_end};
+use crate::unread::Unread;
 use regex_options::{Search, Shown, Task};
 use regress::Regex;
 use std::fs::{File, Files};
 use std::io::{BufRead, BufReader, Read, Write};
 
+/// What a search in inputs ended with.
+#[derive(Drop)]
+pub struct Searched<'a> {
+    /// Whether a line is selected, or why the search failed.
+    pub result: Result<bool, Failure<'a>>,
+    /// The inputs that were not read to their ends because of an error, in order.
+    pub unread: Vec<Unread<'a>>,
+}
+
 /// Searches with a regular expression in files, in order until the search ends, or in `input` if there are none. Returns
-/// whether a line is selected.
+/// whether a line is selected, and the inputs that cannot be read: after one of them the search goes on with the next.
 ///
 /// # Errors
-/// Returns a failure of an input, of the output or of a search. What was written for the first lines may have been
-/// written to `out` before it.
+/// The result is a failure of the output, of a search or of memory, or that an input is too long. What was written for the
+/// first lines may have been written to `out` before it.
 pub fn search_all<'a, R: Files + AllocGlobal, I: Read + Drop, W: Write>(
     rt: &R,
     regex: &Regex,
     search: Search<'a>,
     input: I,
     out: &mut W,
-) -> Result<bool, Failure<'a>>
-    ensures all { IfOk result (WritesInputs regex.now (job search.entry.task)
-        (inputs_of search.entry.multiline (map string_bytes search.entry.files.now) (I.remaining input)) (W.contents out.old) (W.contents out.new)) }
-    ensures first { IfErr result (OrOutput (WritesSomeOf regex.now (job search.entry.task)
-        (inputs_of search.entry.multiline (map string_bytes search.entry.files.now) (I.remaining input)) (W.contents out.old) (W.contents out.new))) }
-    ensures failed { IfErr result (IsSearchFailure (IsCostly regex.now)) }
+) -> Searched<'a>
+    ensures all { IfOk result.result (WritesInputs regex.now (job search.entry.task)
+        (inputs_of search.entry.multiline (map string_bytes search.entry.files.now) (I.remaining input)) (W.contents out.old) (W.contents out.new) (all_unread result.unread)) }
+    ensures first { IfErr result.result (OrOutput (WritesSomeOf regex.now (job search.entry.task)
+        (inputs_of search.entry.multiline (map string_bytes search.entry.files.now) (I.remaining input)) (W.contents out.old) (W.contents out.new) (all_unread result.unread))) }
+    ensures failed { IfErr result.result (IsSearchFailure (IsCostly regex.now)) }
 {
     let searcher = Searcher::new(rt.alloc(), regex);
-    search_inputs(rt, &searcher, search, input, out)
+    let mut unread = Vec::new(rt.alloc());
+    if search.files.is_empty() {
+        let result = search_standard_input(&searcher, search, input, out, &mut unread);
+        return Searched { result, unread };
+    }
+    let result = search_files(rt, &searcher, search, out, &mut unread);
+    Searched { result, unread }
 }
 
-/// Searches the inputs.
-fn search_inputs<'a, R: Files, I: Read + Drop, W: Write>(
-    rt: &R,
+/// Searches standard input.
+fn search_standard_input<'a, I: Read + Drop, W: Write>(
     searcher: &Searcher<'_>,
     search: Search<'a>,
     input: I,
     out: &mut W,
+    unread: &mut Vec<Unread<'a>>,
 ) -> Result<bool, Failure<'a>>
+    requires none { unread.old.items ≡ [] }
     ensures all { IfOk result (WritesInputs searcher.now.regex.now (job search.entry.task)
-        (inputs_of search.entry.multiline (map string_bytes search.entry.files.now) (I.remaining input)) (W.contents out.old) (W.contents out.new)) }
+        (inputs_of search.entry.multiline [] (I.remaining input)) (W.contents out.old) (W.contents out.new) (all_unread unread.new)) }
     ensures first { IfErr result (OrOutput (WritesSomeOf searcher.now.regex.now (job search.entry.task)
-        (inputs_of search.entry.multiline (map string_bytes search.entry.files.now) (I.remaining input)) (W.contents out.old) (W.contents out.new))) }
+        (inputs_of search.entry.multiline [] (I.remaining input)) (W.contents out.old) (W.contents out.new) (all_unread unread.new))) }
     ensures failed { IfErr result (IsSearchFailure (IsCostly searcher.now.regex.now)) }
 {
     if has_ended(search.task, false) {
         return Ok(false);
     }
-    if search.files.is_empty() {
-        let place = Place {
-            name: "(standard input)",
-            in_front: false,
-            multiline: search.multiline,
-        };
-        let search = InputSearch {
-            searcher,
-            task: search.task,
-            place,
-            at_once: search.at_once,
-        };
-        search_input(search, input, out)
-    } else {
-        search_files(rt, searcher, search, out)
-    }
+    let place = Place {
+        name: "(standard input)",
+        in_front: false,
+        multiline: search.multiline,
+    };
+    let search = InputSearch {
+        searcher,
+        task: search.task,
+        place,
+        at_once: search.at_once,
+    };
+    search_input(search, input, out, unread)
 }
 
 /// Searches files in order.
@@ -77,11 +91,13 @@ fn search_files<'a, R: Files, W: Write>(
     searcher: &Searcher<'_>,
     search: Search<'a>,
     out: &mut W,
+    unread: &mut Vec<Unread<'a>>,
 ) -> Result<bool, Failure<'a>>
+    requires none { unread.old.items ≡ [] }
     ensures all { IfOk result (WritesInputs searcher.now.regex.now (job search.entry.task)
-        (named_files search.entry.multiline (map string_bytes search.entry.files.now)) (W.contents out.old) (W.contents out.new)) }
+        (named_files search.entry.multiline (map string_bytes search.entry.files.now)) (W.contents out.old) (W.contents out.new) (all_unread unread.new)) }
     ensures first { IfErr result (OrOutput (WritesSomeOf searcher.now.regex.now (job search.entry.task)
-        (named_files search.entry.multiline (map string_bytes search.entry.files.now)) (W.contents out.old) (W.contents out.new))) }
+        (named_files search.entry.multiline (map string_bytes search.entry.files.now)) (W.contents out.old) (W.contents out.new) (all_unread unread.new))) }
     ensures failed { IfErr result (IsSearchFailure (IsCostly searcher.now.regex.now)) }
 {
     let in_front = search.files.len() > 1;
@@ -101,7 +117,7 @@ fn search_files<'a, R: Files, W: Write>(
             place,
             at_once: search.at_once,
         };
-        any |= search_file(rt, search, out)?;
+        any |= search_file(rt, search, out, unread)?;
     }
     Ok(any)
 }
@@ -118,31 +134,77 @@ fn has_ended(task: Task<'_>, any: bool) -> bool
     }
 }
 
-/// Searches a file.
+/// Searches a file, or adds it to those that are not read.
 fn search_file<'a, R: Files, W: Write>(
     rt: &R,
     search: InputSearch<'_, 'a>,
     out: &mut W,
+    unread: &mut Vec<Unread<'a>>,
 ) -> Result<bool, Failure<'a>>
-    ensures all { IfOk result (WritesInput search.entry.searcher.now.regex.now (job search.entry.task) (named search.entry.place) None (W.contents out.old) (W.contents out.new)) }
+    ensures all { IfOk result (AddsInput search.entry.searcher.now.regex.now (job search.entry.task) (named search.entry.place) None
+        (W.contents out.old) (W.contents out.new) (all_unread unread.old) (all_unread unread.new)) }
     ensures first { IfErr result (OrOutput (SearchesFirst search.entry.searcher.now.regex.now (job search.entry.task) (named search.entry.place) None (W.contents out.old) (W.contents out.new))) }
+    ensures kept { IfErr result (λ _. all_unread unread.new ≡ all_unread unread.old) }
     ensures failed { IfErr result (IsSearchFailure (IsCostly search.entry.searcher.now.regex.now)) }
 {
     match File::open(rt, search.place.name) {
-        Ok(file) => search_input(search, file, out),
-        Err(_) => Err(Failure::Unreadable(search.place.name)),
+        Ok(file) => search_input(search, file, out, unread),
+        Err(error) => skip(
+            read_failure(error, search.place.name),
+            search.place.name,
+            unread,
+        ),
+    }
+}
+
+/// Searches an input to its end, or adds it to those that are not read.
+fn search_input<'a, I: Read + Drop, W: Write>(
+    search: InputSearch<'_, 'a>,
+    input: I,
+    out: &mut W,
+    unread: &mut Vec<Unread<'a>>,
+) -> Result<bool, Failure<'a>>
+    ensures all { IfOk result (AddsInput search.entry.searcher.now.regex.now (job search.entry.task) (named search.entry.place) (I.remaining input)
+        (W.contents out.old) (W.contents out.new) (all_unread unread.old) (all_unread unread.new)) }
+    ensures first { IfErr result (OrOutput (SearchesFirst search.entry.searcher.now.regex.now (job search.entry.task) (named search.entry.place) (I.remaining input) (W.contents out.old) (W.contents out.new))) }
+    ensures kept { IfErr result (λ _. all_unread unread.new ≡ all_unread unread.old) }
+    ensures failed { IfErr result (IsSearchFailure (IsCostly search.entry.searcher.now.regex.now)) }
+{
+    match read_input(search, input, out) {
+        Ok(any) => Ok(any),
+        Err(failure) => skip(failure, search.place.name, unread),
+    }
+}
+
+/// Adds the input with this name to those that are not read if that is the failure, and returns that it selects nothing.
+///
+/// # Errors
+/// Returns any other failure, and `Memory` if the input cannot be added.
+fn skip<'a>(
+    failure: Failure<'a>,
+    name: &'a str,
+    unread: &mut Vec<Unread<'a>>,
+) -> Result<bool, Failure<'a>>
+    ensures { IsSkipped failure.entry name.now (all_unread unread.old) (all_unread unread.new) result }
+{
+    match failure {
+        Failure::Unreadable(Unread { reason, .. }) => {
+            unread.push(Unread { name, reason })?;
+            Ok(false)
+        }
+        failure => Err(failure),
     }
 }
 
 /// Searches an input to its end.
-fn search_input<'a, I: Read + Drop, W: Write>(
+fn read_input<'a, I: Read + Drop, W: Write>(
     search: InputSearch<'_, 'a>,
     input: I,
     out: &mut W,
 ) -> Result<bool, Failure<'a>>
     ensures all { IfOk result (WritesInput search.entry.searcher.now.regex.now (job search.entry.task) (named search.entry.place) (I.remaining input) (W.contents out.old) (W.contents out.new)) }
     ensures first { IfErr result (OrOutput (SearchesFirst search.entry.searcher.now.regex.now (job search.entry.task) (named search.entry.place) (I.remaining input) (W.contents out.old) (W.contents out.new))) }
-    ensures failed { IfErr result (IsSearchFailure (IsCostly search.entry.searcher.now.regex.now)) }
+    ensures failed { IfErr result (IsInputFailure (IsCostly search.entry.searcher.now.regex.now)) }
 {
     match BufReader::new(search.searcher.alloc, input) {
         Ok(mut reader) => search_reader(search, &mut reader, out),
@@ -158,7 +220,7 @@ fn search_reader<'a, B: BufRead, W: Write>(
 ) -> Result<bool, Failure<'a>>
     ensures all { IfOk result (WritesInput search.entry.searcher.now.regex.now (job search.entry.task) (named search.entry.place) (B.Read.remaining reader.old) (W.contents out.old) (W.contents out.new)) }
     ensures first { IfErr result (OrOutput (SearchesFirst search.entry.searcher.now.regex.now (job search.entry.task) (named search.entry.place) (B.Read.remaining reader.old) (W.contents out.old) (W.contents out.new))) }
-    ensures failed { IfErr result (IsSearchFailure (IsCostly search.entry.searcher.now.regex.now)) }
+    ensures failed { IfErr result (IsInputFailure (IsCostly search.entry.searcher.now.regex.now)) }
 {
     let selected = search_lines(search, reader, out)?;
     write_end(search, selected, out)?;

@@ -13,8 +13,10 @@ mod reply;
 mod runs;
 mod searcher;
 mod searching;
+mod unread;
 
-pub use failure::{Failure, read_failure, reject, report, write_syntax_error};
-pub use inputs::search_all;
+pub use failure::{Failure, read_failure, reject, report, report_unread, write_syntax_error};
+pub use inputs::{Searched, search_all};
 pub use printing::{flush, print};
 pub use reading::remove_line_feed;
+pub use unread::{Reason, Unread};

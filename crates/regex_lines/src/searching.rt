@@ -4,7 +4,7 @@ ghost use Rattle.std.specs.Io.KnownBytes.{Appends};
 ghost use Rattle.regex_lines.specs.Reply.{IsReply};
 ghost use Rattle.regex_lines.specs.Reading.{IsRead};
 ghost use Rattle.regress_arguments.specs.Output.{Took};
-ghost use Rattle.regex_lines.specs.Ending.{IsCostly, IsSearchFailure, OrOutput};
+ghost use Rattle.regex_lines.specs.Ending.{IsCostly, IsInputFailure, OrOutput};
 ghost use Rattle.regex_options.specs.Plain.{job};
 ghost use Rattle.regex_lines.specs.Searched.{named, SearchesAll, SearchesFirst, prefix_of, is_enough, needs_one, reaches, written_at_end};
 
@@ -37,7 +37,7 @@ pub(crate) fn search_lines<'a, B: BufRead, W: Write>(
 ) -> Result<u64, Failure<'a>>
     ensures all { IfOk result (SearchesAll search.entry.searcher.now.regex.now (job search.entry.task) (named search.entry.place) (B.Read.remaining reader.old) (W.contents out.old) (W.contents out.new)) }
     ensures first { IfErr result (OrOutput (SearchesFirst search.entry.searcher.now.regex.now (job search.entry.task) (named search.entry.place) (B.Read.remaining reader.old) (W.contents out.old) (W.contents out.new))) }
-    ensures failed { IfErr result (IsSearchFailure (IsCostly search.entry.searcher.now.regex.now)) }
+    ensures failed { IfErr result (IsInputFailure (IsCostly search.entry.searcher.now.regex.now)) }
 {
     let mut bytes = Vec::new(search.searcher.alloc);
     let mut number: u64 = 0;
@@ -98,7 +98,7 @@ fn next_line<'a, B: BufRead>(
     line: &mut Vec<u8>,
 ) -> Result<Next, Failure<'a>>
     ensures read { IfOk result (IsRead place.entry.multiline (B.Read.remaining reader.old) (B.Read.remaining reader.new) line.new.items) }
-    ensures failed { IfErr result (IsSearchFailure ⊥) }
+    ensures failed { IfErr result (IsInputFailure ⊥) }
 {
     match read_next(reader, place.multiline, line) {
         Ok(next) => Ok(next),
@@ -116,7 +116,7 @@ fn write_reply<'a, W: Write>(
 ) -> Result<bool, Failure<'a>>
     ensures reply { IfOk result (λ selected. Took (W.contents out.old) (W.contents out.new)
         (IsReply search.entry.searcher.now.regex.now line.now ended (job search.entry.task) (prefix_of (job search.entry.task) (named search.entry.place) number) selected)) }
-    ensures failed { IfErr result (IsSearchFailure (IsCostly search.entry.searcher.now.regex.now)) }
+    ensures failed { IfErr result (IsInputFailure (IsCostly search.entry.searcher.now.regex.now)) }
     ensures untouched { IfErr result (OrOutput (out.new ≡ out.old)) }
 {
     let Reply { selected, bytes } = reply(search, number, line, ended)?;
@@ -133,7 +133,7 @@ fn reply<'a>(
 ) -> Result<Reply, Failure<'a>>
     ensures reply { IfOk result (λ reply. IsReply search.entry.searcher.now.regex.now line.now ended (job search.entry.task)
         (prefix_of (job search.entry.task) (named search.entry.place) number) reply.selected reply.bytes.items) }
-    ensures failed { IfErr result (IsSearchFailure (IsCostly search.entry.searcher.now.regex.now)) }
+    ensures failed { IfErr result (IsInputFailure (IsCostly search.entry.searcher.now.regex.now)) }
 {
     let prefix = Prefix {
         task: search.task,
@@ -150,7 +150,7 @@ pub(crate) fn write_end<'a, W: Write>(
     out: &mut W,
 ) -> Result<(), Failure<'a>>
     ensures end { OnOk result (Appends (W.contents out.old) (W.contents out.new) (written_at_end (job search.entry.task) (named search.entry.place) selected)) }
-    ensures failed { IfErr result (IsSearchFailure (IsCostly search.entry.searcher.now.regex.now)) }
+    ensures failed { IfErr result (IsInputFailure (IsCostly search.entry.searcher.now.regex.now)) }
     ensures untouched { IfErr result (OrOutput (out.new ≡ out.old)) }
 {
     let end = end(search.searcher.alloc, search.task, search.place, selected)?;

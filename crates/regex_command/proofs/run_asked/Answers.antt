@@ -1,7 +1,8 @@
-use Rattle.std.proofs.Common.{◌∙◌, ap, subst}
+use Rattle.std.proofs.Common.{◌≡◌, ◌∙◌, ap, false, subst}
 use Rattle.std.specs.Prelude.{Ok}
 use Rattle.regex_options.specs.Request.{ask}
 use Rattle.regex_command.specs.Printed.{Prints}
+use Rattle.regex_command.proofs.UnreadLemmas.{quiet_none}
 use Rattle.regex_command.proofs.run_asked.Goals as goal
 
 pub returns-then-found-clause-found : goal.returns-then-found-clause-found
@@ -22,3 +23,8 @@ returns-else-found-clause-quiet g c is = absurd (c.status_if_none.ensures.positi
 
 pub returns-then-found-clause-quiet : goal.returns-then-found-clause-quiet
 returns-then-found-clause-quiet g c _ = c.run_regex.ensures.quiet (c.in-Ok.is ∙ ap Ok c.if-found.true)
+
+pub returns-else-found-clause-quiet_none : goal.returns-else-found-clause-quiet_none
+returns-else-found-clause-quiet_none g c _ =
+    quiet_none (c.run_regex.result ≡ Ok false) (c.run_regex.new.err ≡ c.args.err.now) (ask c.args.asked) c.run_regex.ensures.quiet_none
+    (c.in-Ok.is ∙ ap Ok c.if-found.false)

@@ -2,9 +2,9 @@
 use Rattle.std.proofs.Common.{◌≡◌, inl, inr, sym, subst}
 use Rattle.std.specs.Prelude.{Result, Ok, Err, IfErr}
 use Rattle.std.specs.Result.{IsErrAnd}
-use Rattle.regex_lines.specs.Ending.{IsLate, IsSearchFailure, OrOutput}
+use Rattle.regex_lines.specs.Ending.{IsInputFailure, IsLate, IsSearchFailure, OrOutput}
 use Rattle.regex_lines.specs.declared.failure.Failure.{Failure}
-use Rattle.regex_lines.specs.declared.failure.Failure.TheVariants.{Argument, Memory, Output, Closed, Syntax, TooLarge, OutOfSteps, Unreadable, PatternNotUtf8, TooLong}
+use Rattle.regex_lines.specs.declared.failure.Failure.TheVariants.{Argument, Memory, Output, Closed, Syntax, TooLarge, OutOfSteps, Unreadable, Incomplete, PatternNotUtf8, TooLong}
 
 -- a failure that `?` passes on
 pub passed_on : {X F : Type 0} (P : F → Type 0) (result : Result X F) (failure : F) → IsErrAnd result (λ f. f ≡ failure) → P failure → IfErr result P
@@ -28,9 +28,24 @@ costly_failure P Q more Closed h = tt
 costly_failure P Q more (Syntax pattern text position) h = absurd h
 costly_failure P Q more TooLarge h = absurd h
 costly_failure P Q more OutOfSteps h = more h
-costly_failure P Q more (Unreadable name) h = tt
+costly_failure P Q more (Unreadable unread) h = absurd h
+costly_failure P Q more Incomplete h = absurd h
 costly_failure P Q more (PatternNotUtf8 name offset) h = absurd h
 costly_failure P Q more (TooLong name) h = tt
+
+-- the same of one input
+pub costly_input : (P Q : Type 0) → (P → Q) → (failure : Failure) → IsInputFailure P failure → IsInputFailure Q failure
+costly_input P Q more Argument h = absurd h
+costly_input P Q more Memory h = tt
+costly_input P Q more Output h = tt
+costly_input P Q more Closed h = tt
+costly_input P Q more (Syntax pattern text position) h = absurd h
+costly_input P Q more TooLarge h = absurd h
+costly_input P Q more OutOfSteps h = more h
+costly_input P Q more (Unreadable unread) h = tt
+costly_input P Q more Incomplete h = absurd h
+costly_input P Q more (PatternNotUtf8 name offset) h = absurd h
+costly_input P Q more (TooLong name) h = tt
 
 pub late_failure : (costly : Type 0) (failure : Failure) → IsLate failure → IsSearchFailure costly failure
 late_failure costly Argument h = absurd h
@@ -40,9 +55,24 @@ late_failure costly Closed h = tt
 late_failure costly (Syntax pattern text position) h = absurd h
 late_failure costly TooLarge h = absurd h
 late_failure costly OutOfSteps h = absurd h
-late_failure costly (Unreadable name) h = absurd h
+late_failure costly (Unreadable unread) h = absurd h
+late_failure costly Incomplete h = absurd h
 late_failure costly (PatternNotUtf8 name offset) h = absurd h
 late_failure costly (TooLong name) h = absurd h
+
+-- A failure of a search may occur in an input.
+pub of_input : (costly : Type 0) (failure : Failure) → IsSearchFailure costly failure → IsInputFailure costly failure
+of_input costly Argument h = absurd h
+of_input costly Memory h = tt
+of_input costly Output h = tt
+of_input costly Closed h = tt
+of_input costly (Syntax pattern text position) h = absurd h
+of_input costly TooLarge h = absurd h
+of_input costly OutOfSteps h = h
+of_input costly (Unreadable unread) h = absurd h
+of_input costly Incomplete h = absurd h
+of_input costly (PatternNotUtf8 name offset) h = absurd h
+of_input costly (TooLong name) h = tt
 
 pub if_err_by : {X : Type 0} (P Q : Failure → Type 0) (result : Result X Failure) → ((failure : Failure) → P failure → Q failure) → IfErr result P → IfErr result Q
 if_err_by P Q (Ok x) more h = tt

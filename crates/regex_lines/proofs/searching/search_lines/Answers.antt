@@ -1,11 +1,11 @@
 use Rattle.std.proofs.Common.{◌≡◌, ◌∙◌, inr, ap, sym, subst}
-use Rattle.regex_lines.specs.Ending.{IsCostly, IsSearchFailure, OrOutput}
+use Rattle.regex_lines.specs.Ending.{IsCostly, IsInputFailure, OrOutput}
 use Rattle.regex_lines.specs.Reading.{IsRead, is_ended}
 use Rattle.regex_lines.specs.Searched.{SearchesFirst, named}
 use Rattle.regex_lines.specs.declared.reading.Next.TheVariants.{Line, LastLine}
 use Rattle.regex_options.specs.Plain.{job}
 use Rattle.regex_lines.proofs.SearchLemmas.{all, another, byte_of, enough, first, first_or_output, is_end, last, last_of, line_of}
-use Rattle.regex_lines.proofs.lemmas.Failures.{costly_failure, or_output, passed_on}
+use Rattle.regex_lines.proofs.lemmas.Failures.{costly_input, or_output, passed_on}
 use Rattle.regex_lines.proofs.searching.search_lines.Goals as goal
 
 pub returns-then-is_enough-clause-all : goal.returns-then-is_enough-clause-all
@@ -21,9 +21,9 @@ returns-in_err-next-clause-first g c =
 
 pub returns-in_err-next-clause-failed : goal.returns-in_err-next-clause-failed
 returns-in_err-next-clause-failed g c =
-    passed_on (IsSearchFailure (IsCostly c.args.search.searcher.now.regex.now)) c.from_residual.result c.in_err-next.field-0.0
+    passed_on (IsInputFailure (IsCostly c.args.search.searcher.now.regex.now)) c.from_residual.result c.in_err-next.field-0.0
     c.from_residual.ensures.1
-    (costly_failure ⊥ _ (λ none. absurd none) c.in_err-next.field-0.0 c.in_err-next.ensures.failed)
+    (costly_input ⊥ _ (λ none. absurd none) c.in_err-next.field-0.0 c.in_err-next.ensures.failed)
 
 pub returns-in-End-clause-all : goal.returns-in-End-clause-all
 returns-in-End-clause-all g c =

@@ -2,7 +2,7 @@ use Rattle.std.proofs.Common.{inr}
 use Rattle.regex_options.specs.Plain.{job}
 use Rattle.regex_lines.specs.Searched.{named}
 use Rattle.regex_lines.proofs.SearchLemmas.{nothing_first}
-use Rattle.regex_lines.proofs.inputs.search_input.Goals as goal
+use Rattle.regex_lines.proofs.inputs.read_input.Goals as goal
 
 pub returns-in-Err-clause-first : goal.returns-in-Err-clause-first
 returns-in-Err-clause-first g c =
