@@ -160,6 +160,7 @@ fn is_judged(negated: bool, dialect: Dialect) -> bool
 
 /// Parses the contents of a class, up to its `]`, and closes them.
 #[cycle(class_set)]
+#[inline(always)]
 fn parse_closed_contents(cursor: &mut Cursor, around: &OperandContext) -> Result<Value, Fault>
     ensures value { ParsesAs IsValue (source cursor.new) result
         (closed_contents_at (table_of around.now.tables.now) around.now.parameters.now (inner_of around.now) around.now.negated (source cursor.old)) }

@@ -13,6 +13,7 @@ use regress_unicode::{Tables, add_icase_code_points, fold};
 use std::alloc::{AllocError, Global};
 
 /// Returns the set, or its closure under case folding if the parameters ask for it.
+#[inline(always)]
 pub(crate) fn close(
     set: CodePointSet,
     tables: &Tables,
@@ -29,6 +30,7 @@ pub(crate) fn close(
 }
 
 /// Returns the strings, with each character folded if the parameters ask for it.
+#[inline(always)]
 pub(crate) fn fold_strings(
     strings: Vec<Vec<u32>>,
     tables: &Tables,

@@ -181,6 +181,7 @@ pub(crate) fn make_class(
 }
 
 /// Returns the set, and where classes are compared by upper cases all characters with the upper case of a member.
+#[inline(always)]
 fn compare(set: CodePointSet, scope: &Scope) -> Result<CodePointSet, AllocError>
     ensures { IfOk result (λ compared. (members : List Bounds) → HasMembers members set →
         HasMembers (compared_members (context_of scope.now) members) compared) }
@@ -193,6 +194,7 @@ fn compare(set: CodePointSet, scope: &Scope) -> Result<CodePointSet, AllocError>
 }
 
 /// Returns the node of a set with these flags.
+#[inline(always)]
 fn make_set(
     inverted: bool,
     set: CodePointSet,
@@ -320,6 +322,7 @@ fn complement_if(set: CodePointSet, negated: bool) -> Result<CodePointSet, Alloc
 }
 
 /// Returns the set, with the flag i its closure.
+#[inline(always)]
 fn close(set: CodePointSet, flags: Flags, tables: &Tables) -> Result<CodePointSet, AllocError>
     ensures { IfOk result (λ closed. (members : List Bounds) → HasMembers members set →
         closed ≡ intervals_of (is_in_class (table_of tables.now) flags false members)) }

@@ -46,6 +46,7 @@ impl Operand {
     }
 
     /// Returns the contents of the operand as operators have them.
+    #[inline(always)]
     pub(super) fn into_closed_value(
         self,
         alloc: Global,
@@ -144,6 +145,7 @@ fn point_value(
 }
 
 /// Returns the set, or its complement if `negated`.
+#[inline(always)]
 fn complement_if(set: CodePointSet, negated: bool) -> Result<CodePointSet, AllocError>
     ensures { IfOk result (λ other. (members : List Bounds) → HasMembers members set → HasMembers (complement_if negated members) other) }
 {

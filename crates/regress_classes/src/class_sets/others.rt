@@ -42,6 +42,7 @@ impl Others {
     }
 
     /// Returns the contents with folded strings, if the parameters ask for that.
+    #[inline(always)]
     pub(super) fn into_folded(
         self,
         tables: &Tables,

@@ -44,6 +44,7 @@ impl Value {
     }
 
     /// Returns the contents with closed code points and folded strings, if the parameters ask for that.
+    #[inline(always)]
     pub(super) fn into_closed(
         self,
         tables: &Tables,
