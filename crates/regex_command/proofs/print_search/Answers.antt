@@ -31,9 +31,13 @@ returns-in_err-any-clause-first g c =
     c.from_residual-in_err-any.result failure c.from_residual-in_err-any.ensures.1
     (or_output (WritesSomeOf r task inputs old between unread) (same ⊎ PrintsFirst setting text task search.multiline files input old new failure) failure
     (subst (λ result. IfErr result (OrOutput (WritesSomeOf r task inputs old between unread))) c.in_err-any.was c.search_all-result.ensures.first)
-    (λ some. inr (r, c.in_ok-regex.ensures.own.compiled, until (IsCostly r) r task inputs old new unread failure
-    (subst (λ result. IfErr result (IsSearchFailure (IsCostly r))) c.in_err-any.was c.search_all-result.ensures.failed)
-    (some.0, some.1, appends_kept old between new some.0 some.2 c.flush-flushed.ensures.kept))))
+    (λ some. inr (
+      r,
+      c.in_ok-regex.ensures.own.compiled,
+      until (IsCostly r) r task inputs old new unread failure
+          (subst (λ result. IfErr result (IsSearchFailure (IsCostly r))) c.in_err-any.was c.search_all-result.ensures.failed)
+          (some.0, some.1, appends_kept old between new some.0 some.2 c.flush-flushed.ensures.kept),
+    )))
 
 pub returns-in_err-any-clause-due : goal.returns-in_err-any-clause-due
 returns-in_err-any-clause-due g c =
