@@ -68,10 +68,6 @@ module _ (setting : Setting) (text : List ℕ) (job : Job) (multiline : Bool) (f
         subst (λ f. OrOutput (same ⊎ PrintsFirst setting text job multiline files input old new f) f) (sym is)
         (inr (inr (r, compiled, (any || changes job, (any, refl, (unread, complete, writes))))))
 
-pub due_incomplete : (setting : Setting) (text : List ℕ) (result : Result Bool Failure) → IfErr result (λ failure. failure ≡ Incomplete) → IfErr result (IsDue setting text)
-due_incomplete setting text (Ok found) is = tt
-due_incomplete setting text (Err failure) is = inr (inr is)
-
 pub none_of : (a b : Bool) → false ≡ a || b → a ≡ false
 none_of true b is = sym is
 none_of false b is = refl

@@ -107,11 +107,6 @@ module _ (r : Regex) (job : Job) (inputs : List Input) (before : Option (List �
         appends_both before between after sofar.bytes first.0.written sofar.written first.2,
       )
 
--- No input is searched.
-pub none_read : (r : Regex) (job : Job) (inputs : List Input) (before : Option (List ℕ)) → has_ended job false ≡ true →
-    WritesInputs r job inputs before before [] false
-none_read r job inputs before = ended r job inputs before 0 false [] before (none_yet r job inputs before)
-
 -- the i-th file as an input
 pub input_at : (multiline : Bool) (files : List (String Global)) (i : ℕ) (file : String Global) → i < length files → get_or files i file ≡ file →
     get_or (named_files multiline (map string_bytes files)) i (record { name = string_bytes file; in_front = nat_lt 1 (length files); multiline = multiline }, None)
@@ -141,7 +136,3 @@ module _ (r : Regex) (job : Job) (place : Named) (input before after : Option (L
   one_all goes_on is unread adds =
       finished r job alone before 1 is unread after
       (one_more r job alone before 0 false [] before (none_yet r job alone before) (place, input) (omega arith) refl after goes_on is unread adds) (omega arith)
-
-  -- the first lines of one input
-  pub one_some : SearchesFirst r job place input before after → WritesSomeOf r job alone before after []
-  one_some first = some_of r job alone before 0 false [] before (none_yet r job alone before) (place, input) (omega arith) refl after first

@@ -55,21 +55,7 @@ IsSearchError costly errors.Memory = ⊤
 IsSearchError costly errors.OutOfSteps = costly
 IsSearchError costly errors.TooMuchMemory = ⊤
 
--- A failure that may occur while an input is searched: the search may be out of steps if the pattern is costly.
-abbrev pub IsInputFailure : (costly : Type 0) → Failure → Type 0
-IsInputFailure costly Argument = ⊥
-IsInputFailure costly Memory = ⊤
-IsInputFailure costly Output = ⊤
-IsInputFailure costly Closed = ⊤
-IsInputFailure costly (Syntax pattern text position) = ⊥
-IsInputFailure costly TooLarge = ⊥
-IsInputFailure costly OutOfSteps = costly
-IsInputFailure costly (Unreadable unread) = ⊤
-IsInputFailure costly Incomplete = ⊥
-IsInputFailure costly (PatternNotUtf8 name offset) = ⊥
-IsInputFailure costly (TooLong name) = ⊤
-
--- A failure that may end the search of all inputs: one that cannot be read does not.
+-- A failure that may end the search of all inputs: the search may be out of steps if the pattern is costly.
 abbrev pub IsSearchFailure : (costly : Type 0) → Failure → Type 0
 IsSearchFailure costly Argument = ⊥
 IsSearchFailure costly Memory = ⊤
@@ -82,6 +68,11 @@ IsSearchFailure costly (Unreadable unread) = ⊥
 IsSearchFailure costly Incomplete = ⊥
 IsSearchFailure costly (PatternNotUtf8 name offset) = ⊥
 IsSearchFailure costly (TooLong name) = ⊤
+
+-- A failure that may occur while an input is searched: one of these, or that the input cannot be read.
+abbrev pub IsInputFailure : (costly : Type 0) → Failure → Type 0
+IsInputFailure costly (Unreadable unread) = ⊤
+IsInputFailure costly failure = IsSearchFailure costly failure
 
 -- A failure that may occur while the file of a pattern is read.
 abbrev pub MayFailToRead : Failure → Type 0

@@ -15,10 +15,6 @@ pub or_output : (P Q : Type 0) (failure : Failure) → OrOutput P failure → (P
 or_output P Q failure (inl output) more = inl output
 or_output P Q failure (inr p) more = inr (more p)
 
-pub if_err_map : {X : Type 0} (P Q : Type 0) (result : Result X Failure) → IfErr result (OrOutput P) → (P → Q) → IfErr result (OrOutput Q)
-if_err_map P Q (Ok x) h more = tt
-if_err_map P Q (Err failure) h more = or_output P Q failure h more
-
 -- a failure that may occur whatever the pattern is, and one that may occur if it is costly
 pub costly_failure : (P Q : Type 0) → (P → Q) → (failure : Failure) → IsSearchFailure P failure → IsSearchFailure Q failure
 costly_failure P Q more Argument h = absurd h
