@@ -12,7 +12,7 @@ ghost use Rattle.regress_classes.specs.ClassViews.{class_atom_of, IsClassAtomInR
 ghost use Rattle.regress_lexer.specs.Views.{source};
 
 use crate::class_atom::{ClassAtom, read_class_atom};
-use crate::class_escape::class_members;
+use crate::class_escape::class_escape_set;
 use crate::gathered::IntervalCollector;
 use crate::parameters::Parameters;
 use regress_base::codepointset::{CodePointSet, Interval};
@@ -243,8 +243,7 @@ fn add_atom(set: &mut IntervalCollector, alloc: Global, atom: ClassAtom) -> Resu
     match atom {
         ClassAtom::Point(c) => set.add(Interval::new(c, c)),
         ClassAtom::Class { kind, negated } => {
-            let members = class_members(alloc, kind, negated)?;
-            set.add_all(members.intervals())
+            add_members(set, &class_escape_set(alloc, kind)?, negated)
         }
         ClassAtom::Set {
             set: members,

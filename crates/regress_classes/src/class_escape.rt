@@ -1,8 +1,8 @@
 //! Sets of class escapes.
-ghost use Rattle.std.specs.Prelude.{◌≡◌, ◌++◌, ℕ, IfOk};
+ghost use Rattle.std.specs.Prelude.{◌≡◌, ◌++◌, IfOk};
 ghost use Rattle.regress_base.specs.Classes.{white_space, line_terminators};
-ghost use Rattle.regress_base.specs.Intervals.{is_member, IsCanonical};
-ghost use Rattle.regress_classes.specs.ClassProductions.{class_letter, members_of, complement_if};
+ghost use Rattle.regress_base.specs.Intervals.{IsCanonical};
+ghost use Rattle.regress_classes.specs.ClassProductions.{class_letter, members_of};
 ghost use Rattle.regress_classes.specs.ClassViews.{HasMembers};
 
 use regress_base::charclasses::{CharacterClassType, digit_intervals, word_intervals};
@@ -68,19 +68,4 @@ fn set_of(alloc: Global, intervals: &[Interval]) -> Result<CodePointSet, AllocEr
 {
     let list = Vec::from_slice(alloc, intervals)?;
     Ok(CodePointSet::from_sorted_disjoint_intervals(list))
-}
-
-/// Returns the members of a class escape, or of its complement if `negated`.
-///
-/// # Errors
-/// Returns [`AllocError`] if an allocation fails.
-pub fn class_members(
-    alloc: Global,
-    kind: CharacterClassType,
-    negated: bool,
-) -> Result<CodePointSet, AllocError>
-    ensures { IfOk result (λ set. (c : ℕ) → is_member set c ≡ is_member (complement_if negated (members_of kind)) c) }
-{
-    let set = class_escape_set(alloc, kind)?;
-    if negated { set.inverted() } else { Ok(set) }
 }

@@ -5,7 +5,7 @@ use Rattle.std.proofs.lemmas.Result.{err_from_is_err_and}
 use Rattle.regress_unicode.specs.TableOf.{table_of}
 use Rattle.regress_classes.specs.declared.class_sets.OperandContext.{OperandContext}
 use Rattle.regress_classes.specs.ClassProductions.{one_point}
-use Rattle.regress_classes.specs.ClassSets.{Value, nothing, is_not_negatable, only, joined, nested, unless_negated_strings, set_character_at, character, class, value_of, closed_value, closed_value_of, contents_at, are_at}
+use Rattle.regress_classes.specs.ClassSets.{Value, nothing, is_not_negatable, only, joined, nested, unless_negated_strings, set_character_at, character, class, value_of, closed_value, closed_value_of, are_at}
 use Rattle.regress_lexer.specs.declared.dialect.Dialect.{Dialect}
 use Rattle.regress_lexer.specs.Dialects.{isolates_ampersand}
 use Rattle.regress_lexer.specs.Reads.{ParsesAs}
