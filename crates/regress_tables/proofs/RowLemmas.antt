@@ -16,11 +16,6 @@ use Rattle.regress_tables.specs.Table.{Grows, SameShape, cell, evaluated, index,
 use Rattle.regress_tables.proofs.BitLemmas.{bits-len}
 use Rattle.regress_tables.proofs.FillLemmas.{same-index}
 
-pub row-within : (t : Table) (row : ℕ) → row ≤ t.length → row * (2 * t.width) + 2 * t.width ≤ size t
-row-within t row le =
-    let more : row + 1 ≤ t.length + 1 = omega (arith, le) in
-    omega (arith, mul-le-mul_right (2 * t.width) more)
-
 pub row-most : (d : Direction) (n x : ℕ) → x ≤ n → row_of d n x ≤ n
 row-most forwards n x le = omega arith
 row-most backwards n x le = le
