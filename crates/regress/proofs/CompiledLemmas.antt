@@ -13,13 +13,14 @@ use Rattle.regress_front.specs.Steps.{byte_state, Setting}
 use Rattle.regress_front.specs.Syntax.{Pattern}
 use Rattle.regress_front.specs.Tree.{Tree}
 use Rattle.regress_front.specs.WellFormed.{captures}
+use Rattle.regress_front.specs.declared.parse.Dialect.{Dialect}
 use Rattle.regress_front.specs.declared.parse.PlacedFault.{PlacedFault}
 use Rattle.regress_front.specs.declared.parse.PlacedFault.TheVariants as fault
 use Rattle.regress_front.specs.declared.unicode.Tables.{Tables}
-use Rattle.regress_front.specs.Settled.{IsFaultOf}
+use Rattle.regress_front.specs.Settled.{IsFaultIn}
 use Rattle.regress_match.specs.Pattern.{capture_of}
 use Rattle.regress_match.specs.declared.names.Group.{Group}
-use Rattle.regress.specs.Compiled.{IsCompiled, IsCompiledFrom, IsTreeOf, groups_of, source_of, tree_of}
+use Rattle.regress.specs.Compiled.{IsCompiledFromIn, IsCompiledIn, IsTreeOfIn, groups_of, source_of, tree_of}
 use Rattle.regress.specs.Unicode.{unicode_setting}
 use Rattle.regress.specs.Source.{text_of}
 use Rattle.regress.specs.Compiled as regex
@@ -43,18 +44,20 @@ means_optimized setting old new p means same = λ text s is_text is_state.
     sym ((same setting text is_text).same (byte_state text s)) ∙ means text s is_text is_state
 
 -- An error of the parser is due.
-pub due : (setting : Setting) (source : Source) (options : Options) (f : PlacedFault) → IsFaultOf setting source f →
-    IsDue setting source options (error_of f)
+pub due : (setting : Setting) (source : Source) (options : Options) (f : PlacedFault) →
+    IsFaultIn options.dialect setting source f → IsDue setting source options (error_of f)
 due setting source options (fault.Syntax kind e position) is = is
 due setting source options (fault.Memory e) is = tt
 
 -- An error of the parser that is converted is due.
-pub failed : (setting : Setting) (source : Source) {X Y : Type 0} (r : Result X PlacedFault) (f : PlacedFault) (out : Result Y Error) →
-    IsErr out × IsErrAnd out (λ error. error ≡ error_of f) → r ≡ Err f → IfErr r (IsFaultOf setting source) →
-    (options : Options) → IfErr out (IsDue setting source options)
-failed setting source r f (Ok y) given is known options = tt
-failed setting source r f (Err error) given is known options =
-    subst (IsDue setting source options) (sym given.1) (due setting source options f (subst (λ r. IfErr r (IsFaultOf setting source)) is known))
+pub failed : (dialect : Dialect) (setting : Setting) (source : Source) {X Y : Type 0} (r : Result X PlacedFault) (f : PlacedFault) (out : Result Y Error) →
+    IsErr out × IsErrAnd out (λ error. error ≡ error_of f) → r ≡ Err f → IfErr r (IsFaultIn dialect setting source) →
+    (options : Options) → options.dialect ≡ dialect → IfErr out (IsDue setting source options)
+failed dialect setting source r f (Ok y) given is known options same = tt
+failed dialect setting source r f (Err error) given is known options same =
+    let fault = subst (λ r. IfErr r (IsFaultIn dialect setting source)) is known in
+    subst (IsDue setting source options) (sym given.1)
+    (due setting source options f (subst (λ d. IsFaultIn d setting source f) (sym same) fault))
 
 -- An error that is passed on has the property that it had.
 pub passed_on : (P : Error → Type 0) {X Y : Type 0} (r : Result X Error) (e : Error) (out : Result Y Error) →
@@ -78,11 +81,11 @@ sorted-map (first ∷ groups) sorted = λ i j d up within.
     omega (arith, one, two, sorted i j first up in_all)
 
 -- A regular expression with the tree and the groups of an accepted pattern is compiled from it.
-pub compiled : (setting : Setting) (points : Source) (t : Tree) (r : Regex) → IsTreeOf setting points t → tree_of r ≡ t →
-    regex.setting_of r ≡ setting → IsPermutation (captures t) (groups_of r) → IsNonDecreasingBy (λ group. group.id) r.groups.items →
-    IsCompiledFrom setting points r
-compiled setting points t r is same_tree same_setting groups sorted =
-    let own = subst (IsTreeOf setting points) (sym same_tree) is in
+pub compiled : (dialect : Dialect) (setting : Setting) (points : Source) (t : Tree) (r : Regex) → IsTreeOfIn dialect setting points t →
+    tree_of r ≡ t → regex.setting_of r ≡ setting → IsPermutation (captures t) (groups_of r) → IsNonDecreasingBy (λ group. group.id) r.groups.items →
+    IsCompiledFromIn dialect setting points r
+compiled dialect setting points t r is same_tree same_setting groups sorted =
+    let own = subst (IsTreeOfIn dialect setting points) (sym same_tree) is in
     record {
       tree = own;
       groups = IsPermutation-trans _ _ _ own.captures (subst (λ u. IsPermutation (captures u) (groups_of r)) (sym same_tree) groups);
@@ -91,23 +94,23 @@ compiled setting points t r is same_tree same_setting groups sorted =
     }
 
 -- What is compiled from the characters of a text is compiled from the text.
-pub from_characters : (setting : Setting) (text : List ℕ) (points : Source) → points ≡ chars text → IsUtf8 text →
-    {E : Type 0} (r : Result Regex E) → IfOk r (IsCompiledFrom setting points) → IfOk r (λ regex. source_of regex ≡ text_of points) →
-    IfOk r (IsCompiled setting text)
-from_characters setting text points same utf8 (Err e) compiled source = tt
-from_characters setting text points same utf8 (Ok regex) compiled source = record {
-  from = subst (λ ps. IsCompiledFrom setting ps regex) same compiled;
+pub from_characters : (dialect : Dialect) (setting : Setting) (text : List ℕ) (points : Source) → points ≡ chars text → IsUtf8 text →
+    {E : Type 0} (r : Result Regex E) → IfOk r (IsCompiledFromIn dialect setting points) → IfOk r (λ regex. source_of regex ≡ text_of points) →
+    IfOk r (IsCompiledIn dialect setting text)
+from_characters dialect setting text points same utf8 (Err e) compiled source = tt
+from_characters dialect setting text points same utf8 (Ok regex) compiled source = record {
+  from = subst (λ ps. IsCompiledFromIn dialect setting ps regex) same compiled;
   source = source ∙ ap text_of same ∙ text_of-chars text utf8;
 }
 
 -- The tree of an accepted pattern has few groups.
-few_groups : (setting : Setting) (source : Source) (t : Tree) → IsTreeOf setting source t → length (captures t) < 18446744073709551615
-few_groups setting source t is =
+few_groups : (dialect : Dialect) (setting : Setting) (source : Source) (t : Tree) → IsTreeOfIn dialect setting source t → length (captures t) < 18446744073709551615
+few_groups dialect setting source t is =
     let groups = is.accepted.limits.groups in
     omega (arith, groups, length_permutation _ _ is.captures, length-pattern_groups is.pattern)
 
 -- An error of compiling that is converted is due.
-pub too_long_is_due : (setting : Setting) (source : Source) (options : Options) (t : Tree) → IsTreeOf setting source t →
+pub too_long_is_due : (setting : Setting) (source : Source) (options : Options) (t : Tree) → IsTreeOfIn options.dialect setting source t →
     {X Y : Type 0} (r : Result X CompileFault) (f : CompileFault) (out : Result Y Error) →
     IsErr out × IsErrAnd out (λ error. error ≡ compile_error_of f) → r ≡ Err f →
     (r ≡ Err compile_fault.TooLong → length (captures t) < 18446744073709551615 → options.instructions < program_size t) →
@@ -117,7 +120,7 @@ too_long_is_due setting source options t is r (compile_fault.Memory e) (Err erro
     subst (IsDue setting source options) (sym given.1) tt
 too_long_is_due setting source options t is r compile_fault.TooLong (Err error) given same too_long =
     subst (IsDue setting source options) (sym given.1)
-    (inr (record { tree = t; is_tree = is; long = too_long same (few_groups setting source t is) }))
+    (inr (record { tree = t; is_tree = is; long = too_long same (few_groups options.dialect setting source t is) }))
 
 -- An error under the flags of letters is due with the letters.
 pub due_with_letters : (letters : List ℕ) (source : Source) → AreFlags letters → (error : Error) →

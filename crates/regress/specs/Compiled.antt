@@ -1,13 +1,15 @@
 -- A compiled regular expression, and the match that a search has found.
 use Rattle.std.specs.Prelude.{◌≡◌, ℕ, List, map, string_bytes, chars}
 use Rattle.std.specs.List.Sorted.{IsNonDecreasingBy, IsPermutation}
-use Rattle.regress_front.specs.Accepted.{IsAccepted, Means}
+use Rattle.regress_front.specs.Accepted.{IsAcceptedIn, Means}
 use Rattle.regress_front.specs.Groups.{pattern_groups}
 use Rattle.regress_front.specs.Source.{Source}
 use Rattle.regress_front.specs.Steps.{MatchState, Setting}
 use Rattle.regress_front.specs.Syntax.{Pattern}
 use Rattle.regress_front.specs.Tree.{Tree}
 use Rattle.regress_front.specs.WellFormed.{Capture, IsWellFormed, captures}
+use Rattle.regress_front.specs.declared.parse.Dialect.{Dialect}
+use Rattle.regress_front.specs.declared.parse.Dialect.TheVariants.{Regress}
 use Rattle.regress_found.specs.Found.{outcomes_at}
 use Rattle.regress_found.specs.declared.found.Match as matcher
 use Rattle.regress_match.specs.Pattern.{matcher_setting, matcher_tree, capture_of}
@@ -34,25 +36,37 @@ groups_of r = map capture_of r.groups.items
 abbrev pub outcomes_of : Regex → (text : List ℕ) → (position : ℕ) → List MatchState
 outcomes_of r text = outcomes_at (setting_of r) text (tree_of r)
 
--- A well-formed tree with the outcomes and the groups of the accepted pattern.
-pub record IsTreeOf (setting : Setting) (source : Source) (t : Tree) : Type 0 where
-  pub pattern : Pattern
-  pub accepted : IsAccepted setting source pattern
-  pub meaning : Means setting t pattern
-  pub captures : IsPermutation (pattern_groups pattern) (captures t)
-  pub well_formed : IsWellFormed t
+module _ (dialect : Dialect) where
+  -- A well-formed tree with the outcomes and the groups of the accepted pattern.
+  pub record IsTreeOfIn (setting : Setting) (source : Source) (t : Tree) : Type 0 where
+    pub pattern : Pattern
+    pub accepted : IsAcceptedIn dialect setting source pattern
+    pub meaning : Means setting t pattern
+    pub captures : IsPermutation (pattern_groups pattern) (captures t)
+    pub well_formed : IsWellFormed t
 
--- The regular expression is compiled from these code points under this setting.
-pub record IsCompiledFrom (s : Setting) (points : Source) (r : Regex) : Type 0 where
-  pub tree : IsTreeOf s points (tree_of r)
-  pub groups : IsPermutation (pattern_groups tree.pattern) (groups_of r)
-  pub sorted : IsNonDecreasingBy (λ group. group.id) (groups_of r)
-  pub setting : setting_of r ≡ s
+  -- The regular expression is compiled from these code points under this setting.
+  pub record IsCompiledFromIn (s : Setting) (points : Source) (r : Regex) : Type 0 where
+    pub tree : IsTreeOfIn s points (tree_of r)
+    pub groups : IsPermutation (pattern_groups tree.pattern) (groups_of r)
+    pub sorted : IsNonDecreasingBy (λ group. group.id) (groups_of r)
+    pub setting : setting_of r ≡ s
 
--- The regular expression is compiled from this text, which is its source, under this setting.
-pub record IsCompiled (s : Setting) (text : List ℕ) (r : Regex) : Type 0 where
-  pub from : IsCompiledFrom s (chars text) r
-  pub source : source_of r ≡ text
+  -- The regular expression is compiled from this text, which is its source, under this setting.
+  pub record IsCompiledIn (s : Setting) (text : List ℕ) (r : Regex) : Type 0 where
+    pub from : IsCompiledFromIn s (chars text) r
+    pub source : source_of r ≡ text
+
+-- ---- the same in the default dialect
+
+abbrev pub IsTreeOf : Setting → Source → Tree → Type 0
+IsTreeOf = IsTreeOfIn Regress
+
+abbrev pub IsCompiledFrom : Setting → Source → Regex → Type 0
+IsCompiledFrom = IsCompiledFromIn Regress
+
+abbrev pub IsCompiled : Setting → (text : List ℕ) → Regex → Type 0
+IsCompiled = IsCompiledIn Regress
 
 -- the match that a search has found
 abbrev pub match_of : Match → matcher.Match

@@ -8,11 +8,11 @@ use Rattle.regress_front.specs.declared.parse.PlacedFault.TheVariants as fault
 use Rattle.regress_found.specs.declared.fault.MemoryFault.{MemoryFault}
 use Rattle.regress_found.specs.declared.fault.MemoryFault.TheVariants as memory_fault
 use Rattle.regress_front.specs.Tree.{Tree}
-use Rattle.regress_front.specs.Settled.{IsSyntaxError}
+use Rattle.regress_front.specs.Settled.{IsSyntaxErrorIn}
 use Rattle.regress_program.specs.Size.{program_size}
 use Rattle.regress_program.specs.declared.fault.CompileFault.{CompileFault}
 use Rattle.regress_program.specs.declared.fault.CompileFault.TheVariants as compile_fault
-use Rattle.regress.specs.Compiled.{IsTreeOf}
+use Rattle.regress.specs.Compiled.{IsTreeOfIn}
 use Rattle.regress.specs.Unicode.{unicode_setting}
 use Rattle.regress.specs.Letters.{AreFlags, flags_of}
 use Rattle.regress.specs.Limits.{default_options}
@@ -38,19 +38,20 @@ search_error_of memory_fault.Memory = search_error.Memory
 search_error_of memory_fault.TooMuchMemory = search_error.TooMuchMemory
 
 -- The program of an accepted pattern, by its tree, has more instructions than the limit.
-pub record IsTooLong (setting : Setting) (source : Source) (limit : ℕ) : Type 0 where
+pub record IsTooLong (setting : Setting) (source : Source) (options : Options) : Type 0 where
   pub tree : Tree
-  pub is_tree : IsTreeOf setting source tree
-  pub long : limit < program_size tree
+  pub is_tree : IsTreeOfIn options.dialect setting source tree
+  pub long : options.instructions < program_size tree
 
 -- The bound on the nodes, or the number of instructions, exceeds its limit.
 abbrev pub IsTooLarge : Setting → Source → Options → Type 0
 IsTooLarge setting source options =
-    (options.nodes < node_bound setting.flags.unicode_sets source) ⊎ IsTooLong setting source options.instructions
+    (options.nodes < node_bound setting.flags.unicode_sets source) ⊎ IsTooLong setting source options
 
--- An error is due: a syntax error, or the pattern is too large. It is not about flags. Out of memory it states nothing.
+-- An error is due in the dialect of the options: a syntax error, or the pattern is too large. It is not about flags. Out of memory it states nothing.
 abbrev pub IsDue : Setting → Source → Options → Error → Type 0
-IsDue setting source options (Syntax kind text position) = IsSyntaxError setting source kind (string_bytes text) position
+IsDue setting source options (Syntax kind text position) =
+    IsSyntaxErrorIn options.dialect setting source kind (string_bytes text) position
 IsDue setting source options (Flags e) = ⊥
 IsDue setting source options TooLarge = IsTooLarge setting source options
 IsDue setting source options Memory = Unit {0}

@@ -12,7 +12,7 @@ use Rattle.regress.specs.declared.limits.Options.{Options}
 use Rattle.regress.specs.declared.pattern.Regex.{Regex}
 
 -- A regular expression that was compiled with these options: its tree and its program are within them, its searches have
--- their limits of steps and of memory, and are linear exactly within their limit on tables.
+-- their limits of steps and of memory, and are linear exactly within their limit on tables. `flags` are those in force.
 pub record Keeps (options : Options) (flags : Flags) (source : Source) (r : Regex) : Type 0 where
   pub small : options.nodes < 2 ^ 64 - 1 → HasAtMost flags source options.nodes
   pub within : program_size (tree_of r) ≤ options.instructions

@@ -26,7 +26,7 @@ pub use letters::{FlagsError, parse_flags};
 pub use limits::Options;
 pub use pattern::Regex;
 pub use regress_escape::escape;
-pub use regress_front::parse::FaultKind;
+pub use regress_front::parse::{Dialect, FaultKind};
 pub use regress_front::types::Flags;
 pub use regress_front::unicode::Tables;
 pub use regress_match::Nonlinear;

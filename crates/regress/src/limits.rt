@@ -1,9 +1,13 @@
-//! Limits for untrusted patterns and texts.
+//! The dialect of patterns, and limits for untrusted patterns and texts.
+use regress_front::parse::Dialect;
 use regress_match::Limits;
 
-/// The limits of a regular expression.
+/// The dialect of a regular expression, and its limits.
 #[derive(Clone, Copy, Debug, PartialEq, Eq)]
 pub struct Options {
+    /// The dialect of the syntax. `Dialect::Regress` by default; `docs/syntax.md` has the rules in which the dialects
+    /// differ.
+    pub dialect: Dialect,
     /// The number of steps that one search may take if it is not linear, counted as in `Backtracker::find` of
     /// `regress_backtrack`. All matches that an iterator returns are one search. A billion by default, which takes about a
     /// minute at most.
@@ -33,6 +37,7 @@ impl Default for Options {
 
     fn default() -> Options {
         Options {
+            dialect: Dialect::Regress,
             steps: 1_000_000_000,
             nodes: 1_000_000,
             instructions: 250_000,

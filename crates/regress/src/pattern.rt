@@ -55,6 +55,7 @@ impl Regex {
     ghost use Rattle.std.specs.Prelude.{◌≡◌, ◌<◌, ◌≤◌, ◌↔◌, false, All, IsTrue, IfOk, IfErr, IfNone, IfSome, None, chars, is_none, is_some, length, map, min, option_map, string_bytes};
     ghost use Rattle.std.specs.Arc.{arc_value};
     ghost use Rattle.regress_front.specs.Bound.{HasAtMost};
+    ghost use Rattle.regress_front.specs.Dialects.{flags_in_force};
     ghost use Rattle.regress_front.specs.Meaning.{setting_of as setting_under};
     ghost use Rattle.regress_front.specs.Source.{IsCodePoint};
     ghost use Rattle.regress_found.specs.Found.{IsInside, Finds};
@@ -66,7 +67,7 @@ impl Regex {
     ghost use Rattle.regress.specs.Costs.{AllCostLimit, CostsLimit, factor_of, find_factor_of, limit_of, matcher_of, nonlinear_of};
     ghost use Rattle.regress.specs.Kept.{Keeps};
     ghost use Rattle.regress.specs.Memory.{TablesNeedMore, instructions_of, memory_of};
-    ghost use Rattle.regress.specs.Compiled.{IsCompiled, IsCompiledFrom, groups_of, outcomes_of, setting_of, source_of, tree_of, groups_in, match_of};
+    ghost use Rattle.regress.specs.Compiled.{IsCompiled, IsCompiledFromIn, IsCompiledIn, groups_of, outcomes_of, setting_of, source_of, tree_of, groups_in, match_of};
     ghost use Rattle.regress.specs.Unicode.{unicode_setting};
     ghost use Rattle.regress.specs.Source.{text_of};
     ghost use Rattle.regress.specs.Failures.{IsDue, IsDueWithLetters};
@@ -136,9 +137,11 @@ impl Regex {
         options: Options,
         tables: &Arc<Tables>,
     ) -> Result<Regex, Error>
-        ensures compiled { IfOk result (IsCompiled (setting_under flags (arc_value tables.now)) pattern.now) }
-        ensures failed { IfErr result (IsDue (setting_under flags (arc_value tables.now)) (chars pattern.now) options) }
-        ensures small { IfOk result (λ _. options.nodes < usize.MAX → HasAtMost flags (chars pattern.now) options.nodes) }
+        ensures compiled { let dialect = options.dialect in let setting = setting_under (flags_in_force dialect flags) (arc_value tables.now) in
+            IfOk result (IsCompiledIn dialect setting pattern.now) }
+        ensures failed { let setting = setting_under (flags_in_force options.dialect flags) (arc_value tables.now) in
+            IfErr result (IsDue setting (chars pattern.now) options) }
+        ensures small { IfOk result (λ _. options.nodes < usize.MAX → HasAtMost (flags_in_force options.dialect flags) (chars pattern.now) options.nodes) }
         ensures within { IfOk result (λ regex. program_size (tree_of regex) ≤ options.instructions) }
         ensures limit { IfOk result (λ regex. limit_of regex ≡ options.steps) }
         ensures memory { IfOk result (λ regex. memory_of regex ≡ options.memory) }
@@ -171,10 +174,12 @@ impl Regex {
         tables: &Arc<Tables>,
     ) -> Result<Regex, Error>
         requires { All IsCodePoint pattern.now }
-        ensures compiled { IfOk result (IsCompiledFrom (setting_under flags (arc_value tables.now)) pattern.now) }
+        ensures compiled { let dialect = options.dialect in let setting = setting_under (flags_in_force dialect flags) (arc_value tables.now) in
+            IfOk result (IsCompiledFromIn dialect setting pattern.now) }
         ensures source { IfOk result (λ regex. source_of regex ≡ text_of pattern.now) }
-        ensures failed { IfErr result (IsDue (setting_under flags (arc_value tables.now)) pattern.now options) }
-        ensures small { IfOk result (λ _. options.nodes < usize.MAX → HasAtMost flags pattern.now options.nodes) }
+        ensures failed { let setting = setting_under (flags_in_force options.dialect flags) (arc_value tables.now) in
+            IfErr result (IsDue setting pattern.now options) }
+        ensures small { IfOk result (λ _. options.nodes < usize.MAX → HasAtMost (flags_in_force options.dialect flags) pattern.now options.nodes) }
         ensures within { IfOk result (λ regex. program_size (tree_of regex) ≤ options.instructions) }
         ensures limit { IfOk result (λ regex. limit_of regex ≡ options.steps) }
         ensures memory { IfOk result (λ regex. memory_of regex ≡ options.memory) }
@@ -205,10 +210,12 @@ impl Regex {
     ) -> Result<Regex, Error>
         requires points { All IsCodePoint pattern.now }
         requires text { string_bytes source ≡ text_of pattern.now }
-        ensures compiled { IfOk result (IsCompiledFrom (setting_under flags (arc_value tables.now)) pattern.now) }
+        ensures compiled { let dialect = options.dialect in let setting = setting_under (flags_in_force dialect flags) (arc_value tables.now) in
+            IfOk result (IsCompiledFromIn dialect setting pattern.now) }
         ensures source { IfOk result (λ regex. source_of regex ≡ text_of pattern.now) }
-        ensures failed { IfErr result (IsDue (setting_under flags (arc_value tables.now)) pattern.now options) }
-        ensures small { IfOk result (λ _. options.nodes < usize.MAX → HasAtMost flags pattern.now options.nodes) }
+        ensures failed { let setting = setting_under (flags_in_force options.dialect flags) (arc_value tables.now) in
+            IfErr result (IsDue setting pattern.now options) }
+        ensures small { IfOk result (λ _. options.nodes < usize.MAX → HasAtMost (flags_in_force options.dialect flags) pattern.now options.nodes) }
         ensures within { IfOk result (λ regex. program_size (tree_of regex) ≤ options.instructions) }
         ensures limit { IfOk result (λ regex. limit_of regex ≡ options.steps) }
         ensures memory { IfOk result (λ regex. memory_of regex ≡ options.memory) }
@@ -218,11 +225,11 @@ impl Regex {
         ensures find_linear_tree { IfOk result (λ regex. is_some (find_factor_of regex) ≡ is_find_linear_tree options.linear_instructions (tree_of regex)) }
         ensures nonlinear { IfOk result (λ regex. IsNonlinearOf options.linear_instructions (tree_of regex) (nonlinear_of regex)) }
     {
-        let bound = node_bound(pattern, flags);
+        let bound = node_bound(pattern, options.dialect.flags_in_force(flags));
         if bound > options.nodes {
             return Err(Error::TooLarge);
         }
-        let compiled = optimized(alloc, pattern, flags, tables)?;
+        let compiled = optimized(alloc, pattern, flags, tables, options.dialect)?;
         let groups = groups(alloc, &compiled)?;
         let limits = Limits {
             instructions: options.instructions,
@@ -433,7 +440,7 @@ impl Regex {
         &self.source
     }
 
-    /// Returns the flags.
+    /// Returns the flags in force ([`Dialect::flags_in_force`](crate::Dialect::flags_in_force)).
     pub fn flags(&self) -> Flags
         ensures { result ≡ (setting_of self.now).flags }
     {
