@@ -35,6 +35,14 @@ abbrev pub tries_references : Dialect → Bool
 tries_references Regress = true
 tries_references Ecma = false
 
+-- ---- classes without the flag v
+
+-- Whether in a class a code point above U+FFFF is two members, its surrogates (ECMA-262, ParsePattern: without the flag u a
+-- pattern is parsed as code units).
+abbrev pub splits_pairs : Dialect → (unicode : Bool) → Bool
+splits_pairs Regress unicode = false
+splits_pairs Ecma unicode = not unicode
+
 -- ---- classes with the flag i
 
 -- With the flag i a class has the characters that it has in ECMA-262 (CompileToCharSet, CharacterSetMatcher): without the

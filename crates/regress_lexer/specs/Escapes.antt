@@ -1,5 +1,5 @@
 -- The value of an escape of one character, parsed after its backslash (ECMA-262, CharacterEscape, with Annex B).
-use Rattle.std.specs.Prelude.{ℕ, ◌+◌, ◌-◌, ◌*◌, Bool, false, not, ◌&&◌, ◌||◌, [], ◌∷◌, length, take, drop, Option, Some, None, if◌then◌else◌, nat_le, ◌==◌}
+use Rattle.std.specs.Prelude.{ℕ, ◌+◌, ◌-◌, ◌*◌, ◌/◌, ◌%◌, Bool, false, not, ◌&&◌, ◌||◌, [], ◌∷◌, length, take, drop, Option, Some, None, if◌then◌else◌, nat_le, ◌==◌}
 use Rattle.regress_base.specs.Intervals.{code_point_max}
 use Rattle.regress_lexer.specs.Source.{Source, Found, ◌>>=◌, char, is_one_of, is_at}
 use Rattle.regress_lexer.specs.declared.dialect.Dialect.{Dialect}
@@ -26,6 +26,13 @@ trail_surrogate_at t = unit_at t >>= λ (low, rest). if is_between 0xDC00 0xDFFF
 -- the code point of a surrogate pair (ECMA-262, UTF16SurrogatePairToCodePoint)
 abbrev pub paired : ℕ → ℕ → ℕ
 paired high low = 0x10000 + (high - 0xD800) * 0x400 + (low - 0xDC00)
+
+-- the surrogates of a code point above U+FFFF (ECMA-262, UTF16EncodeCodePoint)
+abbrev pub lead_surrogate : ℕ → ℕ
+lead_surrogate c = 0xD800 + (c - 0x10000) / 0x400
+
+abbrev pub trail_surrogate : ℕ → ℕ
+trail_surrogate c = 0xDC00 + (c - 0x10000) % 0x400
 
 -- A leading surrogate is combined with a trailing one if its escape follows.
 abbrev pub with_trail_surrogate : ℕ × Source → Found ℕ

@@ -10,14 +10,14 @@ pub enum Dialect {
     Regress,
     /// These rules as in ECMA-262 with Annex B: the flag v implies the flag u, no quantifier may follow `\b` and `\B`,
     /// `\u{..}` is an escape only with the flag u, beside a group with a name `\k` is an error in a class, classes with the
-    /// flag v, references to several groups of one name, and which characters a class has with the flag i. The other rules
-    /// are still those of `Regress`.
+    /// flag v, references to several groups of one name, which characters a class has with the flag i, and without the flag
+    /// u a code point above U+FFFF in a class is two code units. The other rules are still those of `Regress`.
     Ecma,
 }
 
 impl Dialect {
     ghost use Rattle.std.specs.Prelude.{◌≡◌};
-    ghost use Rattle.regress_lexer.specs.Dialects.{flags_in_force, quantifies_boundaries, has_braces, tries_references, reserves_k, compiles_case, reserves_pairs, isolates_ampersand, judges_contents};
+    ghost use Rattle.regress_lexer.specs.Dialects.{flags_in_force, quantifies_boundaries, has_braces, tries_references, reserves_k, splits_pairs, compiles_case, reserves_pairs, isolates_ampersand, judges_contents};
 
     /// Returns the flags in force for a pattern with the flags `given`.
     pub fn flags_in_force(self, given: Flags) -> Flags
@@ -70,6 +70,16 @@ impl Dialect {
         match self {
             Dialect::Regress => false,
             Dialect::Ecma => true,
+        }
+    }
+
+    /// Returns whether in a class a code point above U+FFFF is two members, its surrogates. `unicode` is the flag u.
+    pub fn splits_pairs(self, unicode: bool) -> bool
+        ensures { result ≡ splits_pairs self unicode }
+    {
+        match self {
+            Dialect::Regress => false,
+            Dialect::Ecma => !unicode,
         }
     }
 
