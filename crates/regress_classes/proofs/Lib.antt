@@ -6,6 +6,7 @@ mod ClassOperandLemmas
 mod ClassSetLemmas
 mod ClassStringLemmas
 mod ClosingLemmas
+mod CodeUnitLemmas
 mod EscapeProductions
 mod IntervalCollectorLemmas
 mod PropertyLemmas

@@ -7,8 +7,8 @@ use Rattle.regress_base.specs.Intervals.{Bounds, is_member, intervals_of}
 use Rattle.regress_base.specs.Table.{Table, is_in_closure}
 use Rattle.regress_lexer.specs.Source.{Source, Found, ◌>>=◌, found_map, Production, when, otherwise, first_production, char, is_one_of, is_at}
 use Rattle.regress_lexer.specs.Digits.{is_decimal, is_letter, control}
-use Rattle.regress_lexer.specs.Escapes.{character_escape_at}
-use Rattle.regress_lexer.specs.Dialects.{compiles_case, reserves_k}
+use Rattle.regress_lexer.specs.Escapes.{character_escape_at, lead_surrogate, trail_surrogate}
+use Rattle.regress_lexer.specs.Dialects.{compiles_case, reserves_k, splits_pairs}
 use Rattle.regress_classes.specs.declared.parameters.Parameters.{Parameters}
 use Rattle.regress_classes.specs.Properties.{Property, points_of, property_at}
 
@@ -66,10 +66,35 @@ pub data ClassAtom : Type 0 where
 abbrev pub one_point : ℕ → List Bounds
 one_point c = record { first = c; last = c } ∷ []
 
--- the members of the atom
-abbrev pub atom_members : ClassAtom → List Bounds
-atom_members (point c) = one_point c
-atom_members (set members) = members
+-- Code points above U+FFFF are two code units, their surrogates: in some dialects, without the flag u.
+abbrev pub splits : Parameters → Bool
+splits parameters = splits_pairs parameters.dialect parameters.unicode
+
+-- whether the atom is a code point above U+FFFF
+abbrev pub is_pair : ClassAtom → Bool
+is_pair (point c) = nat_le 0x10000 c
+is_pair (set members) = false
+
+-- In what follows `splits` says whether such a code point is two code units.
+module _ (splits : Bool) where
+  -- the first and the last code unit of a code point
+  abbrev pub first_unit : ℕ → ℕ
+  first_unit c = if splits && is_pair (point c) then lead_surrogate c else c
+
+  abbrev pub last_unit : ℕ → ℕ
+  last_unit c = if splits && is_pair (point c) then trail_surrogate c else c
+
+  -- its code units but the last one, and but the first one
+  abbrev pub units_before : ℕ → List Bounds
+  units_before c = if splits && is_pair (point c) then one_point (lead_surrogate c) else []
+
+  abbrev pub units_after : ℕ → List Bounds
+  units_after c = if splits && is_pair (point c) then one_point (trail_surrogate c) else []
+
+  -- the members of the atom
+  abbrev pub atom_members : ClassAtom → List Bounds
+  atom_members (point c) = units_before c ++ one_point (last_unit c)
+  atom_members (set members) = members
 
 -- `\c` without the flag u: with a letter, a digit or `_` the low five bits of its code; else a literal backslash
 abbrev pub class_control_at : Source → Found ClassAtom
@@ -128,29 +153,56 @@ members_with_hyphen unicode first last = if unicode then None else Some (first +
 abbrev pub points_between : ℕ → ℕ → Option (List Bounds)
 points_between a b = if nat_le a b then Some (record { first = a; last = b } ∷ []) else None
 
--- the members of two atoms with a hyphen between them: a range, or without the flag u all three if an atom is a class
-abbrev pub range_of : Bool → ClassAtom → ClassAtom → Option (List Bounds)
-range_of unicode (point a) (point b) = points_between a b
-range_of unicode (point a) (set others) = members_with_hyphen unicode (one_point a) others
-range_of unicode (set members) (point b) = members_with_hyphen unicode members (one_point b)
-range_of unicode (set members) (set others) = members_with_hyphen unicode members others
+module _ (splits : Bool) where
+  -- two code points with a hyphen between them: the range from the last code unit of one to the first of the other, and
+  -- the other code units
+  abbrev pub units_between : ℕ → ℕ → Option (List Bounds)
+  units_between a b =
+      if nat_le (last_unit splits a) (first_unit splits b)
+      then Some (units_before splits a ++ record { first = last_unit splits a; last = first_unit splits b } ∷ units_after splits b)
+      else None
+
+  -- the members of two atoms with a hyphen between them: a range, or without the flag u all three if an atom is a class
+  abbrev pub range_of : Bool → ClassAtom → ClassAtom → Option (List Bounds)
+  range_of unicode (point a) (point b) = units_between a b
+  range_of unicode (point a) (set others) = members_with_hyphen unicode (atom_members splits (point a)) others
+  range_of unicode (set members) (point b) = members_with_hyphen unicode members (atom_members splits (point b))
+  range_of unicode (set members) (set others) = members_with_hyphen unicode members others
 
 -- whether a hyphen starts a range: one that is not before `]`
 abbrev pub begins_range : Source → Bool
 begins_range t = is_at (char "-") t && not (is_at (char "]") (drop 1 t))
 
+-- Whether the last atom of a range begins another one: its last code unit does, if it has two.
+abbrev pub begins_next : Parameters → ClassAtom → Source → Bool
+begins_next parameters last t = splits parameters && is_pair last && begins_range t
+
 module _ (table : Table) (parameters : Parameters) where
+  -- the members of a range, after its last atom
+  abbrev pub range_to : ClassAtom → ClassAtom × Source → Found (List Bounds)
+  range_to first (last, t) = elim (range_of (splits parameters) parameters.unicode first last) [ None ↦ None | Some members ↦ Some (members, t) ]
+
+  -- the last atom of a range, where it begins no other range
+  abbrev pub range_end_at : ClassAtom → Source → Found (List Bounds)
+  range_end_at first t = class_atom_at table parameters t >>= range_to first
+
+  -- a range, and the one that its last atom begins, after the hyphen
+  abbrev pub ranges_to : ClassAtom → ClassAtom × Source → Found (List Bounds)
+  ranges_to first (last, t) =
+      range_to first (last, drop 1 t) >>= λ (members, after).
+      (range_end_at last after >>= λ (others, rest). Some (members ++ others, rest))
+
   -- the rest of a range, after its first atom and the hyphen
   abbrev pub range_at : ClassAtom → Source → Found (List Bounds)
   range_at first t =
       class_atom_at table parameters t >>= λ (last, rest).
-      elim (range_of parameters.unicode first last) [ None ↦ None | Some members ↦ Some (members, rest) ]
+      (if begins_next parameters last rest then ranges_to first (last, rest) else range_to first (last, rest))
 
   -- an atom or a range (ECMA-262, NonemptyClassRanges)
   abbrev pub class_part_at : Source → Found (List Bounds)
   class_part_at t =
       class_atom_at table parameters t >>= λ (first, rest).
-      (if begins_range rest then range_at first (drop 1 rest) else Some (atom_members first, rest))
+      (if begins_range rest then range_at first (drop 1 rest) else Some (atom_members (splits parameters) first, rest))
 
   -- ---- the class
 

@@ -1,18 +1,21 @@
 //! Parses classes without the flag v.
-ghost use Rattle.std.specs.Prelude.{◌≡◌, ◌+◌, ◌==◌, ◌&&◌, not, true, drop, if◌then◌else◌, Some, None, List, [], ◌∷◌, length, OnOk, IfSome, IfNone};
+ghost use Rattle.std.specs.Prelude.{◌≡◌, ◌+◌, ◌&&◌, true, false, drop, if◌then◌else◌, Some, None, List, [], ◌∷◌, length, OnOk, IfSome, IfNone};
 ghost use Rattle.regress_base.specs.Intervals.{Bounds};
-ghost use Rattle.regress_classes.specs.ClassProductions.{complement_if, atom_members, begins_range, range_of, range_at, class_part_at, class_parts_by, class_at};
+ghost use Rattle.regress_classes.specs.ClassProductions.{point, is_pair, splits, complement_if, atom_members, units_between, begins_range, range_of, range_end_at, range_at, class_part_at, class_parts_by, class_at};
 ghost use Rattle.regress_base.specs.Table.{Table};
 ghost use Rattle.regress_unicode.specs.TableOf.{table_of};
-ghost use Rattle.regress_lexer.specs.Source.{char};
+ghost use Rattle.regress_lexer.specs.Source.{IsCodePoint};
 ghost use Rattle.regress_lexer.specs.Fault.{FailsByNoLimit, FailsOnlyIf};
 ghost use Rattle.regress_lexer.specs.Reads.{ParsesAs};
 ghost use Rattle.regress_classes.specs.declared.parameters.Parameters.{Parameters};
-ghost use Rattle.regress_classes.specs.ClassViews.{class_atom_of, IsClassAtomInRange, HasMembers, Adds, IsClassRead};
+ghost use Rattle.regress_classes.specs.ClassViews.{class_atom_of, IsClassAtomInRange, is_plain, HasMembers, Adds, IsClassRead};
 ghost use Rattle.regress_lexer.specs.Views.{source};
 
 use crate::class_atom::{ClassAtom, read_class_atom};
 use crate::class_escape::class_escape_set;
+use crate::code_units::{
+    add_point, add_units_after, add_units_before, first_unit, is_split, last_unit,
+};
 use crate::gathered::IntervalCollector;
 use crate::parameters::Parameters;
 use regress_base::codepointset::{CodePointSet, Interval};
@@ -94,7 +97,7 @@ fn parse_part(
     ensures value { ParsesAs (λ _ members. Adds members set.old set.new) (source cursor.new) result (class_part_at (table_of around.now.tables.now) around.now.parameters.now (source cursor.old)) }
     ensures kind { FailsByNoLimit result }
 {
-    if let Some(interval) = take_plain_part(cursor) {
+    if let Some(interval) = take_plain_part(cursor, around.parameters) {
         set.add(interval)?;
         return Ok(());
     }
@@ -102,15 +105,15 @@ fn parse_part(
 }
 
 /// Consumes a literal code point, or a range of two literal code points, if one is next. Most parts are such.
-fn take_plain_part(cursor: &mut Cursor) -> Option<Interval>
-    ensures some { IfSome result (λ part. (table : Table) (parameters : Parameters) →
-        class_part_at table parameters (source cursor.old) ≡ Some (part ∷ [], source cursor.new)) }
+fn take_plain_part(cursor: &mut Cursor, parameters: &Parameters) -> Option<Interval>
+    ensures some { IfSome result (λ part. (table : Table) →
+        class_part_at table parameters.now (source cursor.old) ≡ Some (part ∷ [], source cursor.new)) }
     ensures none { IfNone result (source cursor.new ≡ source cursor.old) }
 {
-    let (first, after) = split_plain(cursor.rest)?;
+    let (first, after) = split_plain(cursor.rest, parameters)?;
     match after.split_first() {
         Some((hyphen, rest)) if *hyphen == u32::from('-') => {
-            let (last, rest) = split_plain(rest)?;
+            let (last, rest) = split_plain(rest, parameters)?;
             if first > last {
                 return None;
             }
@@ -124,19 +127,19 @@ fn take_plain_part(cursor: &mut Cursor) -> Option<Interval>
     }
 }
 
-/// Splits off the first code point, if it is a literal.
-fn split_plain(source: &[u32]) -> Option<(u32, &[u32])>
-    ensures { IfSome result (λ found. (source.now ≡ found.0 ∷ found.1.now) × ((not (found.0 == char "]") && not (found.0 == char "\\")) ≡ true)) }
+/// Splits off the first code point, if it is a literal of one code unit.
+fn split_plain<'a>(source: &'a [u32], parameters: &Parameters) -> Option<(u32, &'a [u32])>
+    ensures { IfSome result (λ found. (source.now ≡ found.0 ∷ found.1.now) × (is_plain parameters.now found.0 ≡ true)) }
 {
     let (c, rest) = source.split_first()?;
-    is_literal(*c).then_some((*c, rest))
+    is_literal(*c, parameters).then_some((*c, rest))
 }
 
-/// Returns whether the code point is a literal in a class.
-fn is_literal(c: u32) -> bool
-    ensures { result ≡ (not (c == char "]") && not (c == char "\\")) }
+/// Returns whether the code point is a literal of one code unit in a class.
+fn is_literal(c: u32, parameters: &Parameters) -> bool
+    ensures { result ≡ is_plain parameters.now c }
 {
-    c != u32::from(']') && c != u32::from('\\')
+    !(c == u32::from(']') || c == u32::from('\\') || c >= 0x10000 && parameters.splits())
 }
 
 /// Parses an atom or a range of any kind, and adds its members.
@@ -153,7 +156,7 @@ fn read_any_part(
     if try_consume_hyphen(cursor) {
         read_range(cursor, around, first, left, set)
     } else {
-        add_atom(set, cursor.alloc, first)?;
+        add_atom(set, cursor.alloc, around.parameters.splits(), first)?;
         Ok(())
     }
 }
@@ -178,8 +181,8 @@ fn begins_range(source: &[u32]) -> bool
     }
 }
 
-/// Parses the last atom of a range after its hyphen, and adds the members of the range. `left` is the number of code
-/// points that remained at its first atom.
+/// Parses the last atom of a range after its hyphen, and adds the members of the range. If this atom begins another
+/// range, that is parsed too. `left` is the number of code points that remained at the first atom.
 fn read_range(
     cursor: &mut Cursor,
     around: &ClassContext,
@@ -191,9 +194,47 @@ fn read_range(
     ensures value { ParsesAs (λ _ members. Adds members set.old set.new) (source cursor.new) result (range_at (table_of around.now.tables.now) around.now.parameters.now (class_atom_of first) (source cursor.old)) }
     ensures kind { FailsByNoLimit result }
 {
+    let begin = cursor.rest.len();
+    let last = read_class_atom(cursor, around.tables, around.parameters, around.opened)?;
+    let pair = split_point(&last, around.parameters);
+    let range = ClassRange { first, last };
+    add_range(set, cursor.alloc, around.parameters, left, range)?;
+    let Some(c) = pair else {
+        return Ok(());
+    };
+    if !try_consume_hyphen(cursor) {
+        return Ok(());
+    }
+    read_range_end(cursor, around, ClassAtom::Point(c), begin, set)
+}
+
+/// Returns the code point of an atom that is two code units.
+fn split_point(atom: &ClassAtom, parameters: &Parameters) -> Option<u32>
+    requires { IsClassAtomInRange atom.now }
+    ensures some { IfSome result (λ c. (class_atom_of atom.now ≡ point c) × ((splits parameters.now && is_pair (point c)) ≡ true) × IsCodePoint c) }
+    ensures none { IfNone result ((splits parameters.now && is_pair (class_atom_of atom.now)) ≡ false) }
+{
+    let ClassAtom::Point(c) = atom else {
+        return None;
+    };
+    is_split(parameters.splits(), *c).then_some(*c)
+}
+
+/// Parses the last atom of a range after its hyphen, where it begins no other range, and adds the members of the range.
+fn read_range_end(
+    cursor: &mut Cursor,
+    around: &ClassContext,
+    first: ClassAtom,
+    left: usize,
+    set: &mut IntervalCollector,
+) -> Result<(), Fault>
+    requires { IsClassAtomInRange first }
+    ensures value { ParsesAs (λ _ members. Adds members set.old set.new) (source cursor.new) result (range_end_at (table_of around.now.tables.now) around.now.parameters.now (class_atom_of first) (source cursor.old)) }
+    ensures kind { FailsByNoLimit result }
+{
     let last = read_class_atom(cursor, around.tables, around.parameters, around.opened)?;
     let range = ClassRange { first, last };
-    add_range(set, cursor.alloc, around.parameters.unicode, left, range)
+    add_range(set, cursor.alloc, around.parameters, left, range)
 }
 
 /// Two atoms with a hyphen between them.
@@ -207,41 +248,69 @@ struct ClassRange {
 fn add_range(
     set: &mut IntervalCollector,
     alloc: Global,
-    unicode: bool,
+    parameters: &Parameters,
     left: usize,
     range: ClassRange,
 ) -> Result<(), Fault>
     requires first_in_range { IsClassAtomInRange range.first }
     requires last_in_range { IsClassAtomInRange range.last }
     ensures ok { OnOk result ((members : List Bounds)
-        × (range_of unicode (class_atom_of range.first) (class_atom_of range.last) ≡ Some members) × Adds members set.old set.new) }
-    ensures err { FailsOnlyIf result (range_of unicode (class_atom_of range.first) (class_atom_of range.last) ≡ None) }
+        × (range_of (splits parameters.now) parameters.now.unicode (class_atom_of range.first) (class_atom_of range.last) ≡ Some members) × Adds members set.old set.new) }
+    ensures err { FailsOnlyIf result (range_of (splits parameters.now) parameters.now.unicode (class_atom_of range.first) (class_atom_of range.last) ≡ None) }
     ensures kind { FailsByNoLimit result }
 {
     let ClassRange { first, last } = range;
+    let splits = parameters.splits();
     if let (ClassAtom::Point(a), ClassAtom::Point(b)) = (&first, &last) {
-        if a > b {
-            return Err(rejected(left, FaultKind::ReversedRange));
-        }
-        set.add(Interval::new(*a, *b))?;
-        return Ok(());
+        return add_points(set, splits, left, *a, *b);
     }
-    if unicode {
+    if parameters.unicode {
         return Err(rejected(left, FaultKind::InvalidRange));
     }
-    add_atom(set, alloc, first)?;
-    add_atom(set, alloc, ClassAtom::Point(u32::from('-')))?;
-    add_atom(set, alloc, last)?;
+    add_atom(set, alloc, splits, first)?;
+    let hyphen = u32::from('-');
+    set.add(Interval::new(hyphen, hyphen))?;
+    add_atom(set, alloc, splits, last)?;
+    Ok(())
+}
+
+/// Adds the members of a range of code points. `left` is the number of code points that remained at its first atom.
+fn add_points(
+    set: &mut IntervalCollector,
+    splits: bool,
+    left: usize,
+    a: u32,
+    b: u32,
+) -> Result<(), Fault>
+    requires a_in_range { IsCodePoint a }
+    requires b_in_range { IsCodePoint b }
+    ensures ok { OnOk result ((members : List Bounds) × (units_between splits a b ≡ Some members) × Adds members set.old set.new) }
+    ensures err { FailsOnlyIf result (units_between splits a b ≡ None) }
+    ensures kind { FailsByNoLimit result }
+{
+    let first = last_unit(splits, a);
+    let last = first_unit(splits, b);
+    if first > last {
+        return Err(rejected(left, FaultKind::ReversedRange));
+    }
+    add_units_before(set, splits, a)?;
+    set.add(Interval::new(first, last))?;
+    add_units_after(set, splits, b)?;
     Ok(())
 }
 
 /// Adds the members of an atom.
-fn add_atom(set: &mut IntervalCollector, alloc: Global, atom: ClassAtom) -> Result<(), AllocError>
+fn add_atom(
+    set: &mut IntervalCollector,
+    alloc: Global,
+    splits: bool,
+    atom: ClassAtom,
+) -> Result<(), AllocError>
     requires { IsClassAtomInRange atom }
-    ensures { OnOk result (Adds (atom_members (class_atom_of atom)) set.old set.new) }
+    ensures { OnOk result (Adds (atom_members splits (class_atom_of atom)) set.old set.new) }
 {
     match atom {
-        ClassAtom::Point(c) => set.add(Interval::new(c, c)),
+        ClassAtom::Point(c) => add_point(set, splits, c),
         ClassAtom::Class { kind, negated } => {
             add_members(set, &class_escape_set(alloc, kind)?, negated)
         }

@@ -6,6 +6,7 @@ mod class_atom;
 pub mod class_escape;
 pub mod class_sets;
 mod closing;
+mod code_units;
 mod gathered;
 mod parameters;
 pub mod property;

@@ -18,12 +18,19 @@ pub struct Parameters {
 
 impl Parameters {
     ghost use Rattle.std.specs.Prelude.{◌≡◌};
-    ghost use Rattle.regress_classes.specs.ClassProductions.{closes};
+    ghost use Rattle.regress_classes.specs.ClassProductions.{closes, splits};
 
     /// Returns whether sets are closed under case folding before a complement is taken.
     pub(crate) fn closes(&self) -> bool
         ensures { result ≡ closes self.now }
     {
         self.icase && self.unicode && self.dialect.compiles_case()
+    }
+
+    /// Returns whether code points above U+FFFF are two code units.
+    pub(crate) fn splits(&self) -> bool
+        ensures { result ≡ splits self.now }
+    {
+        self.dialect.splits_pairs(self.unicode)
     }
 }

@@ -9,7 +9,7 @@ use Rattle.regress_lexer.specs.Source.{Source, Found, ◌>>=◌, is_at, first_pr
 use Rattle.regress_lexer.specs.Digits.{is_decimal, is_letter}
 use Rattle.regress_classes.specs.Properties.{Property, points_of, is_property_character, closed_property, braced_property_at, property_at, property_word_at, listed_value_at}
 use Rattle.regress_classes.specs.declared.parameters.Parameters.{Parameters}
-use Rattle.regress_classes.specs.ClassProductions.{ClassAtom, point, set, complement_if, class_members, class_letter, class_control_at, class_property, class_property_at, class_escape_productions, class_escape_by, class_escape_at, class_atom_at, range_of, range_at, begins_range, class_part_at, class_parts_by, class_at, atom_members}
+use Rattle.regress_classes.specs.ClassProductions.{ClassAtom, point, set, complement_if, class_members, class_letter, class_control_at, class_property, class_property_at, class_escape_productions, class_escape_by, class_escape_at, class_atom_at, splits, range_of, range_to, range_end_at, ranges_to, range_at, begins_range, begins_next, class_part_at, class_parts_by, class_at, atom_members}
 use Rattle.regress_lexer.proofs.lemmas.Sources.{then_same, cond_same, EachProduction, no_more, ◌also◌, first_production-has}
 use Rattle.regress_lexer.proofs.lemmas.After.{IsSuffix, after_same, after_drop, after_front, after_shorter, Ends, ends_none, ends_some, one-ends, ends_after, ends_more, ends_then, ends_map, ends_cond, character_escape_at-ends}
 
@@ -110,12 +110,25 @@ module _ (table : Table) (parameters : Parameters) where
   pub class_atom_at-ends : (t : Source) → Ends (class_atom_at table parameters t) t
   class_atom_at-ends t = ends_after _ t (drop 1 t) (after_drop 1 t) (class_atom_at-shortens t)
 
+  range_to-ends : (first : ClassAtom) (x : ClassAtom × Source) → Ends (range_to table parameters first x) x.1
+  range_to-ends first x = made-ends (range_of (splits parameters) parameters.unicode first x.0) x.1
+
+  range_end_at-ends : (first : ClassAtom) (t : Source) → Ends (range_end_at table parameters first t) t
+  range_end_at-ends first t = ends_then (class_atom_at table parameters t) _ t (class_atom_at-ends t) (range_to-ends first)
+
+  ranges_to-ends : (first : ClassAtom) (x : ClassAtom × Source) → Ends (ranges_to table parameters first x) x.1
+  ranges_to-ends first x =
+      ends_after _ x.1 (drop 1 x.1) (after_drop 1 x.1)
+      (ends_then (range_to table parameters first (x.0, drop 1 x.1)) _ (drop 1 x.1) (range_to-ends first (x.0, drop 1 x.1))
+      (λ y. ends_then (range_end_at table parameters x.0 y.1) _ y.1 (range_end_at-ends x.0 y.1) (λ z. ends_some _ z.1 (after_same z.1))))
+
   range_at-ends : (first : ClassAtom) (t : Source) → Ends (range_at table parameters first t) t
   range_at-ends first t =
-      ends_then (class_atom_at table parameters t) _ t (class_atom_at-ends t) (λ x. made-ends (range_of parameters.unicode first x.0) x.1)
+      ends_then (class_atom_at table parameters t) _ t (class_atom_at-ends t)
+      (λ x. ends_cond (begins_next parameters x.0 x.1) _ _ x.1 (ranges_to-ends first x) (range_to-ends first x))
 
   part_after-ends : (x : ClassAtom × Source) →
-      Ends (cond (begins_range x.1) (range_at table parameters x.0 (drop 1 x.1)) (Some (atom_members x.0, x.1))) x.1
+      Ends (cond (begins_range x.1) (range_at table parameters x.0 (drop 1 x.1)) (Some (atom_members (splits parameters) x.0, x.1))) x.1
   part_after-ends x =
       ends_cond (begins_range x.1) _ _ x.1
       (ends_after _ x.1 (drop 1 x.1) (after_drop 1 x.1) (range_at-ends x.0 (drop 1 x.1)))

@@ -12,7 +12,7 @@ use Rattle.regress_classes.proofs.class.parse_part.Goals as goal
 pub returns-in-Some-clause-value : goal.returns-in-Some-clause-value
 returns-in-Some-clause-value c = (
   c.in-Some.interval ∷ [],
-  c.in-Some.ensures.some (table_of c.args.around.now.tables.now) c.args.around.now.parameters.now,
+  c.in-Some.ensures.some (table_of c.args.around.now.tables.now),
   adds_one c.in-Some.interval c.args.set.now c.add.new.self c.in_ok-add.ensures,
 )
 
