@@ -10,7 +10,7 @@ use Rattle.regress_lexer.specs.Digits.{is_decimal, is_letter, control, after, fr
 use Rattle.regress_lexer.specs.Escapes.{character_escape_at}
 use Rattle.regress_classes.specs.Properties.{Property, points_of, is_property_character, closed_property, property_at, property_word_at}
 use Rattle.regress_classes.specs.declared.parameters.Parameters.{Parameters}
-use Rattle.regress_classes.specs.ClassProductions.{ClassAtom, point, set, complement_if, class_letter, class_members, class_control_at, class_property_at, class_escape_productions, class_escape_by, class_escape_at, class_atom_at, atom_members, begins_range, range_of, range_at, class_part_at, class_parts_by, class_at}
+use Rattle.regress_classes.specs.ClassProductions.{ClassAtom, point, set, complement_if, class_letter, class_members, class_control_at, class_property_at, class_escape_productions, class_escape_by, class_escape_at, class_atom_at, is_pair, splits, atom_members, begins_range, begins_next, range_of, range_to, range_end_at, ranges_to, range_at, class_part_at, class_parts_by, class_at}
 use Rattle.regress_syntax.specs.Scan.{plain, class, class_escape, tokens, is_insignificant}
 use Rattle.regress_lexer.proofs.lemmas.Digits.{and_both}
 use Rattle.regress_syntax.proofs.ScanLemmas.{Passes, Leads, Home, in_class, home, passes_same, passes_then, leads_none, leads_some, leads_after, leads_then, leads_map, leads_cond, pass_quiet, pass_at, pass_backslash, pass_escaped, pass_after, lead_character_escape_at}
@@ -121,21 +121,38 @@ module _ {table : Table} where
       (leads_after (pass_backslash (in_class 0 0) t) (lead_class_escape_at parameters t)))
       (λ e. leads_some (point c, t) (pass_member c t goes_on e)))
 
-  lead_range_at : (parameters : Parameters) (first : ClassAtom) (t : Source) → Leads false table (class 0 0) t (class 0 0) (range_at table parameters first t)
-  lead_range_at parameters first t =
-      leads_then (class_atom_at table parameters t) _ (lead_class_atom_at parameters t)
-      (λ x. lead_made (in_class 0 0) (λ members. members) (range_of parameters.unicode first x.0) x.1)
+  lead_range_to : (parameters : Parameters) (first : ClassAtom) (x : ClassAtom × Source) →
+      Leads false table (class 0 0) x.1 (class 0 0) (range_to table parameters first x)
+  lead_range_to parameters first x = lead_made (in_class 0 0) (λ members. members) (range_of (splits parameters) parameters.unicode first x.0) x.1
 
   -- A hyphen that begins a range is passed.
   pass_hyphen : (t : Source) → begins_range t ≡ true → Passes false table (class 0 0) t (class 0 0) (drop 1 t)
   pass_hyphen t e = pass_at (in_class 0 0) 45 t refl (and_both _ _ e).0
+
+  lead_range_end_at : (parameters : Parameters) (first : ClassAtom) (t : Source) →
+      Leads false table (class 0 0) t (class 0 0) (range_end_at table parameters first t)
+  lead_range_end_at parameters first t = leads_then (class_atom_at table parameters t) _ (lead_class_atom_at parameters t) (lead_range_to parameters first)
+
+  lead_ranges_to : (parameters : Parameters) (first : ClassAtom) (x : ClassAtom × Source) → begins_range x.1 ≡ true →
+      Leads false table (class 0 0) x.1 (class 0 0) (ranges_to table parameters first x)
+  lead_ranges_to parameters first x e =
+      leads_after (pass_hyphen x.1 e)
+      (leads_then (range_to table parameters first (x.0, drop 1 x.1)) _ (lead_range_to parameters first (x.0, drop 1 x.1))
+      (λ y. leads_then (range_end_at table parameters x.0 y.1) _ (lead_range_end_at parameters x.0 y.1) (λ z. leads_some (_, z.1) passes_same)))
+
+  lead_range_at : (parameters : Parameters) (first : ClassAtom) (t : Source) → Leads false table (class 0 0) t (class 0 0) (range_at table parameters first t)
+  lead_range_at parameters first t =
+      leads_then (class_atom_at table parameters t) _ (lead_class_atom_at parameters t)
+      (λ x. leads_cond (begins_next parameters x.0 x.1) _ _
+      (λ e. lead_ranges_to parameters first x (and_both (splits parameters && is_pair x.0) _ e).1)
+      (λ _. lead_range_to parameters first x))
 
   lead_class_part_at : (parameters : Parameters) (t : Source) → Leads false table (class 0 0) t (class 0 0) (class_part_at table parameters t)
   lead_class_part_at parameters t =
       leads_then (class_atom_at table parameters t) _ (lead_class_atom_at parameters t)
       (λ x. leads_cond (begins_range x.1) _ _
       (λ e. leads_after (pass_hyphen x.1 e) (lead_range_at parameters x.0 (drop 1 x.1)))
-      (λ _. leads_some (atom_members x.0, x.1) passes_same))
+      (λ _. leads_some (atom_members (splits parameters) x.0, x.1) passes_same))
 
   pass_bracket : (t : Source) → is_at 93 t ≡ true → Passes false table (class 0 0) t plain (drop 1 t)
   unfolding tokens
