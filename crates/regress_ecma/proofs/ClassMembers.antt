@@ -259,7 +259,7 @@ module _ (table : Table) (maps : HasCaseDataOfUnicode table) (rer : Flags) (with
     IsAtomOf node (set members) = (character_of node ≡ None) × IsCharSetOf table rer (atom_to_char_set table rer node).characters members
 
     atom_is : (node : ClassAtom) (a : ClassProductions.ClassAtom) → IsAtomOf node a →
-        IsCharSetOf table rer (atom_to_char_set table rer node).characters (atom_members a)
+        IsCharSetOf table rer (atom_to_char_set table rer node).characters (atom_members false a)
     atom_is node (point c) is =
         covers-same table rer _ _
         (ap (λ (n : ClassAtom). (atom_to_char_set table rer n).characters) is
@@ -336,8 +336,8 @@ module _ (table : Table) (maps : HasCaseDataOfUnicode table) (rer : Flags) (with
       IsPart with_part members =
           (contents : ClassContents) (others : List Bounds) → IsContents contents others → IsContents (with_part contents) (members ++ others)
 
-      atom_part : (node : ClassAtom) (a : ClassProductions.ClassAtom) → IsAtomOf node a → IsPart (atom_then node) (atom_members a)
-      atom_part node a is contents others h = covers-append table rer _ _ (atom_members a) others (atom_is node a is) h
+      atom_part : (node : ClassAtom) (a : ClassProductions.ClassAtom) → IsAtomOf node a → IsPart (atom_then node) (atom_members false a)
+      atom_part node a is contents others h = covers-append table rer _ _ (atom_members false a) others (atom_is node a is) h
 
       range_part : (first last : ClassAtom) (members : List Bounds) →
           IsCharSetOf table rer
@@ -378,26 +378,26 @@ module _ (table : Table) (maps : HasCaseDataOfUnicode table) (rer : Flags) (with
       hyphen_part : (first last : ClassAtom) (a b : ClassProductions.ClassAtom) → IsAtomOf first a → IsAtomOf last b →
           range_or_union (atom_to_char_set table rer first) (atom_to_char_set table rer last) (character_of first) (character_of last)
           ≡ with_hyphen (atom_to_char_set table rer first) (atom_to_char_set table rer last) →
-          IsPart (range_then first last) (atom_members a ++ one_point (char "-") ++ atom_members b)
+          IsPart (range_then first last) (atom_members false a ++ one_point (char "-") ++ atom_members false b)
       hyphen_part first last a b is_first is_last hyphen =
           range_part first last _
-          (subst (λ (e : Elements). IsCharSetOf table rer e.characters (atom_members a ++ one_point (char "-") ++ atom_members b)) (sym hyphen)
+          (subst (λ (e : Elements). IsCharSetOf table rer e.characters (atom_members false a ++ one_point (char "-") ++ atom_members false b)) (sym hyphen)
           (subst (IsCharSetOf table rer (with_hyphen (atom_to_char_set table rer first) (atom_to_char_set table rer last)).characters)
-          (sym (append_assoc (atom_members a) (one_point (char "-")) (atom_members b)))
-          (covers-append table rer _ _ (atom_members a) (one_point (char "-") ++ atom_members b) (atom_is first a is_first)
-          (covers-append table rer _ _ (one_point (char "-")) (atom_members b) (covers-same table rer _ _ refl) (atom_is last b is_last)))))
+          (sym (append_assoc (atom_members false a) (one_point (char "-")) (atom_members false b)))
+          (covers-append table rer _ _ (atom_members false a) (one_point (char "-") ++ atom_members false b) (atom_is first a is_first)
+          (covers-append table rer _ _ (one_point (char "-")) (atom_members false b) (covers-same table rer _ _ refl) (atom_is last b is_last)))))
 
       hyphen_follows : (first last : ClassAtom) (a b : ClassProductions.ClassAtom) (t : Source) → IsAtomOf first a → IsAtomOf last b →
           range_or_union (atom_to_char_set table rer first) (atom_to_char_set table rer last) (character_of first) (character_of last)
           ≡ with_hyphen (atom_to_char_set table rer first) (atom_to_char_set table rer last) →
           Follows IsPart
-          (elim (members_with_hyphen parameters.unicode (atom_members a) (atom_members b)) as (λ _. Found (List Bounds)) [ None ↦ None | Some members ↦ Some (members, t) ])
+          (elim (members_with_hyphen parameters.unicode (atom_members false a) (atom_members false b)) as (λ _. Found (List Bounds)) [ None ↦ None | Some members ↦ Some (members, t) ])
           (Some (range_then first last, t))
       hyphen_follows first last a b t is_first is_last hyphen = by_test parameters.unicode
         where
           by_test : (u : Bool) →
               Follows IsPart
-              (elim (members_with_hyphen u (atom_members a) (atom_members b)) as (λ _. Found (List Bounds)) [ None ↦ None | Some members ↦ Some (members, t) ])
+              (elim (members_with_hyphen u (atom_members false a) (atom_members false b)) as (λ _. Found (List Bounds)) [ None ↦ None | Some members ↦ Some (members, t) ])
               (Some (range_then first last, t))
           by_test true = follows_none IsPart _
           by_test false = follows_some IsPart (range_then first last) _ t (hyphen_part first last a b is_first is_last hyphen)
@@ -419,7 +419,7 @@ module _ (table : Table) (maps : HasCaseDataOfUnicode table) (rer : Flags) (with
 
       range_follows : (first last : ClassAtom) (a b : ClassProductions.ClassAtom) (t : Source) → IsAtomOf first a → IsAtomOf last b →
           Follows IsPart
-          (elim (range_of parameters.unicode a b) as (λ _. Found (List Bounds)) [ None ↦ None | Some members ↦ Some (members, t) ])
+          (elim (range_of false parameters.unicode a b) as (λ _. Found (List Bounds)) [ None ↦ None | Some members ↦ Some (members, t) ])
           (Some (range_then first last, t))
       range_follows first last (point a) (point b) t is_first is_last = points_follow first last a b t is_first is_last
       range_follows first last (point a) (set others) t is_first is_last =
@@ -437,7 +437,7 @@ module _ (table : Table) (maps : HasCaseDataOfUnicode table) (rer : Flags) (with
           (λ _.
           follows_then IsAtomOf IsPart _ _ _ _ (atom_follows (drop 1 rest))
           (λ b last after is_last. range_follows first last a b after is_first is_last))
-          (λ _. follows_some IsPart (atom_then first) (atom_members a) rest (atom_part first a is_first)))
+          (λ _. follows_some IsPart (atom_then first) (atom_members false a) rest (atom_part first a is_first)))
 
       ranges_follow : (n : ℕ) (t : Source) → Follows IsContents (class_parts_by table parameters n t) (class_ranges_by table parameters n t)
       unfolding class_parts_by class_ranges_by

@@ -1,14 +1,15 @@
 -- ECMA-262, 22.2.1 and B.1.2: which parse node the source of a class has. It is that of the grammar in `ClassProductions` and
--- `ClassSets` of `regress_classes`, wherever that accepts a class.
-use Rattle.std.specs.Prelude.{ℕ, zero, suc, ◌+◌, Bool, true, false, not, ◌&&◌, ◌||◌, List, [], ◌∷◌, length, drop, Some, None, if◌then◌else◌, ◌==◌}
+-- `ClassSets` of `regress_classes`, wherever that accepts a class. Where a pattern is parsed as code units (ParsePattern), a
+-- code point above U+FFFF is two characters of a class without the flag v.
+use Rattle.std.specs.Prelude.{ℕ, zero, suc, ◌+◌, Bool, true, false, not, ◌&&◌, ◌||◌, List, [], ◌∷◌, length, drop, Some, None, if◌then◌else◌, nat_le, ◌==◌}
 use Rattle.regress_base.specs.Limits.{max_nesting_depth}
 use Rattle.regress_base.specs.Table.{Table}
 use Rattle.regress_lexer.specs.Source.{Source, Found, ◌>>=◌, found_map, Production, when, otherwise, first_production, char, is_one_of, is_at}
 use Rattle.regress_lexer.specs.Digits.{is_decimal, is_letter, control}
 use Rattle.regress_lexer.specs.Dialects.{reserves_k, isolates_ampersand}
-use Rattle.regress_lexer.specs.Escapes.{character_escape_at}
+use Rattle.regress_lexer.specs.Escapes.{character_escape_at, lead_surrogate, trail_surrogate}
 use Rattle.regress_classes.specs.declared.parameters.Parameters.{Parameters}
-use Rattle.regress_classes.specs.ClassProductions.{class_letter, begins_range}
+use Rattle.regress_classes.specs.ClassProductions.{class_letter, begins_range, splits}
 use Rattle.regress_classes.specs.ClassSets.{escaped_character_at, set_character_at, strings_by, are_at}
 use Rattle.regress_classes.specs.Properties.{Property, of_points, of_strings, property_at}
 use Rattle.regress_ecma.specs.ClassNodes.{ClassAtom, character, class_escape, property, string_property, class_strings, nested_class, ClassContents, empty, atom_then, range_then, intersection, subtraction, CharacterClass}
@@ -26,6 +27,20 @@ control_at [] = Some (character (char "\\"), char "c" ∷ [])
 control_at (d ∷ t) =
     if is_letter d || is_decimal d || d == char "_" then Some (character (control d), t)
     else Some (character (char "\\"), char "c" ∷ d ∷ t)
+
+-- whether the atom is a character above U+FFFF
+abbrev pub is_pair : ClassAtom → Bool
+is_pair (character c) = nat_le 0x10000 c
+is_pair other = false
+
+-- the surrogates of such a character
+abbrev pub lead : ClassAtom → ClassAtom
+lead (character c) = character (lead_surrogate c)
+lead other = other
+
+abbrev pub trail : ClassAtom → ClassAtom
+trail (character c) = character (trail_surrogate c)
+trail other = other
 
 module _ (table : Table) (parameters : Parameters) where
   -- ClassEscape and CharacterEscape, from c on
@@ -56,11 +71,48 @@ module _ (table : Table) (parameters : Parameters) where
       else if c == char "\\" then class_escape_at t
       else Some (character c, t)
 
+  -- the atom is two characters
+  abbrev pub is_split : ClassAtom → Bool
+  is_split atom = splits parameters && is_pair atom
+
+  -- its first character and its last one
+  abbrev pub first_of : ClassAtom → ClassAtom
+  first_of atom = if is_split atom then lead atom else atom
+
+  abbrev pub last_of : ClassAtom → ClassAtom
+  last_of atom = if is_split atom then trail atom else atom
+
+  -- the characters before its last one, and after its first one, and the rest
+  abbrev pub with_before : ClassAtom → ClassContents → ClassContents
+  with_before atom rest = if is_split atom then atom_then (lead atom) rest else rest
+
+  abbrev pub with_after : ClassAtom → ClassContents → ClassContents
+  with_after atom rest = if is_split atom then atom_then (trail atom) rest else rest
+
+  -- an atom, a range, and one whose last character begins another one
+  abbrev pub with_atom : ClassAtom → ClassContents → ClassContents
+  with_atom atom rest = with_before atom (atom_then (last_of atom) rest)
+
+  abbrev pub with_range : (first last : ClassAtom) → ClassContents → ClassContents
+  with_range first last rest = with_before first (range_then (last_of first) (first_of last) (with_after last rest))
+
+  abbrev pub with_ranges : (first last next : ClassAtom) → ClassContents → ClassContents
+  with_ranges first last next rest =
+      with_before first (range_then (last_of first) (first_of last) (range_then (last_of last) (first_of next) (with_after next rest)))
+
+  -- the rest of a range, after its first atom and the hyphen
+  abbrev pub range_at : ClassAtom → Source → Found (ClassContents → ClassContents)
+  range_at first t =
+      class_atom_at t >>= λ (last, rest).
+      (if is_split last && begins_range rest
+      then found_map (λ next contents. with_ranges first last next contents) (class_atom_at (drop 1 rest))
+      else Some (λ contents. with_range first last contents, rest))
+
   -- an atom or a range, as what it makes of the rest
   abbrev pub class_part_at : Source → Found (ClassContents → ClassContents)
   class_part_at t =
       class_atom_at t >>= λ (first, rest).
-      (if begins_range rest then found_map (λ last contents. range_then first last contents) (class_atom_at (drop 1 rest)) else Some (atom_then first, rest))
+      (if begins_range rest then range_at first (drop 1 rest) else Some (λ contents. with_atom first contents, rest))
 
   -- NonemptyClassRanges, up to `]`. The number bounds the number of parts.
   unfoldable pub class_ranges_by : ℕ → Source → Found ClassContents
