@@ -1,5 +1,5 @@
 //! The first outcome of a routine.
-ghost use Rattle.std.specs.Prelude.{◌≡◌, ◌≤◌, ◌<◌, ◌+◌, ◌-◌, ◌*◌, IfOk, IfSome, None, Some, length, slice_get};
+ghost use Rattle.std.specs.Prelude.{◌≡◌, ◌≤◌, ◌<◌, ◌+◌, ◌-◌, ◌*◌, ℕ, IfOk, IfSome, None, Some, false, length, slice_get};
 ghost use Rattle.regress_tree.specs.Reading.{forwards};
 ghost use Rattle.regress_program.specs.Program.{Routine as Code};
 ghost use Rattle.regress_tables.specs.Searchable.{IsEnd, IsFirstOutcome, IsSearchable, program_in, width_at};
@@ -19,6 +19,17 @@ pub(crate) struct FirstOutcome {
     pub(crate) end: usize,
     /// What is known of the capture of each group.
     pub(crate) slots: Vec<Slot>,
+}
+
+/// Returns whether a routine has an outcome from a position.
+pub(crate) fn has_first(filled: Filled<'_, '_>, index: usize, position: usize) -> bool
+    requires searchable { IsSearchable filled }
+    requires index { index < length (program_in filled) }
+    requires position { position ≤ length filled.input.text.now }
+    ensures none { result ≡ false → (groups : ℕ) → IsFirstOutcome filled.entry index groups position None }
+{
+    let entry = filled.input.code.program.routines[index].entry;
+    filled.input.tables[index].cell(entry, true, position)
 }
 
 /// Returns the first outcome of a routine from a position, with all groups unset, or `None` if there is none.

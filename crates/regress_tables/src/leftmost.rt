@@ -1,15 +1,16 @@
 //! The leftmost match, by the tables of a program.
-ghost use Rattle.std.specs.Prelude.{◌≡◌, ◌≤◌, ◌<◌, ◌+◌, ◌-◌, ◌*◌, ◌^◌, ℕ, IfOk, IfSome, Some, length};
+ghost use Rattle.std.specs.Prelude.{◌≡◌, ◌≤◌, ◌<◌, ◌+◌, ◌-◌, ◌*◌, ◌^◌, ℕ, IfOk, IfSome, None, Some, false, length, true};
+ghost use Rattle.std.specs.Str.{IsCharBoundary};
 ghost use Rattle.regress_program.specs.Compiled.{total};
 ghost use Rattle.regress_program.specs.Cost.{blocks};
 ghost use Rattle.regress_found.specs.Found.{Finds, state_of};
 ghost use Rattle.regress_found.specs.Tried.{positions_tried};
 ghost use Rattle.regress_program.specs.Program.{Out};
 ghost use Rattle.regress_tables.specs.Search.{capturing_steps, steps_up_to, walk_weight};
-ghost use Rattle.regress_tables.specs.Searchable.{IsSearchable, Solves, outcomes_in, program_in};
+ghost use Rattle.regress_tables.specs.Searchable.{IsFirstOutcome, IsSearchable, Solves, outcomes_in, program_in};
 
 use crate::filled::Filled;
-use crate::first::first_outcome;
+use crate::first::{first_outcome, has_first};
 use crate::found::Search;
 use crate::resolve::resolve;
 use crate::slots::captures_of;
@@ -42,7 +43,7 @@ pub(crate) fn find_leftmost(
     let mut walked = 0;
     for start in from..filled.input.text.len() + 1 {
         tried += 1;
-        if filled.input.text.is_char_boundary(start) {
+        if may_start(filled, last, start) {
             if let Some(mut first) = first_outcome(
                 alloc,
                 filled,
@@ -64,6 +65,18 @@ pub(crate) fn find_leftmost(
         found: None,
         steps: tried,
     })
+}
+
+/// Returns whether a match may start at a position: on a character boundary, where the last routine has an outcome.
+fn may_start(filled: Filled<'_, '_>, last: usize, position: usize) -> bool
+    requires searchable { IsSearchable filled }
+    requires last { last < length (program_in filled) }
+    requires position { position ≤ length filled.input.text.now }
+    ensures boundary { result ≡ true → IsCharBoundary filled.entry.input.text.now position }
+    ensures none { result ≡ false → IsCharBoundary filled.entry.input.text.now position →
+        (groups : ℕ) → IsFirstOutcome filled.entry last groups position None }
+{
+    has_first(filled, last, position) && filled.input.text.is_char_boundary(position)
 }
 
 /// Returns the steps of a search that has found a match: the positions that it tried, the captures of the match, and the

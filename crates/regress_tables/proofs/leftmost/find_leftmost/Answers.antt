@@ -1,4 +1,4 @@
-use Rattle.std.proofs.Common.{rules, ◌≡◌, ◌+◌, ◌-◌, ◌*◌, ◌≤◌, ◌∷◌, ℕ, length, take, slice_get, Some, IfSome, refl, sym, ap, ◌∙◌, subst, arith}
+use Rattle.std.proofs.Common.{◌≡◌, ◌+◌, ◌-◌, ◌*◌, ◌≤◌, ◌∷◌, ℕ, length, take, slice_get, Some, IfSome, refl, sym, ap, ◌∙◌, subst, arith}
 use Rattle.std.proofs.lemmas.List.{length-map}
 use Rattle.std.specs.Str.{IsCharBoundary}
 use Rattle.regress_tree.specs.Steps.{MatchState}
@@ -15,9 +15,9 @@ use Rattle.regress_tables.specs.declared.first.FirstOutcome.{FirstOutcome}
 use Rattle.regress_program.proofs.lemmas.Totals.{routine_size, total_part}
 use Rattle.regress_tables.proofs.ResolveLemmas.{get-some, leftmost_steps, weighted_steps}
 use Rattle.regress_tables.proofs.SearchLemmas.{leftmost_by}
-use Rattle.regress_tables.proofs.WalkLemmas.{none-more, not-true}
+use Rattle.regress_tables.proofs.WalkLemmas.{none-more}
 use Rattle.regress_tables.proofs.leftmost.find_leftmost.Goals as goal
-use Rattle.regress_tables.proofs.leftmost.find_leftmost.Goals.{then-is_char_boundary+in_ok-first+in_default, else-is_char_boundary}
+use Rattle.regress_tables.proofs.leftmost.find_leftmost.Goals.{then-may_start+in_ok-first+in_default, else-may_start}
 
 pub captures_of-requires : goal.captures_of-requires
 captures_of-requires c =
@@ -41,7 +41,7 @@ returns-in-Some-clause-solved c = λ outs solves.
     let captures = c.in_ok-captures.ensures (captures_in f outs n)
     ∙ ap (resolved (captures_in f outs n)) c.deref.ensures.value
     ∙ subst (λ k. resolved (captures_in f outs k) c.resolve.new.slots.items ≡ resolved (captures_in f outs k) o.slots.items) ends.count (c.in_ok-resolve.ensures.resolved.same outs solves) in
-    let on : IsCharBoundary f.input.text.now start = search rules in
+    let on : IsCharBoundary f.input.text.now start = c.may_start.ensures.boundary c.if-may_start.true in
     leftmost_by f.input.text.now (outcomes_in f outs (length (program_in f) - 1) n) c.args.from start (state_of m) m c.new.ensures.start refl
     c.loop-start.auto.start on first.0
     (ap (λ k. outcomes_in f outs k n start) index ∙ first.1 ∙ ap (λ (cs : Captures). let s : MatchState = record { position = o.end; captures = cs } in s ∷ first.0) (sym captures)
@@ -75,8 +75,8 @@ loop-start-preserved c =
     let last = c.len-last.result - 1 in
     let at = λ (outs : ℕ → Out). outcomes_in f outs (length (program_in f) - 1) n in
     let index : length (program_in f) - 1 ≡ last = omega (arith, c.len-last.ensures, length-map f.input.code.now.program.routines.items (routine_in f.input.code.now.program.leaves.items)) in
-    elim c.if-is_char_boundary.branch [
-      | then-is_char_boundary+in_ok-first+in_default w ↦
+    elim c.if-may_start.branch [
+      | then-may_start+in_ok-first+in_default w ↦
           record {
             tried = omega (arith, c.loop-start.invariant.tried, c.loop-start-test.true, c.loop-start.auto.start);
             walked = w.walked-is ∙ w.in_ok-first.ensures.none w.in_default.is ∙ c.loop-start.invariant.walked;
@@ -84,13 +84,13 @@ loop-start-preserved c =
                 none-more f.input.text.now (at outs) c.args.from start (c.loop-start.invariant.none outs solves)
                 (λ on. ap (λ k. outcomes_in f outs k n start) index ∙ (subst (IsFirstOutcome f last n start) w.in_default.is w.in_ok-first.ensures.first) outs solves);
           }
-      | else-is_char_boundary w ↦
+      | else-may_start w ↦
           record {
             tried = omega (arith, c.loop-start.invariant.tried, c.loop-start-test.true, c.loop-start.auto.start);
             walked = w.walked-is ∙ c.loop-start.invariant.walked;
             none = λ outs solves.
                 none-more f.input.text.now (at outs) c.args.from start (c.loop-start.invariant.none outs solves)
-                (λ on. absurd (not-true c.is_char_boundary.result w.if-is_char_boundary.false (c.is_char_boundary.ensures.test.1 on)));
+                (λ on. ap (λ k. outcomes_in f outs k n start) index ∙ c.may_start.ensures.none w.if-may_start.false on n outs solves);
           }
     ]
 
