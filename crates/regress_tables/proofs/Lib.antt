@@ -13,3 +13,4 @@ mod SlotLemmas
 mod StepLemmas
 mod TellsLemmas
 mod WalkLemmas
+mod WordLemmas

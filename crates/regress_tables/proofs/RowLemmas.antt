@@ -12,7 +12,7 @@ use Rattle.regress_program.proofs.lemmas.Places.{column-less}
 use Rattle.regress_tables.specs.Bits.{bits_of}
 use Rattle.regress_tables.specs.Memo.{row_bit}
 use Rattle.regress_tables.specs.declared.table.Table.{Table}
-use Rattle.regress_tables.specs.Table.{Grows, SameShape, cell, evaluated, index, number_of, row_bits, size}
+use Rattle.regress_tables.specs.Table.{Grows, SameShape, cell, evaluated, index, number_of, row_bits}
 use Rattle.regress_tables.proofs.BitLemmas.{bits-len}
 use Rattle.regress_tables.proofs.FillLemmas.{same-index}
 

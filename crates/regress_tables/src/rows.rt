@@ -4,6 +4,7 @@ ghost use Rattle.regress_tables.specs.Bits.{bits_of};
 ghost use Rattle.regress_tables.specs.Table.{SameShape, evaluated, row_bits, size};
 
 use crate::table::Table;
+use crate::words::low_bits;
 use std::alloc::AllocError;
 
 impl Table {
@@ -25,8 +26,12 @@ impl Table {
         ensures { result ≡ true → (k : ℕ) → k < 2 * self.now.width →
             slice_index_or (bits_of self.now.bits) (a + k) false ≡ slice_index_or (bits_of self.now.bits) (b + k) false }
     {
-        for k in 0..2 * self.width {
-            if self.bits.get(a + k) != self.bits.get(b + k) {
+        let count = 2 * self.width;
+        for k in 0..count.div_ceil(64) {
+            let before = 64 * k;
+            let x = low_bits(self.bits.word_at(a + before), count - before);
+            let y = low_bits(self.bits.word_at(b + before), count - before);
+            if x != y {
                 return false;
             }
         }
@@ -38,12 +43,12 @@ impl Table {
         requires start { start + 2 * self.now.width ≤ length (bits_of self.now.bits) }
         requires small { length (bits_of self.now.bits) < 2 ^ 62 }
     {
+        let count = 2 * self.width;
         let mut hash: u64 = 0;
-        for k in 0..2 * self.width {
-            let bit = u64::from(self.bits.get(start + k));
-            hash = hash
-                .wrapping_add(bit + 1)
-                .wrapping_mul(0x9E37_79B9_7F4A_7C15);
+        for k in 0..count.div_ceil(64) {
+            let before = 64 * k;
+            let word = low_bits(self.bits.word_at(start + before), count - before);
+            hash = hash.wrapping_add(word).wrapping_mul(0x9E37_79B9_7F4A_7C15);
         }
         (hash >> 54) as usize
     }

@@ -1,5 +1,5 @@
 //! Reading and writing bits in words.
-ghost use Rattle.std.specs.Prelude.{◌≡◌, ◌≢◌, ◌<◌, ◌≤◌, ◌+◌, ◌*◌, ◌/◌, ◌^◌, ◌++◌, ℕ, [], ◌∷◌, IfErr, IfOk, false, length, max, slice_index_or, take, if◌then◌else◌};
+ghost use Rattle.std.specs.Prelude.{◌≡◌, ◌≢◌, ◌<◌, ◌≤◌, ◌+◌, ◌-◌, ◌*◌, ◌/◌, ◌^◌, ◌++◌, ◌==◌, ℕ, [], ◌∷◌, IfErr, IfOk, false, length, max, slice_index_or, take, if◌then◌else◌};
 ghost use Rattle.std.specs.Int.{bit_at};
 ghost use Rattle.regress_tables.specs.Bits.{bits_of, words_of};
 
@@ -34,6 +34,20 @@ impl Bits {
         ensures { result ≡ slice_index_or (bits_of self.now) index false }
     {
         (self.words[index / 64] >> (index % 64)) & 1 == 1
+    }
+
+    /// Returns 64 bits of which the lowest is the one at an index. Those after the end of the list may be anything.
+    pub(crate) fn word_at(&self, index: usize) -> u64
+        requires { index < length (bits_of self.now) }
+        ensures { (i : ℕ) → i < 64 → index + i < length (bits_of self.now) → slice_index_or (bits_of self.now) (index + i) false ≡ (bit_at result i == 1) }
+    {
+        let word = index / 64;
+        let at = index % 64;
+        let low = self.words[word];
+        if at == 0 || word + 1 >= self.words.len() {
+            return low >> at;
+        }
+        joined(low, self.words[word + 1], at)
     }
 
     /// Adds a bit.
@@ -98,6 +112,27 @@ impl Bits {
         ensures words { words_of self.new ≡ words_of self.old }
     {
         self.len = count;
+    }
+}
+
+/// Returns the bits of a word from one on, and after them the first bits of another.
+fn joined(word: u64, next: u64, at: usize) -> u64
+    requires some { 0 < at }
+    requires inside { at < 64 }
+    ensures near { (i : ℕ) → at + i < 64 → bit_at result i ≡ bit_at word (at + i) }
+    ensures far { (i : ℕ) → i < 64 → 64 ≤ at + i → bit_at result i ≡ bit_at next (at + i - 64) }
+{
+    (word >> at) | (next << (64 - at))
+}
+
+/// Returns the first `count` bits of a word, or all.
+pub(crate) fn low_bits(word: u64, count: usize) -> u64
+    ensures { (i : ℕ) → i < 64 → i < count → bit_at result i ≡ bit_at word i }
+{
+    if count < 64 {
+        word & ((1u64 << count) - 1)
+    } else {
+        word
     }
 }
 

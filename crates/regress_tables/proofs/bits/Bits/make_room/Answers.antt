@@ -1,4 +1,4 @@
-use Rattle.std.proofs.Common.{◌≡◌, ◌++◌, ◌∷◌, [], ◌+◌, length, List, ℕ, ap, ◌∙◌, arith, length-append}
+use Rattle.std.proofs.Common.{◌∷◌, [], length, List, ℕ, ap, ◌∙◌, arith, length-append}
 use Rattle.regress_tables.specs.Bits.{bits_of}
 use Rattle.regress_tables.proofs.BitLemmas.{bits-len, first_bits, same_bits}
 use Rattle.regress_tables.proofs.bits.Bits.make_room.Goals as goal

@@ -1,4 +1,4 @@
-use Rattle.std.proofs.Common.{length, arith}
+use Rattle.std.proofs.Common.{arith}
 use Rattle.regress_tables.specs.Bits.{bits_of}
 use Rattle.regress_tables.proofs.BitLemmas.{bits-len}
 use Rattle.regress_tables.proofs.RowLemmas.{bits-few, not-fewer}
