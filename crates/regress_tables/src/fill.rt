@@ -13,7 +13,7 @@ ghost use Rattle.regress_tables.specs.Table.{AreTables, Grows, IsFull, IsTableOf
 use crate::cells::row_of;
 use crate::evaluate::{Input, evaluate};
 use crate::keys::key_at;
-use crate::memo::Memo;
+use crate::memo::{Memo, slot_of};
 use crate::table::Table;
 use regress_leaves::rules::MatchContext;
 use regress_program::instruction::Routine;
@@ -128,7 +128,7 @@ fn first_equal(table: &Table, memo: &mut Memo) -> usize
 {
     let last = table.distinct;
     let start = table.start_of(last);
-    let slot = table.hash_of(start);
+    let slot = slot_of(table.hash_of(start), memo.heads.len());
     if slot >= memo.heads.len() {
         return last;
     }

@@ -39,11 +39,11 @@ pub(crate) struct Memo {
     pub(crate) heads: Vec<usize>,
 }
 
-/// The number of slots.
+/// The largest number of slots.
 const SLOTS: usize = 1024;
 
 impl Memo {
-    /// Returns a memo for a routine, without a row.
+    /// Returns a memo for a routine, without a row. For a short text it has a slot for each position.
     ///
     /// # Errors
     /// Returns [`AllocError`] if an allocation fails.
@@ -55,10 +55,11 @@ impl Memo {
         ensures covers { IfOk result (λ memo. Covers (ops_in input.entry.code.now.program.leaves.items routine.now.instructions.items) memo.far.items) }
         ensures slots { IfOk result (λ memo. (k : ℕ) (entry : Entry) → slice_get memo.slots.items k ≡ Some (Some entry) → ⊥) }
     {
+        let count = SLOTS.min(input.text.len() + 1);
         Ok(Memo {
             far: far_of(alloc, input, routine)?,
-            slots: empty_slots(alloc)?,
-            heads: vec![in alloc; 0; SLOTS]?,
+            slots: empty_slots(alloc, count)?,
+            heads: vec![in alloc; 0; count]?,
         })
     }
 
@@ -68,7 +69,7 @@ impl Memo {
         ensures found { IfSome result (λ row. IsKept self.now.slots.items key row) }
     {
         let key = key?;
-        let slot = slot_of(key);
+        let slot = slot_of(hash_of(key), self.slots.len());
         if slot >= self.slots.len() {
             return None;
         }
@@ -88,21 +89,24 @@ impl Memo {
         let Some(key) = key else {
             return;
         };
-        let slot = slot_of(key);
+        let slot = slot_of(hash_of(key), self.slots.len());
         if slot < self.slots.len() {
             self.slots[slot] = Some(Entry { key, row });
         }
     }
 }
 
-/// Returns the slot for a key.
-fn slot_of(key: Key) -> usize {
-    let mixed = key
-        .symbol
+/// Returns the slot for a hash, of this number of slots.
+pub(crate) fn slot_of(hash: u64, slots: usize) -> usize {
+    ((hash >> 32).wrapping_mul(slots as u64) >> 32) as usize
+}
+
+/// Returns the hash of a key.
+fn hash_of(key: Key) -> u64 {
+    key.symbol
         .wrapping_mul(0x9E37_79B9_7F4A_7C15)
         .wrapping_add((key.from as u64).wrapping_mul(0xC2B2_AE3D_27D4_EB4F))
-        .wrapping_add(key.probes.wrapping_mul(0x1656_67B1_9E37_79F9));
-    (mixed >> 54) as usize
+        .wrapping_add(key.probes.wrapping_mul(0x1656_67B1_9E37_79F9))
 }
 
 /// Returns whether two keys are equal.
@@ -142,15 +146,15 @@ fn is_far(input: Input<'_, '_>, instruction: Instruction) -> bool
     }
 }
 
-/// Returns slots without entries.
+/// Returns `count` slots without entries.
 ///
 /// # Errors
 /// Returns [`AllocError`] if an allocation fails.
-fn empty_slots(alloc: Global) -> Result<Vec<Option<Entry>>, AllocError>
+fn empty_slots(alloc: Global, count: usize) -> Result<Vec<Option<Entry>>, AllocError>
     ensures { IfOk result (λ slots. (k : ℕ) (entry : Entry) → slice_get slots.items k ≡ Some (Some entry) → ⊥) }
 {
-    let mut slots = Vec::with_capacity(alloc, SLOTS)?;
-    for _i in 0..SLOTS {
+    let mut slots = Vec::with_capacity(alloc, count)?;
+    for _i in 0..count {
         slots.push(None)?;
     }
     Ok(slots)

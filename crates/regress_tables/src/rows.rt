@@ -39,7 +39,7 @@ impl Table {
     }
 
     /// Returns the hash of the bits of a row that begins at this index.
-    pub(crate) fn hash_of(&self, start: usize) -> usize
+    pub(crate) fn hash_of(&self, start: usize) -> u64
         requires start { start + 2 * self.now.width ≤ length (bits_of self.now.bits) }
         requires small { length (bits_of self.now.bits) < 2 ^ 62 }
     {
@@ -50,7 +50,7 @@ impl Table {
             let word = low_bits(self.bits.word_at(start + before), count - before);
             hash = hash.wrapping_add(word).wrapping_mul(0x9E37_79B9_7F4A_7C15);
         }
-        (hash >> 54) as usize
+        hash
     }
 
     /// Gives the next row the number of an equal one.
