@@ -7,6 +7,7 @@ pub mod UnicodePartsLemmas
 pub mod TableLemmas
 pub mod SourceLemmas
 pub mod UnfoldLemmas
+pub mod SourceIndexLemmas
 pub mod ConstructionErrorLemmas
 pub mod ShiftLemmas
 pub mod ClosingLemmas

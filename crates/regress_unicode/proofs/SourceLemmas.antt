@@ -3,15 +3,10 @@ use Rattle.std.proofs.Common.{◌≡◌, ℕ, ◌+◌, ◌-◌, ◌%◌, ◌<◌
 use Rattle.std.proofs.lemmas.Bool.{cases_eq, eq-eqb}
 use Rattle.std.proofs.lemmas.Bool.Decides.{nat_tests}
 use Rattle.std.proofs.lemmas.List.Folds.{list_any_more}
-use Rattle.std.specs.List.{list_any}
 use Rattle.std.proofs.Math.Bool.{or-false}
-use Rattle.regress_unicode.specs.FoldEntries.{FoldEntry, moved, is_in_mapping, mapped_in_mapping, is_source, mapped}
+use Rattle.regress_unicode.specs.FoldEntries.{FoldEntry, moved, is_in_mapping, mapped_in_mapping, is_source, has_source, mapped}
 use Rattle.regress_unicode.specs.ValidEntries.{is_in_order_from}
 use Rattle.regress_unicode.proofs.ListLemmas.{order_parts, below_mapped}
-
--- whether an entry maps the code point to the target
-unfoldable pub has_source : List FoldEntry → ℕ → ℕ → Bool
-has_source mappings target c = list_any (λ mapping. is_source mapping target c) mappings
 
 pub has_source-nil : (target c : ℕ) → has_source [] target c ≡ false
 unfolding has_source
@@ -90,14 +85,3 @@ pub has_source-no_more : (mappings : List FoldEntry) (i target c : ℕ) (mapping
     is_source mapping target c ≡ false → has_source (take i mappings) target c ≡ has_source (take (i + 1) mappings) target c
 has_source-no_more mappings i target c mapping lt is none =
     sym (has_source-more mappings i target c mapping lt is ∙ ap (λ b. has_source (take i mappings) target c || b) none ∙ or-false _)
-
-pub has_source-same : (xs ys : List FoldEntry) (target c : ℕ) →
-    list_any (λ mapping. is_source mapping target c) xs ≡ list_any (λ mapping. is_source mapping target c) ys →
-    has_source xs target c ≡ has_source ys target c
-unfolding has_source
-has_source-same xs ys target c same = same
-
-pub has_source-any : (xs ys : List FoldEntry) (target c : ℕ) → has_source xs target c ≡ has_source ys target c →
-    list_any (λ mapping. is_source mapping target c) xs ≡ list_any (λ mapping. is_source mapping target c) ys
-unfolding has_source
-has_source-any xs ys target c same = same

@@ -1,6 +1,7 @@
 -- Entries of a case mapping table, which represent the simple case mappings of the Unicode Character Database: ranges
 -- of code points, each with a delta.
 use Rattle.std.specs.Prelude.{ℕ, ◌+◌, ◌-◌, ◌%◌, Bool, ◌&&◌, nat_le, nat_lt, ◌==◌, if◌then◌else◌, List, [], ◌∷◌, ℤ, pos, negsuc}
+use Rattle.std.specs.List.{list_any}
 
 -- a range of `length` code points from `start` on
 pub record Span : Type 0 where
@@ -32,6 +33,10 @@ mapped_in_mapping mapping c = if (c - mapping.start) % mapping.modulo == 0 then 
 abbrev pub is_source : FoldEntry → ℕ → ℕ → Bool
 is_source mapping target c =
     is_in_mapping mapping c && ((c - mapping.start) % mapping.modulo == 0 && moved mapping.delta c == target)
+
+-- whether an entry of the list maps the code point to the target
+unfoldable pub has_source : List FoldEntry → ℕ → ℕ → Bool
+has_source mappings target c = list_any (λ mapping. is_source mapping target c) mappings
 
 -- What a table of entries maps a code point to: the first entry with the code point in its range determines it. A code
 -- point in no range is mapped to itself.

@@ -6,5 +6,5 @@ pub mod Moves
 pub mod ConstructionErrors
 pub mod Shifts
 pub mod TableOf
-pub mod LaterTargets
+pub mod SourceIndex
 pub mod UppercaseClosure

@@ -2,14 +2,14 @@
 #![tactic(auto)]
 
 ghost use Rattle.std.proofs.Props.{props};
-ghost use Rattle.regress_unicode.specs.LaterTargets.{HasLaterTargets};
 ghost use Rattle.regress_unicode.specs.Parts.{parts_from, parts_with};
+ghost use Rattle.regress_unicode.specs.SourceIndex.{IsIndexOf};
 ghost use Rattle.regress_unicode.specs.ValidEntries.{IsSound};
 
 mod checks;
 mod closure;
 mod fold_range;
-mod later;
+mod index;
 mod lookup;
 mod mapping;
 mod new;
@@ -22,9 +22,9 @@ mod unfold;
 
 pub use closure::{add_icase_code_points, add_uppercase_code_points};
 pub use fold_range::FoldRange;
+use index::SourceIndex;
 pub use mapping::{fold, uppercase};
 pub use range::CodePointRange;
-use regress_base::bytesearch::AsciiBitmap;
 use regress_base::codepointset::CodePointSet;
 pub use tables_error::{TablesError, Which};
 pub use unfold::{expand_code_point, unfold_char, unfold_uppercase_char};
@@ -38,10 +38,10 @@ pub use unfold::{expand_code_point, unfold_char, unfold_uppercase_char};
 pub struct Tables {
     folds: Vec<FoldRange>,
     uppers: Vec<FoldRange>,
-    /// The ASCII characters that an entry of `folds` after the first maps code points to, and perhaps others.
-    later_folds: AsciiBitmap,
+    /// Which entries of `folds` map code points to a given one.
+    fold_index: SourceIndex,
     /// Likewise of `uppers`.
-    later_uppers: AsciiBitmap,
+    upper_index: SourceIndex,
     id_start: CodePointSet,
     id_continue: CodePointSet,
     /// Whether the properties are those of Unicode, which are constants. The lists below are not read then.
@@ -52,5 +52,5 @@ pub struct Tables {
     binary: Vec<(String, CodePointSet)>,
     strings: Vec<(String, Vec<Vec<u32>>)>,
     ghost sound: { IsSound (parts_with whole (parts_from folds.items uppers.items id_start id_continue general_category.items script.items script_extensions.items binary.items strings.items)) } by { Prim.hlevel props },
-    ghost later: { HasLaterTargets later_folds folds.items × HasLaterTargets later_uppers uppers.items } by { Prim.hlevel props },
+    ghost indexed: { IsIndexOf fold_index folds.items × IsIndexOf upper_index uppers.items } by { Prim.hlevel props },
 }

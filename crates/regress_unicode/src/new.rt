@@ -9,7 +9,7 @@ use super::checks::{
     check_classes, check_idempotent, check_order, check_targets, collect_mapped, have_strings,
     have_word_ascii, sets_are_canonical,
 };
-use super::later::later_targets;
+use super::index::SourceIndex;
 use super::{FoldRange, Tables, TablesError, Which};
 use regress_base::codepointset::CodePointSet;
 use regress_base::sets::set_is_canonical;
@@ -144,13 +144,13 @@ impl Tables {
         requires { IsSound (parts_from folds.items uppers.items id_start id_continue general_category.items script.items script_extensions.items binary.items strings.items) }
         ensures { table_of result ≡ table_from (parts_from folds.items uppers.items id_start id_continue general_category.items script.items script_extensions.items binary.items strings.items) }
     {
-        let later_folds = later_targets(&folds);
-        let later_uppers = later_targets(&uppers);
+        let fold_index = SourceIndex::new(&folds);
+        let upper_index = SourceIndex::new(&uppers);
         Tables {
             folds,
             uppers,
-            later_folds,
-            later_uppers,
+            fold_index,
+            upper_index,
             id_start,
             id_continue,
             whole: false,
@@ -179,13 +179,13 @@ impl Tables {
         requires uppers { AreValidEntries uppers.items }
         ensures { IfOk result (λ tables. table_of tables ≡ table_from (with_unicode_properties folds.items uppers.items)) }
     {
-        let later_folds = later_targets(&folds);
-        let later_uppers = later_targets(&uppers);
+        let fold_index = SourceIndex::new(&folds);
+        let upper_index = SourceIndex::new(&uppers);
         Ok(Tables {
             folds,
             uppers,
-            later_folds,
-            later_uppers,
+            fold_index,
+            upper_index,
             id_start: regress_properties::id_start(alloc)?,
             id_continue: regress_properties::id_continue(alloc)?,
             whole: true,

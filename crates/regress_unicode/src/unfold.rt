@@ -1,17 +1,17 @@
 //! All code points with a given canonical form.
-ghost use Rattle.std.specs.Prelude.{◌≡◌, ◌<◌, ◌≤◌, ◌==◌, ◌||◌, ℕ, length, get_or, IsTrue, IfOk, OnOk};
+ghost use Rattle.std.specs.Prelude.{◌≡◌, ◌<◌, ◌≤◌, ◌==◌, ◌||◌, ◌/◌, ℕ, false, [], length, get_or, IsTrue, IfOk, OnOk};
+ghost use Rattle.std.specs.Int.{bit_at};
 ghost use Rattle.std.specs.List.{AllWithin, insert};
 ghost use Rattle.regress_base.specs.Intervals.{code_point_max};
-ghost use Rattle.regress_unicode.specs.FoldEntries.{mapped};
+ghost use Rattle.regress_unicode.specs.FoldEntries.{FoldEntry, is_source, mapped};
 ghost use Rattle.regress_unicode.specs.ValidEntries.{is_in_order, are_targets_in_range};
 ghost use Rattle.regress_base.specs.Listing.{lists, is_ascending, IsListing};
 ghost use Rattle.regress_base.specs.Table.{denotes};
-ghost use Rattle.regress_unicode.specs.LaterTargets.{HasLaterTargets};
+ghost use Rattle.regress_unicode.specs.SourceIndex.{IsIndexOf, ListsSources, HasGroups};
 ghost use Rattle.regress_unicode.specs.TableOf.{table_of};
 
-use super::later::entries_to;
+use super::index::{GROUP_LEN, INDEXED_LEN, SourceIndex};
 use super::{FoldRange, Tables, fold, uppercase};
-use regress_base::bytesearch::AsciiBitmap;
 use std::alloc::{AllocError, Global};
 
 /// The maximum number of code points with the same canonical form.
@@ -43,7 +43,7 @@ pub fn unfold_char(alloc: Global, c: u32, tables: &Tables) -> Result<Vec<u32>, A
         IsListing (λ x. (table_of tables.now).fold x == (table_of tables.now).fold c) list.items) }
     ensures few { IfOk result (λ list. length list.items ≤ 4) }
 {
-    unfold_to(alloc, &tables.folds, &tables.later_folds, fold(c, tables))
+    unfold_to(alloc, &tables.folds, &tables.fold_index, fold(c, tables))
 }
 
 /// Returns the code points with the same upper case as `c`, ascending, each once: at most four, `c` among them.
@@ -65,7 +65,7 @@ pub fn unfold_uppercase_char(alloc: Global, c: u32, tables: &Tables) -> Result<V
     unfold_to(
         alloc,
         &tables.uppers,
-        &tables.later_uppers,
+        &tables.upper_index,
         uppercase(c, tables),
     )
 }
@@ -119,10 +119,10 @@ pub fn expand_code_point(
 fn unfold_to(
     alloc: Global,
     mappings: &[FoldRange],
-    later: &AsciiBitmap,
+    index: &SourceIndex,
     target: u32,
 ) -> Result<Vec<u32>, AllocError>
-    requires later { HasLaterTargets later.now mappings.now }
+    requires index { IsIndexOf index.now mappings.now }
     requires code_point { target ≤ code_point_max }
     requires in_order { IsTrue (is_in_order mappings.now) }
     requires in_range { IsTrue (are_targets_in_range mappings.now) }
@@ -130,14 +130,81 @@ fn unfold_to(
     ensures { IfOk result (λ list. IsListing (λ x. mapped mappings.now x == target) list.items) }
 {
     let mut list = Vec::with_capacity(alloc, MOST)?;
-    let entries = entries_to(mappings, later, target);
-    for mapping in entries {
-        if let Some(source) = mapping.source(target) {
+    push_sources(&mut list, mappings, index, target)?;
+    insert_ordered(&mut list, target)?;
+    Ok(list)
+}
+
+/// Appends the code points that the entries map to `target` to an empty list.
+fn push_sources(
+    list: &mut Vec<u32>,
+    mappings: &[FoldRange],
+    index: &SourceIndex,
+    target: u32,
+) -> Result<(), AllocError>
+    requires empty { list.old.items ≡ [] }
+    requires index { IsIndexOf index.now mappings.now }
+    requires code_point { target ≤ code_point_max }
+    requires in_order { IsTrue (is_in_order mappings.now) }
+    requires in_range { IsTrue (are_targets_in_range mappings.now) }
+    ensures { OnOk result (ListsSources list.new.items mappings.now (length mappings.now) target) }
+{
+    if index.is_first_alone(target) {
+        return push_sources_in(list, mappings, 0, 1, target);
+    }
+    push_grouped_sources(list, mappings, index.groups(target), target)?;
+    let end = mappings.len().max(INDEXED_LEN);
+    push_sources_in(list, mappings, INDEXED_LEN, end, target)
+}
+
+/// Appends the code points that the first 256 entries map to `target`, from the groups whose bits are set.
+fn push_grouped_sources(
+    list: &mut Vec<u32>,
+    mappings: &[FoldRange],
+    groups: u64,
+    target: u32,
+) -> Result<(), AllocError>
+    requires empty { list.old.items ≡ [] }
+    requires groups { (c i : ℕ) (d : FoldEntry) → i < length mappings.now → i < 256 → (bit_at groups (i / 4) == 1) ≡ false →
+        is_source (get_or mappings.now i d) target c ≡ false }
+    requires code_point { target ≤ code_point_max }
+    requires in_order { IsTrue (is_in_order mappings.now) }
+    requires in_range { IsTrue (are_targets_in_range mappings.now) }
+    ensures { OnOk result (ListsSources list.new.items mappings.now 256 target) }
+{
+    let mut left = groups;
+    let mut end = 0;
+    while left != 0 {
+        let group = left.trailing_zeros();
+        let start = group as usize * GROUP_LEN;
+        end = start + GROUP_LEN;
+        push_sources_in(list, mappings, start, end, target)?;
+        left &= !(1 << group);
+    }
+    Ok(())
+}
+
+/// Appends the code points that the entries from `start` to before `end` map to `target`.
+fn push_sources_in(
+    list: &mut Vec<u32>,
+    mappings: &[FoldRange],
+    start: usize,
+    end: usize,
+    target: u32,
+) -> Result<(), AllocError>
+    requires order { start ≤ end }
+    requires before { ListsSources list.old.items mappings.now start target }
+    requires code_point { target ≤ code_point_max }
+    requires in_order { IsTrue (is_in_order mappings.now) }
+    requires in_range { IsTrue (are_targets_in_range mappings.now) }
+    ensures { OnOk result (ListsSources list.new.items mappings.now end target) }
+{
+    for i in start..end.min(mappings.len()) {
+        if let Some(source) = mappings[i].source(target) {
             list.push(source)?;
         }
     }
-    insert_ordered(&mut list, target)?;
-    Ok(list)
+    Ok(())
 }
 
 /// Inserts the number in order, unless it is in the list.
