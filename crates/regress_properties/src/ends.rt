@@ -38,7 +38,7 @@ fn intervals(alloc: Global, ends: &[u32]) -> Result<Vec<Interval>, AllocError>
     let count = ends.len() / 2;
     let mut intervals = Vec::with_capacity(alloc, count)?;
     for index in 0..count {
-        intervals.push(Interval::new(ends[2 * index], ends[2 * index + 1]))?;
+        intervals.push_reserved(Interval::new(ends[2 * index], ends[2 * index + 1]));
     }
     Ok(intervals)
 }

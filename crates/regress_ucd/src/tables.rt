@@ -14,8 +14,9 @@ pub(super) fn mappings(
     requires { All (λ r. IsPackableEntry (mapping r)) listed.now }
     ensures { IfOk result (λ mappings. mappings.items ≡ map mapping listed.now) }
 {
-    listed
-        .iter()
-        .map(|(start, length, delta, modulo)| FoldRange::from(*start, *length, *delta, *modulo))
-        .collect(alloc)
+    let mut mappings = Vec::with_capacity(alloc, listed.len())?;
+    for (start, length, delta, modulo) in listed {
+        mappings.push_reserved(FoldRange::from(*start, *length, *delta, *modulo));
+    }
+    Ok(mappings)
 }
