@@ -1,15 +1,16 @@
 -- Examples: what the dialects accept, and what references to several groups match. In the dialect `Ecma` the results are
 -- those of V8 11.3, and those of patterns with several groups of one name follow from ECMA-262.
-use Rattle.std.proofs.Common.{◌≡◌, false, true, [], ◌∷◌, Some, None, refl, codes}
+use Rattle.std.proofs.Common.{◌≡◌, false, true, List, [], ◌∷◌, Option, Some, None, refl, codes}
+use Rattle.regress_base.specs.Intervals.{Bounds}
 use Rattle.regress_base.specs.declared.charclasses.CharacterClassType.TheVariants.{Words}
 use Rattle.regress_base.specs.declared.types.Flags.{Flags}
 use Rattle.regress_tree.specs.Steps.{Setting}
 use Rattle.regress_lexer.specs.declared.dialect.Dialect.TheVariants.{Regress, Ecma}
 use Rattle.regress_lexer.specs.Dialects.{flags_in_force}
-use Rattle.regress_syntax.specs.Syntax.{Pattern, one, no_terms, more_terms, atom, literal, boundary, class_escape}
+use Rattle.regress_syntax.specs.Syntax.{Pattern, one, no_terms, more_terms, atom, literal, boundary, class, class_escape}
 use Rattle.example_definitions.proofs.PatternExamples.{letter, word, quantifier}
 use Rattle.regress_lexer.specs.Source.{Source}
-use Rattle.example_definitions.proofs.Meanings.{no_flags, plain, named, unicode, pattern_in, GivesIn, from, at, unset, span}
+use Rattle.example_definitions.proofs.Meanings.{no_flags, run, plain, named, unicode, pattern_in, GivesIn, from, at, unset, span}
 
 -- ---- flags
 
@@ -116,9 +117,9 @@ with_u_they_make_an_escape_in_ecma : pattern_in Ecma unicode (codes "\\u{61}") �
 unfolding pattern_in
 with_u_they_make_an_escape_in_ecma = refl
 
-in_a_class_they_are_members_in_ecma : pattern_in Ecma plain (codes "[\\u{6}]") ≡ pattern_in Regress plain (codes "[u{6}]")
+in_a_class_they_are_IsClassInEcma : pattern_in Ecma plain (codes "[\\u{6}]") ≡ pattern_in Regress plain (codes "[u{6}]")
 unfolding pattern_in
-in_a_class_they_are_members_in_ecma = refl
+in_a_class_they_are_IsClassInEcma = refl
 
 four_digits_make_an_escape_in_ecma : pattern_in Ecma plain (codes "\\u0061") ≡ Some (one (word (letter 97)))
 unfolding pattern_in
@@ -142,6 +143,43 @@ k_beside_a_name = refl
 k_without_a_name_in_ecma : pattern_in Ecma plain (codes "(x)[\\k]") ≡ pattern_in Regress plain (codes "(x)[k]")
 unfolding pattern_in
 k_without_a_name_in_ecma = refl
+
+-- ---- code points above U+FFFF in a class
+
+-- a class of these members
+abbrev members : List Bounds → Option Pattern
+members given = Some (one (word (atom (class no_flags false given))))
+
+abbrev IsClassInEcma : Source → List Bounds → Type 0
+IsClassInEcma t given = pattern_in Ecma plain t ≡ members given
+
+-- U+1F600 is the code units D83D and DE00. A range begins at the last one, and ends at the first.
+two_IsClassInEcma :
+    IsClassInEcma (codes "[\u{1F600}]") (run 0xD83D 0xD83D ∷ run 0xDE00 0xDE00 ∷ [])
+    × IsClassInEcma (codes "[\\uD83D\\uDE00]") (run 0xD83D 0xD83D ∷ run 0xDE00 0xDE00 ∷ [])
+    × IsClassInEcma (codes "[a-\u{1F600}]") (run 0x61 0xD83D ∷ run 0xDE00 0xDE00 ∷ [])
+    × IsClassInEcma (codes "[\u{1F600}-\\uFFFF]") (run 0xD83D 0xD83D ∷ run 0xDE00 0xFFFF ∷ [])
+unfolding pattern_in
+two_IsClassInEcma = (refl, refl, refl, refl)
+
+a_reversed_range_in_ecma : (pattern_in Ecma plain (codes "[\u{1F600}-\u{1F60E}]") ≡ None) × (pattern_in Ecma plain (codes "[\\uDE00-\u{1F600}]") ≡ None)
+unfolding pattern_in
+a_reversed_range_in_ecma = (refl, refl)
+
+-- The second code unit begins another range.
+two_ranges_in_ecma : IsClassInEcma (codes "[a-\u{1F600}-\\uFFFF]")
+    (run 0x61 0xD83D ∷ run 0xDE00 0xDE00 ∷ run 0xD83D 0xD83D ∷ run 0xDE00 0xFFFF ∷ [])
+    × (pattern_in Ecma plain (codes "[a-\u{1F600}-z]") ≡ None)
+unfolding pattern_in
+two_ranges_in_ecma = (refl, refl)
+
+one_member_in_regress : pattern_in Regress plain (codes "[\u{1F600}-\u{1F60E}]") ≡ members (run 0x1F600 0x1F60E ∷ [])
+unfolding pattern_in
+one_member_in_regress = refl
+
+one_member_with_u_in_ecma : pattern_in Ecma unicode (codes "[\u{1F600}-\u{1F60E}]") ≡ pattern_in Regress unicode (codes "[\u{1F600}-\u{1F60E}]")
+unfolding pattern_in
+one_member_with_u_in_ecma = refl
 
 -- ---- references to several groups of one name
 

@@ -2,11 +2,10 @@
 -- result of a sticky match of V8 11.3 there. The other outcomes follow from the rules of ECMA-262, as do those of
 -- patterns with modifiers or several groups of one name, and those that match characters past U+FFFF. The same holds
 -- for the other files of meanings.
-use Rattle.std.proofs.Common.{◌≡◌, ℕ, false, true, List, [], ◌∷◌, map, length, Option, Some, None, option_map, encode_utf8_all, refl, codes}
+use Rattle.std.proofs.Common.{◌≡◌, ℕ, true, List, [], ◌∷◌, map, length, Option, Some, None, option_map, encode_utf8_all, refl, codes}
 use Rattle.std.specs.Char.{encode_utf8}
 use Rattle.std.specs.Str.{chars}
 use Rattle.std.proofs.Math.ListN.{replicate}
-use Rattle.regress_base.specs.declared.types.Flags.{Flags}
 pub use Rattle.regress_base.specs.NoFlags.{no_flags}
 use Rattle.regress_base.specs.Intervals.{Bounds, is_member, is_within}
 use Rattle.regress_unicode.specs.FoldEntries.{mapped}

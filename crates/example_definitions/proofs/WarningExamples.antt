@@ -1,11 +1,9 @@
 -- Examples: what is warned of in patterns. The nodes are those of the pattern in postorder, each beside its span, counted
 -- by hand; those of which nothing is expected are left out where no other node depends on them.
-use Rattle.std.proofs.Common.{◌≡◌, ℕ, Bool, true, false, List, [], ◌∷◌, Some, None, refl, codes}
+use Rattle.std.proofs.Common.{◌≡◌, ℕ, true, false, List, [], ◌∷◌, None, refl, codes}
 use Rattle.regress_base.specs.Intervals.{Bounds}
 use Rattle.regress_base.specs.declared.types.AnchorType.TheVariants.{StartOfLine, EndOfLine}
-use Rattle.regress_base.specs.declared.types.Quantifier.{Quantifier}
-use Rattle.regress_tree.specs.Tree.{empty, char, char_set, anchor, match_any_except_line_terminator, bracket, back_ref, Tree, leaf, cat, alt, wrapped, capture_group, loop, lookaround, list}
-use Rattle.regress_lexer.specs.Source.{Source}
+use Rattle.regress_tree.specs.Tree.{empty, char, char_set, anchor, match_any_except_line_terminator, bracket, back_ref, Tree, leaf, cat, alt, wrapped, capture_group, loop, list}
 use Rattle.regress_parse.specs.declared.span.Span.{Span}
 use Rattle.regress_warnings.specs.declared.kind.Warning.{Warning}
 use Rattle.regress_warnings.specs.declared.kind.WarningKind.{WarningKind}
