@@ -1,30 +1,33 @@
 -- Evaluating an instruction yields its bit.
-use Rattle.std.proofs.Common.{◌*◌, get_or, map, ◌≡◌, ◌≢◌, ℕ, ◌+◌, ◌≤◌, ◌<◌, ◌⊎◌, ◌==◌, Bool, true, false, not, ◌&&◌, ◌||◌, List, [], ◌∷◌, ◌++◌, length, slice_get, take, Option, Some, None, IfSome, refl, sym, ap, ap₂, ◌∙◌, subst, append-nil, inl, inr, arith}
+use Rattle.std.proofs.Common.{◌*◌, get_or, map, ◌≡◌, ◌≢◌, ℕ, ◌+◌, ◌≤◌, ◌<◌, ◌⊎◌, ◌==◌, Bool, true, false, not, ◌&&◌, ◌||◌, List, [], ◌∷◌, ◌++◌, length, slice_get, take, Option, Some, None, IfSome, refl, sym, ap, ap₂, ◌∙◌, subst, append-nil, inl, inr, arith, if◌then◌else◌}
 use Rattle.std.proofs.Math.Bool.{beq}
 use Rattle.std.proofs.lemmas.Bool.{cases_eq}
 use Rattle.std.proofs.lemmas.List.{length-take}
 use Rattle.std.specs.Box.{boxed_slice_items}
+use Rattle.std.specs.Option.{option_map}
 use Rattle.std.specs.Global.{Global}
 use Rattle.std.specs.declared.boxed.BoxedSlice.{BoxedSlice}
 use Rattle.regress_base.specs.Table.{denotes}
 use Rattle.regress_tree.specs.Matching.{steps}
-use Rattle.regress_tree.specs.Reading.{Direction, forwards, backwards, direction_if, of_bytes}
+use Rattle.regress_prefilter.specs.OneCharacter.{takes_one, test_of}
+use Rattle.regress_prefilter.proofs.lemmas.OneCharacter.{takes_one-steps}
+use Rattle.regress_tree.specs.Reading.{Direction, forwards, backwards, direction_if, next_character, of_bytes}
 use Rattle.regress_tree.specs.References.{all_of, in_order}
-use Rattle.regress_tree.specs.Steps.{MatchState, Matcher, Setting}
+use Rattle.regress_tree.specs.Steps.{MatchState, Matcher, Setting, one_character}
 use Rattle.regress_tree.specs.Tree.{Tree, leaf, string_set, tree}
-use Rattle.regress_leaves.specs.Leaves.{exactly, put}
+use Rattle.regress_leaves.specs.Leaves.{GoesTo, exactly, put, read_of}
 use Rattle.regress_leaves.specs.declared.test.Test.{Test}
 use Rattle.regress_program.specs.declared.instruction.Instruction.{Instruction}
 use Rattle.regress_program.specs.declared.instruction.Instruction.TheVariants as insts
 use Rattle.regress_program.specs.Views.{characters_of, op_in, part_of}
 use Rattle.regress_leaves.specs.Subject.{Subject}
-use Rattle.regress_leaves.proofs.lemmas.Leaves.{any-nil, any-cons}
+use Rattle.regress_leaves.proofs.lemmas.Leaves.{any-nil, any-cons, one_no, one_none, one_yes}
 use Rattle.regress_program.specs.Below.{row_of, column, place}
 use Rattle.regress_program.specs.Program.{Out, Routine, Op, part, split, begin_loop, repeat, end_loop, unsets, begin_group, end_group, look, outcomes_by, matcher_of, start}
 use Rattle.regress_program.specs.Shape.{Fits, IsPart, IsProgram}
 use Rattle.regress_program.specs.Stays.{IsOnward, Stays}
 use Rattle.regress_tables.specs.declared.table.Table.{Table}
-use Rattle.regress_tables.specs.Evaluated.{reached_cell}
+use Rattle.regress_tables.specs.Evaluated.{IsOneEnd, reached_cell}
 use Rattle.regress_tables.specs.Table.{has_outcome, Tells, TellsOf, index, cell, IsRight, IsNext, AreRight, AreTables, IsFull, size}
 use Rattle.regress_program.proofs.lemmas.Onward.{Stays-tree, reached-one}
 use Rattle.regress_program.proofs.lemmas.Places.{row-onward, column-less, rows-less}
@@ -36,6 +39,25 @@ reached-within bytes d f position n None stays within is goes = tt
 reached-within bytes d f position n (Some q) stays within is goes = omega (arith, (reached-one bytes d f position q stays within goes).0)
 
 -- a set of one string
+-- a leaf that matches one character, by the next character
+pub one_ends : (u : Subject) (t : Tree) (position : ℕ) (read : Option (ℕ × ℕ)) (to : Option ℕ) → takes_one t ≡ true →
+    option_map read_of read ≡ next_character u.direction (of_bytes u.bytes) position → IsOneEnd t read to → GoesTo u position t to
+one_ends u t position None to one is none s at =
+    takes_one-steps u.setting u.bytes u.direction t s one
+    ∙ one_none u.direction (of_bytes u.bytes) (test_of t) s (ap (next_character u.direction (of_bytes u.bytes)) at ∙ sym is) ∙ ap (put s) (sym none)
+one_ends u t position (Some read) to one is ends s at =
+    let some : next_character u.direction (of_bytes u.bytes) s.position ≡ Some (read_of read) = ap (next_character u.direction (of_bytes u.bytes)) at ∙ sym is in
+    takes_one-steps u.setting u.bytes u.direction t s one ∙ by (test_of t read.0) refl some ∙ ap (put s) (sym ends)
+  where
+    by : (b : Bool) → test_of t read.0 ≡ b → next_character u.direction (of_bytes u.bytes) s.position ≡ Some (read_of read) →
+        one_character u.direction (of_bytes u.bytes) (test_of t) s ≡ put s (if test_of t read.0 then Some read.1 else None)
+    by true tested some =
+        one_yes u.direction (of_bytes u.bytes) (test_of t) s (read_of read) some tested
+        ∙ ap (λ (b : Bool). put s (if b then Some read.1 else None)) (sym tested)
+    by false tested some =
+        one_no u.direction (of_bytes u.bytes) (test_of t) s (read_of read) some tested
+        ∙ ap (λ (b : Bool). put s (if b then Some read.1 else None)) (sym tested)
+
 pub one_string : (u : Subject) (icase : Bool) (string : List ℕ) (to : Option ℕ) (position : ℕ) →
     ((s : MatchState) → s.position ≡ position → put s to
     ≡ all_of u.direction (of_bytes u.bytes) (denotes u.setting.table icase u.setting.flags.unicode) (in_order u.direction string) s) →

@@ -1,5 +1,7 @@
 -- What evaluating an instruction needs.
-use Rattle.std.specs.Prelude.{◌≡◌, ℕ, ◌==◌, Bool, false, not, ◌||◌, length, take, slice_get, Option, Some, None}
+use Rattle.std.specs.Prelude.{◌≡◌, ℕ, ◌==◌, Bool, false, not, ◌||◌, length, take, slice_get, Option, Some, None, if◌then◌else◌}
+use Rattle.regress_prefilter.specs.OneCharacter.{test_of}
+use Rattle.regress_tree.specs.Tree.{Tree}
 use Rattle.regress_leaves.specs.Subject.{subject}
 use Rattle.regress_program.specs.Linear.{is_back_reference}
 use Rattle.regress_program.specs.Program.{Op, Routine, Out, IsSolution}
@@ -13,6 +15,11 @@ use Rattle.regress_tables.specs.Table.{cell, IsNext, IsTableOf, AreRight, IsRigh
 abbrev pub reached_cell : Table → (next : ℕ) (moved : Bool) (position : ℕ) → Option ℕ → Bool
 reached_cell t next moved position None = false
 reached_cell t next moved position (Some q) = cell t next (moved || not (q == position)) q
+
+-- A leaf that matches one character ends at this position. The next character was read, with the position after it.
+abbrev pub IsOneEnd : Tree → (read : Option (ℕ × ℕ)) (to : Option ℕ) → Type 0
+IsOneEnd t None to = to ≡ None
+IsOneEnd t (Some read) to = to ≡ (if test_of t read.0 then Some read.1 else None)
 
 -- The bit that is evaluated next is that of this instruction. It is no back reference, and refers to earlier instructions
 -- and to routines whose tables are full.

@@ -1,7 +1,9 @@
 //! Evaluating an instruction: whether there is an outcome from a state.
-ghost use Rattle.std.specs.Prelude.{◌≡◌, ℕ, ◌<◌, ◌≤◌, IfSome, MatchOption, None, Some, false, length, slice_get};
-ghost use Rattle.regress_leaves.specs.Leaves.{GoesTo};
+ghost use Rattle.std.specs.Prelude.{◌≡◌, ℕ, ◌<◌, ◌≤◌, IfSome, MatchOption, None, Some, false, length, option_map, slice_get, true};
+ghost use Rattle.regress_prefilter.specs.OneCharacter.{takes_one};
+ghost use Rattle.regress_leaves.specs.Leaves.{GoesTo, read_of};
 ghost use Rattle.regress_leaves.specs.Subject.{subject};
+ghost use Rattle.regress_tree.specs.Reading.{direction_if, next_character, of_bytes};
 ghost use Rattle.regress_tree.specs.Steps.{MatchState};
 ghost use Rattle.regress_tree.specs.Tree.{tree};
 ghost use Rattle.regress_program.specs.Linear.{is_back_ref};
@@ -9,12 +11,12 @@ ghost use Rattle.regress_program.specs.Program.{Out, matcher_of, outcomes_by};
 ghost use Rattle.regress_program.specs.Shape.{IsPart};
 ghost use Rattle.regress_code.specs.Code.{code_routines};
 ghost use Rattle.regress_program.specs.Views.{op_in};
-ghost use Rattle.regress_tables.specs.Evaluated.{CanEvaluate, reached_cell};
+ghost use Rattle.regress_tables.specs.Evaluated.{CanEvaluate, IsOneEnd, reached_cell};
 ghost use Rattle.regress_tables.specs.Table.{AreRight, AreTables, IsRight, TellsOf, has_outcome};
 
 use crate::table::Table;
 use regress_code::Code;
-use regress_leaves::leaves::{all_of, exactly, simple_leaf};
+use regress_leaves::leaves::{accepts, all_of, exactly, simple_leaf};
 use regress_leaves::rules::MatchContext;
 use regress_leaves::test::Test;
 use regress_program::instruction::Instruction;
@@ -48,15 +50,17 @@ impl<'t> Input<'_, 't> {
     }
 }
 
-/// Returns whether there is an outcome from an instruction, by the bits that are evaluated already.
+/// Returns whether there is an outcome from an instruction, by the bits that are evaluated already and the next character.
 pub(crate) fn evaluate(
     input: Input<'_, '_>,
     table: &Table,
     instruction: Instruction,
     moved: bool,
     position: usize,
+    read: Option<(u32, usize)>,
 ) -> bool
     requires tables { AreTables input.text.now (code_routines input.code.now) input.tables.now }
+    requires read { option_map read_of read ≡ next_character (direction_if input.rules.backwards) (of_bytes input.text.now) position }
     requires can { CanEvaluate input table.now (op_in input.code.now.program.leaves.items instruction) moved position }
     ensures { (outs : ℕ → Out) → AreRight outs input.entry.tables.now → IsRight (outs (length input.entry.tables.now)) table.now →
         (let u = subject input.entry.rules input.entry.text.now in
@@ -70,7 +74,7 @@ pub(crate) fn evaluate(
             let Some(test) = input.test(leaf) else {
                 return false;
             };
-            let to = leaf_end(input.text, input.rules, &test.node, position);
+            let to = end_after(input.text, input.rules, &test.node, position, read);
             reached(table, next, moved, position, to)
         }
         Instruction::Characters { leaf, count, next } => {
@@ -99,6 +103,49 @@ pub(crate) fn evaluate(
             next,
         } => (looks(input, routine, position) != negate) & table.cell(next, moved, position),
     }
+}
+
+/// Returns the position at which a leaf ends, as `leaf_end` does, by the next character if it matches one.
+pub(crate) fn end_after(
+    text: &str,
+    rules: MatchContext<'_>,
+    node: &Node,
+    position: usize,
+    read: Option<(u32, usize)>,
+) -> Option<usize>
+    requires part { IsPart (tree node.now) }
+    requires captures { is_back_ref (tree node.now) ≡ false }
+    requires read { option_map read_of read ≡ next_character (direction_if rules.backwards) (of_bytes text.now) position }
+    ensures { GoesTo (subject rules.entry text.now) position (tree node.now) result }
+{
+    if is_set(node) {
+        one_end(node, read)
+    } else {
+        leaf_end(text, rules, node, position)
+    }
+}
+
+/// Returns whether a leaf matches one character, and is no literal in UTF-8.
+fn is_set(node: &Node) -> bool
+    ensures { result ≡ true → takes_one (tree node.now) ≡ true }
+{
+    match node {
+        Node::Char { .. }
+        | Node::ByteSet(_)
+        | Node::CharSet(_)
+        | Node::MatchAny
+        | Node::MatchAnyExceptLineTerminator
+        | Node::Bracket(_) => true,
+        _ => false,
+    }
+}
+
+/// Returns the position after the next character, if the leaf accepts it.
+fn one_end(node: &Node, read: Option<(u32, usize)>) -> Option<usize>
+    ensures { IsOneEnd (tree node.now) read result }
+{
+    let (c, to) = read?;
+    if accepts(node, c) { Some(to) } else { None }
 }
 
 /// Returns the position at which a leaf ends, or a loop over one character with an exact count; `None` if it fails. It is

@@ -15,6 +15,7 @@ use crate::evaluate::{Input, evaluate};
 use crate::keys::key_at;
 use crate::memo::{Memo, slot_of};
 use crate::table::Table;
+use regress_leaves::reading::next_read;
 use regress_leaves::rules::MatchContext;
 use regress_program::instruction::Routine;
 use std::alloc::{AllocError, Global};
@@ -188,8 +189,16 @@ fn fill_half(
     ensures grows { IfOk result (λ _. (extra : List Bool) × Grows table.old table.new extra) }
     ensures filled { IfOk result (λ _. IsFilled input.entry table.old → IsFilled input.entry table.new) }
 {
+    let read = next_read(input.text, input.rules.backwards, position);
     for pc in 0..routine.instructions.len() {
-        let bit = evaluate(input, table, routine.instructions[pc], moved, position);
+        let bit = evaluate(
+            input,
+            table,
+            routine.instructions[pc],
+            moved,
+            position,
+            read,
+        );
         table.push(bit)?;
     }
     Ok(())

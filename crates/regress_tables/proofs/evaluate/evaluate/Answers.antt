@@ -18,7 +18,7 @@ reached-requires-clause-to c =
     let u = subject c.args.input.rules c.args.input.text.now in
     let can = c.requires.can in
     reached-within u.bytes u.direction _ c.args.position _ _ (Stays-tree u.setting u.bytes u.direction (tree c.in-Some.test.now.node))
-    (omega (arith, can.length, can.next.position_in)) can.length c.leaf_end-to.ensures
+    (omega (arith, can.length, can.next.position_in)) can.length c.end_after-to.ensures
 
 pub reached-requires-in-Characters-clause-to : goal.reached-requires-in-Characters-clause-to
 reached-requires-in-Characters-clause-to c =
@@ -30,12 +30,16 @@ reached-requires-in-Characters-clause-to c =
     reached-within u.bytes u.direction _ c.args.position _ _ (Stays-tree u.setting u.bytes u.direction (exactly c.in-Characters.count (tree c.in-Some-test.test.now.node)))
     (omega (arith, can.length, can.next.position_in)) can.length goes
 
-pub leaf_end-to-requires : goal.leaf_end-to-requires
-leaf_end-to-requires c =
+pub end_after-to-requires : goal.end_after-to-requires
+end_after-to-requires c =
     let can = c.requires.can in
     let program = code_routines c.args.input.code.now in
     let fits = subst (Fits _ _ can.pc) (leaf_is _ _ _ _ _ c.in-Leaf.is c.in-Some.ensures) can.fits in
-    record { part = fits.0; captures = subst (λ op. is_back_reference op ≡ false) (leaf_is _ _ _ _ _ c.in-Leaf.is c.in-Some.ensures) can.no_reference }
+    record {
+      part = fits.0;
+      captures = subst (λ op. is_back_reference op ≡ false) (leaf_is _ _ _ _ _ c.in-Leaf.is c.in-Some.ensures) can.no_reference;
+      read = c.requires.read;
+    }
 
 pub looks-requires-clause-earlier : goal.looks-requires-clause-earlier
 looks-requires-clause-earlier c =
@@ -121,9 +125,9 @@ returns-in-Some c = λ outs tables right.
     let body_of = matcher_of u.setting u.bytes (code_routines c.args.input.code.now) outs in
     let can = c.requires.can in
     part_yields u.setting u.bytes u.direction body_of (outs _) c.args.table.now right can.pc c.args.moved c.args.position can.next _ _ can.fits
-    (tree c.in-Some.test.now.node) c.in-Leaf.next c.leaf_end-to.result _ (leaf_is _ _ _ _ _ c.in-Leaf.is c.in-Some.ensures)
+    (tree c.in-Some.test.now.node) c.in-Leaf.next c.end_after-to.result _ (leaf_is _ _ _ _ _ c.in-Leaf.is c.in-Some.ensures)
     (omega (arith, can.length, can.next.position_in)) can.length (ap direction_if can.backwards)
-    c.leaf_end-to.ensures c.reached.ensures
+    c.end_after-to.ensures c.reached.ensures
 
 pub returns-in-Some-test : goal.returns-in-Some-test
 returns-in-Some-test c = λ outs tables right.
