@@ -12,10 +12,11 @@ ghost use Rattle.regress_tables.specs.Slots.{AreInside, IsClean, capture_in};
 ghost use Rattle.regress_tables.specs.Table.{IsFull, IsRight, has_outcome};
 ghost use Rattle.regress_tables.specs.Walked.{CanWalk, Leads, StepsAt, at_of, place_of};
 
-use crate::evaluate::{Input, leaf_end};
+use crate::evaluate::{Input, end_after};
 use crate::table::Table;
 use crate::walker::Walker;
 use regress_leaves::leaves::exactly;
+use regress_leaves::reading::next_read;
 use regress_program::instruction::Instruction;
 use regress_program::ranges::changed_by_look;
 use std::alloc::AllocError;
@@ -57,7 +58,8 @@ pub(crate) fn step(
             let Some(test) = input.test(leaf) else {
                 return Ok(false);
             };
-            let to = leaf_end(input.text, input.rules, &test.node, position);
+            let read = next_read(input.text, input.rules.backwards, position);
+            let to = end_after(input.text, input.rules, &test.node, position, read);
             return Ok(walker.reach(next, to));
         }
         Instruction::Characters { leaf, count, next } => {

@@ -30,8 +30,8 @@ returns-in-Leaf-clause-below c = λ yields.
     let a = place_of c.args.walker.now in
     let can = c.requires.can in
     let fits = subst (Fits _ t.width a.pc) (leaf_is _ _ _ _ _ c.in-Leaf.is c.in-Some.ensures) can.fits in
-    part-below t a can.pc can.position u.setting u.bytes u.direction (tree c.in-Some.test.now.node) c.in-Leaf.next c.leaf_end-to.result c.reach.result
-    (place_of c.reach.new.self) fits.1 can.length (ap direction_if can.backwards) c.leaf_end-to.ensures (c.reach.ensures.at unknown) yields
+    part-below t a can.pc can.position u.setting u.bytes u.direction (tree c.in-Some.test.now.node) c.in-Leaf.next c.end_after-to.result c.reach.result
+    (place_of c.reach.new.self) fits.1 can.length (ap direction_if can.backwards) c.end_after-to.ensures (c.reach.ensures.at unknown) yields
 
 pub returns-in-Characters-clause-below : goal.returns-in-Characters-clause-below
 returns-in-Characters-clause-below c = λ yields.
@@ -120,7 +120,7 @@ pub returns-in-Leaf-clause-clean : goal.returns-in-Leaf-clause-clean
 returns-in-Leaf-clause-clean c = λ r is goes.
     follow-one c.args.input c.args.walker.now c.reach.new.self (op_in c.args.input.code.now.program.leaves.items c.args.instruction) c.requires.tabled c.requires.at r is (part (tree c.in-Some.test.now.node) c.in-Leaf.next) 0 c.in-Leaf.next
     (leaf_is _ _ _ _ _ c.in-Leaf.is c.in-Some.ensures) refl tt
-    (reaches-pc c.in-Leaf.next (place_of c.args.walker.now) (place_of c.reach.new.self) c.reach.result c.leaf_end-to.result (c.reach.ensures.at unknown) goes) c.reach.ensures.slots
+    (reaches-pc c.in-Leaf.next (place_of c.args.walker.now) (place_of c.reach.new.self) c.reach.result c.end_after-to.result (c.reach.ensures.at unknown) goes) c.reach.ensures.slots
 
 pub returns-in-Characters-clause-clean : goal.returns-in-Characters-clause-clean
 returns-in-Characters-clause-clean c = λ r is goes.
@@ -215,8 +215,8 @@ returns-in-Leaf-clause-leads c = λ outs solution full right other some.
     let outcomes : Op → List MatchState = λ o. outcomes_by u.setting u.bytes u.direction body_of (outs i) o a in
     let is : outcomes (op_in c.args.input.code.now.program.leaves.items c.args.instruction) ≡ outcomes (part (tree c.in-Some.test.now.node) c.in-Leaf.next) =
     ap outcomes (leaf_is _ _ _ _ _ c.in-Leaf.is c.in-Some.ensures) in
-    part-leads (outs i) (outcomes (op_in c.args.input.code.now.program.leaves.items c.args.instruction)) c.in-Leaf.next c.leaf_end-to.result c.reach.result a (at_of capture_of c.reach.new.self)
-    (is ∙ ap (flat_map (λ s. outs i (reach c.in-Leaf.next a s))) (c.leaf_end-to.ensures a.state refl)) (c.reach.ensures.at capture_of) some
+    part-leads (outs i) (outcomes (op_in c.args.input.code.now.program.leaves.items c.args.instruction)) c.in-Leaf.next c.end_after-to.result c.reach.result a (at_of capture_of c.reach.new.self)
+    (is ∙ ap (flat_map (λ s. outs i (reach c.in-Leaf.next a s))) (c.end_after-to.ensures a.state refl)) (c.reach.ensures.at capture_of) some
 
 pub returns-in-Characters-clause-leads : goal.returns-in-Characters-clause-leads
 returns-in-Characters-clause-leads c = λ outs solution full right other some.
