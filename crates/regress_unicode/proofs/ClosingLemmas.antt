@@ -1,14 +1,14 @@
 -- Steps of the closure of a set: leaving out, appending and stopping at intervals.
-use Rattle.std.proofs.Common.{◌≡◌, ℕ, ◌+◌, ◌-◌, ◌<◌, ◌≤◌, ◌==◌, Bool, true, false, ◌||◌, IsTrue, List, [], ◌∷◌, ◌++◌, length, take, drop, get_or, suc, zero, le_refl, inl, inr, refl, sym, ap, subst, ◌∙◌, ◌⊎◌, ℤ, pos, negsuc, IsPermutation, Option, Some, None, slice_get, arith}
+use Rattle.std.proofs.Common.{◌≡◌, ℕ, ◌+◌, ◌-◌, ◌<◌, ◌≤◌, ◌==◌, Bool, true, false, ◌||◌, IsTrue, List, [], ◌∷◌, ◌++◌, length, take, drop, get_or, suc, zero, le_refl, inl, inr, refl, sym, ap, subst, ◌∙◌, ◌⊎◌, ℤ, pos, negsuc, IsPermutation, Option, Some, None, slice_get, max, arith}
 use Rattle.std.proofs.lemmas.Bool.{cases_lt}
 use Rattle.std.proofs.lemmas.Bool.Decides.{nat_tests}
 use Rattle.std.proofs.lemmas.List.{take_all, length-drop, get_or_read}
 use Rattle.std.proofs.lemmas.List.Sorted.{list_any-IsPermutation}
 use Rattle.std.proofs.Math.Seq.{take-nil}
-use Rattle.std.proofs.Math.Bool.{or-false}
+use Rattle.std.proofs.Math.Bool.{or-false, or-true}
 use Rattle.std.specs.List.{list_any}
 use Rattle.std.specs.List.Sorted.{IsNonDecreasingBy}
-use Rattle.regress_base.proofs.lemmas.Sets.{gt-is_within, is_member-nil, is_member-cons, is_member-one, is_member-append, canonical_parts, canonical_lower, from_first, member_above, no_member_below}
+use Rattle.regress_base.proofs.lemmas.Sets.{or_assoc, gt-is_within, is_member-nil, is_member-cons, is_member-one, is_member-append, is_member-take_more, canonical_parts, canonical_lower, from_first, member_above, no_member_below}
 use Rattle.regress_base.specs.Intervals.{Bounds, is_within, is_member, is_canonical_from, IsCanonical}
 use Rattle.regress_unicode.specs.declared.shift.Shift.{Shift}
 use Rattle.regress_unicode.specs.FoldEntries.{FoldEntry, moved}
@@ -32,6 +32,107 @@ pub pushed_one : (xs ys : List Bounds) (iv : Bounds) (k m c : ℕ) → ys ≡ xs
 pushed_one xs ys iv k m c is one same =
     pushed xs ys iv c is
     ∙ ap (λ b. is_member xs c || b) (ap (λ v. is_within v c) one ∙ one_within k c ∙ ap (λ n. c == n) same)
+
+-- a set outside which something was added, in a larger set
+pub widened : (small large old new added : Bool) → (small ≡ true → large ≡ true) → (small || new) ≡ ((small || old) || added) →
+    (large || new) ≡ ((large || old) || added)
+widened small true old new added within is = refl
+widened false false old new added within is = is
+widened true false old new added within is = let no : false ≡ true = within refl in cc
+
+taken_within : (ivs : List Bounds) (n c : ℕ) → is_member (take n ivs) c ≡ true → is_member ivs c ≡ true
+taken_within ivs zero c member = let no : false ≡ true = sym (is_member-nil c) ∙ member in cc
+taken_within [] (suc n) c member = member
+taken_within (iv ∷ ivs) (suc n) c member =
+    is_member-cons iv ivs c ∙ by_first (is_within iv c) (sym (is_member-cons iv (take n ivs) c) ∙ member) (taken_within ivs n c)
+  where
+    by_first : (b : Bool) → (b || is_member (take n ivs) c) ≡ true → (is_member (take n ivs) c ≡ true → is_member ivs c ≡ true) →
+        (b || is_member ivs c) ≡ true
+    by_first true e rest = refl
+    by_first false e rest = rest e
+
+-- an element of the list has only members
+pub member_at : (ivs : List Bounds) (i c : ℕ) (iv : Bounds) → i < length ivs → iv ≡ get_or ivs i iv → is_within iv c ≡ true →
+    is_member ivs c ≡ true
+member_at ivs i c iv inside is within =
+    let here : is_within (get_or ivs i iv) c ≡ true = sym (ap (λ v. is_within v c) is) ∙ within in
+    let more = is_member-take_more ivs i c iv inside in
+    taken_within ivs (i + 1) c (more ∙ ap (λ b. is_member (take i ivs) c || b) here ∙ or-true (is_member (take i ivs) c))
+
+-- a code point from the first one to the last one
+pub source_in : (iv : Bounds) (k x : ℕ) → iv.first ≤ k → k ≤ iv.last → (x == k) ≡ true → is_within iv x ≡ true
+unfolding is_within
+source_in iv k x from to same = grind (arith, nat_tests, same)
+
+-- a code point and the next one
+pub two_within : (k c : ℕ) → is_within (record { first = k; last = k + 1 }) c ≡ ((c == k) || (c == k + 1))
+unfolding is_within
+two_within k c = grind (arith, nat_tests)
+
+-- two intervals as one
+pub joined_within : (a b : Bounds) (last c : ℕ) → a.first ≤ b.first → b.first ≤ a.last + 1 → a.first ≤ a.last → b.first ≤ b.last → last ≡ max a.last b.last →
+    is_within (record { first = a.first; last = last }) c ≡ (is_within a c || is_within b c)
+unfolding is_within
+joined_within a b last c from to a_ordered b_ordered is = grind (arith, nat_tests)
+
+-- two intervals are appended
+pub pushed_both : (xs ys zs : List Bounds) (a b : Bounds) (c : ℕ) → ys ≡ xs ++ a ∷ [] → zs ≡ ys ++ b ∷ [] →
+    is_member zs c ≡ (is_member xs c || (is_within a c || is_within b c))
+pushed_both xs ys zs a b c is_first is_second =
+    pushed ys zs b c is_second ∙ ap (λ v. v || is_within b c) (pushed xs ys a c is_first)
+    ∙ sym (or_assoc (is_member xs c) (is_within a c) (is_within b c))
+
+-- the last interval is taken out, and put back with another one
+pub put_back : (old rest new : List Bounds) (last interval : Bounds) (c : ℕ) → old ≡ rest ++ last ∷ [] →
+    is_member new c ≡ (is_member rest c || (is_within last c || is_within interval c)) → is_member new c ≡ (is_member old c || is_within interval c)
+put_back old rest new last interval c is_old is_new =
+    is_new ∙ or_assoc (is_member rest c) (is_within last c) (is_within interval c)
+    ∙ ap (λ b. b || is_within interval c) (sym (pushed rest old last c is_old))
+
+-- there was no last interval
+pub put_first : (old rest new : List Bounds) (interval : Bounds) (c : ℕ) → old ≡ rest ++ [] → new ≡ rest ++ interval ∷ [] →
+    is_member new c ≡ (is_member old c || is_within interval c)
+put_first old rest new interval c is_old is_new =
+    pushed rest new interval c is_new
+    ∙ ap (λ b. b || is_within interval c)
+    (sym (ap (λ l. is_member l c) is_old ∙ is_member-append rest [] c ∙ ap (λ b. is_member rest c || b) (is_member-nil c) ∙ or-false (is_member rest c)))
+
+-- a code point with the next one or the one before, or its target alone
+pub target_after : (old new : List Bounds) (iv : Bounds) (source target c : ℕ) → source + 1 ≡ target → iv ≡ record { first = source; last = target } →
+    is_member new c ≡ (is_member old c || is_within iv c) →
+    ((c == source) || is_member new c) ≡ (((c == source) || is_member old c) || (c == target))
+target_after old new iv source target c next is added =
+    ap (λ b. (c == source) || b) (added ∙ ap (λ b. is_member old c || b) (ap (λ v. is_within v c) is ∙ two))
+    ∙ by_test (c == source) (is_member old c) (c == target)
+  where
+    two : is_within (record { first = source; last = target }) c ≡ ((c == source) || (c == target))
+    two = rw (← next) (two_within source c)
+
+    by_test : (s o t : Bool) → (s || (o || (s || t))) ≡ ((s || o) || t)
+    by_test true o t = refl
+    by_test false true t = refl
+    by_test false false t = refl
+
+pub target_before : (old new : List Bounds) (iv : Bounds) (source target c : ℕ) → target + 1 ≡ source → iv ≡ record { first = target; last = source } →
+    is_member new c ≡ (is_member old c || is_within iv c) →
+    ((c == source) || is_member new c) ≡ (((c == source) || is_member old c) || (c == target))
+target_before old new iv source target c next is added =
+    ap (λ b. (c == source) || b) (added ∙ ap (λ b. is_member old c || b) (ap (λ v. is_within v c) is ∙ two))
+    ∙ by_test (c == source) (is_member old c) (c == target)
+  where
+    two : is_within (record { first = target; last = source }) c ≡ ((c == target) || (c == source))
+    two = rw (← next) (two_within target c)
+
+    by_test : (s o t : Bool) → (s || (o || (t || s))) ≡ ((s || o) || t)
+    by_test true o t = refl
+    by_test false true t = refl
+    by_test false false true = refl
+    by_test false false false = refl
+
+pub target_alone : (old new : List Bounds) (iv : Bounds) (source target c : ℕ) → new ≡ old ++ iv ∷ [] → iv ≡ record { first = target; last = target } →
+    ((c == source) || is_member new c) ≡ (((c == source) || is_member old c) || (c == target))
+target_alone old new iv source target c is one =
+    ap (λ b. (c == source) || b) (pushed_one old new iv target target c is one refl) ∙ or_assoc (c == source) (is_member old c) (c == target)
 
 -- ---- intervals that are left out
 
@@ -61,6 +162,15 @@ slice_canonical ivs k can = rw (to_end ivs k) (canonical_drop 0 ivs k can)
 pub slice_members : (ivs : List Bounds) (k low x : ℕ) → ((j : ℕ) (d : Bounds) → j < k → (get_or ivs j d).last < low) →
     low ≤ x → is_member (take (length ivs - k) (drop k ivs)) x ≡ is_member ivs x
 slice_members ivs k low x below le = rw (to_end ivs k) (members_after ivs k low x (λ j d lt inside. below j d lt) le)
+
+dropped_within : (ivs : List Bounds) (k x : ℕ) → is_member (drop k ivs) x ≡ true → is_member ivs x ≡ true
+dropped_within ivs zero x member = member
+dropped_within [] (suc k) x member = member
+dropped_within (iv ∷ ivs) (suc k) x member =
+    is_member-cons iv ivs x ∙ ap (λ b. is_within iv x || b) (dropped_within ivs k x member) ∙ or-true (is_within iv x)
+
+pub slice_within : (ivs : List Bounds) (k x : ℕ) → is_member (take (length ivs - k) (drop k ivs)) x ≡ true → is_member ivs x ≡ true
+slice_within ivs k x member = dropped_within ivs k x (sym (ap (λ (l : List Bounds). is_member l x) (to_end ivs k)) ∙ member)
 
 -- the intervals before an index contain every member below the interval at the index
 members_before : (low : ℕ) (ivs : List Bounds) (i x : ℕ) (d : Bounds) → IsTrue (is_canonical_from low ivs) → i < length ivs →

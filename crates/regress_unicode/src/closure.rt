@@ -1,6 +1,6 @@
 //! The closures of a set under simple case folding and under upper case.
-ghost use Rattle.std.specs.Prelude.{◌≡◌, ℕ, ◌≤◌, ◌||◌, Bool, List, All, IsTrue, IfOk, OnOk};
-ghost use Rattle.regress_base.specs.Intervals.{Bounds, is_within, is_member, IsCanonical};
+ghost use Rattle.std.specs.Prelude.{◌≡◌, ℕ, ◌≤◌, ◌||◌, ◌==◌, Bool, List, All, IsTrue, IfOk, IfSome, OnOk};
+ghost use Rattle.regress_base.specs.Intervals.{Bounds, code_point_max, is_within, is_member, IsCanonical};
 ghost use Rattle.regress_unicode.specs.ValidEntries.{is_in_order, are_targets_in_range};
 ghost use Rattle.regress_unicode.specs.Shifts.{IsShift, maps_to, maps_to_by, forward, backward};
 ghost use Rattle.regress_base.specs.Table.{is_in_closure};
@@ -226,6 +226,7 @@ fn skip_below(intervals: &[Interval], low: u32) -> &[Interval]
 fn search(intervals: &[Interval], low: u32) -> &[Interval]
     requires { IsCanonical intervals.now }
     ensures canonical { IsCanonical result.now }
+    ensures within { (c : ℕ) → IsTrue (is_member result.now c) → IsTrue (is_member intervals.now c) }
     ensures members { (c : ℕ) → low ≤ c → is_member result.now c ≡ is_member intervals.now c }
 {
     &intervals[intervals.partition_point(|interval| interval.last() < low)..]
@@ -261,8 +262,8 @@ fn maps_into_one(shift: &Shift, intervals: &[Interval]) -> bool
     }
 }
 
-/// Appends what the shift maps the code points of the intervals to. Stops at the first interval after the range of the
-/// shift.
+/// Appends what the shift maps the code points of the intervals to, and perhaps code points of the intervals. Stops at
+/// the first interval after the range of the shift.
 fn push_moved(
     found: &mut Vec<Interval>,
     shift: &Shift,
@@ -270,8 +271,8 @@ fn push_moved(
 ) -> Result<(), AllocError>
     requires shift { IsShift shift.now }
     requires canonical { IsCanonical intervals.now }
-    ensures { OnOk result ((c : ℕ) → is_member found.new.items c ≡
-        (is_member found.old.items c || maps_to shift.now (is_member intervals.now) c)) }
+    ensures { OnOk result ((c : ℕ) → (is_member intervals.now c || is_member found.new.items c) ≡
+        ((is_member intervals.now c || is_member found.old.items c) || maps_to shift.now (is_member intervals.now) c)) }
 {
     for interval in intervals {
         if shift.last < interval.first() {
@@ -282,15 +283,15 @@ fn push_moved(
     Ok(())
 }
 
-/// Appends what the shift maps the code points of one interval to.
+/// Appends what the shift maps the code points of one interval to, and perhaps code points of the interval.
 fn push_overlap(
     found: &mut Vec<Interval>,
     shift: &Shift,
     interval: Interval,
 ) -> Result<(), AllocError>
     requires { IsShift shift.now }
-    ensures { OnOk result ((c : ℕ) → is_member found.new.items c ≡
-        (is_member found.old.items c || maps_to shift.now (is_within interval) c)) }
+    ensures { OnOk result ((c : ℕ) → (is_within interval c || is_member found.new.items c) ≡
+        ((is_within interval c || is_member found.old.items c) || maps_to shift.now (is_within interval) c)) }
 {
     let first = shift.first.max(interval.first());
     let last = shift.last.min(interval.last());
@@ -303,9 +304,64 @@ fn push_overlap(
     }
     for c in first..last + 1 {
         if shift.moves(c) {
-            let mapped = shift.apply(c);
-            found.push(Interval::new(mapped, mapped))?;
+            push_target(found, c, shift.apply(c))?;
         }
     }
     Ok(())
+}
+
+/// Appends `target`, to which `source` is mapped, and `source` too if it is next to it: so letters in a row, of which
+/// every second one is a member, become one interval with their canonical forms.
+fn push_target(found: &mut Vec<Interval>, source: u32, target: u32) -> Result<(), AllocError>
+    requires source { source ≤ code_point_max }
+    requires target { target ≤ code_point_max }
+    ensures { OnOk result ((c : ℕ) → ((c == source) || is_member found.new.items c) ≡
+        (((c == source) || is_member found.old.items c) || (c == target))) }
+{
+    if source + 1 == target {
+        push_joined(found, Interval::new(source, target))
+    } else if target + 1 == source {
+        push_joined(found, Interval::new(target, source))
+    } else {
+        found.push(Interval::new(target, target))?;
+        Ok(())
+    }
+}
+
+/// Appends the interval, or extends the last one by it.
+fn push_joined(found: &mut Vec<Interval>, interval: Interval) -> Result<(), AllocError>
+    ensures { OnOk result ((c : ℕ) → is_member found.new.items c ≡ (is_member found.old.items c || is_within interval c)) }
+{
+    match found.pop() {
+        Some(last) => push_both(found, last, interval),
+        None => {
+            found.push(interval)?;
+            Ok(())
+        }
+    }
+}
+
+/// Appends both intervals, as one if possible.
+fn push_both(found: &mut Vec<Interval>, a: Interval, b: Interval) -> Result<(), AllocError>
+    ensures { OnOk result ((c : ℕ) → is_member found.new.items c ≡ (is_member found.old.items c || (is_within a c || is_within b c))) }
+{
+    match joined(a, b) {
+        Some(both) => found.push(both)?,
+        None => {
+            found.push(a)?;
+            found.push(b)?;
+        }
+    }
+    Ok(())
+}
+
+/// Returns both as one interval if the second one begins in the first one or right after it.
+fn joined(a: Interval, b: Interval) -> Option<Interval>
+    ensures { IfSome result (λ both. (c : ℕ) → is_within both c ≡ (is_within a c || is_within b c)) }
+{
+    if a.first() <= b.first() && b.first() <= a.last() + 1 {
+        Some(Interval::new(a.first(), a.last().max(b.last())))
+    } else {
+        None
+    }
 }

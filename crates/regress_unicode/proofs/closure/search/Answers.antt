@@ -2,11 +2,14 @@
 use Rattle.std.proofs.Common.{ltb, arith, rules}
 use borrow.Author.Tests.{ltb-true}
 use Rattle.std.proofs.lemmas.List.Sorted.{IsPartitionPoint-from_clause, IsPartitionedBy-ltb}
-use Rattle.regress_unicode.proofs.ClosingLemmas.{slice_canonical, slice_members, lasts_rise}
+use Rattle.regress_unicode.proofs.ClosingLemmas.{slice_canonical, slice_within, slice_members, lasts_rise}
 use Rattle.regress_unicode.proofs.closure.search.Goals as goal
 
 pub returns-clause-canonical : goal.returns-clause-canonical
 returns-clause-canonical c = slice_canonical c.args.intervals.now c.partition_point.result c.requires
+
+pub returns-clause-within : goal.returns-clause-within
+returns-clause-within c x = slice_within c.args.intervals.now c.partition_point.result x
 
 pub returns-clause-members : goal.returns-clause-members
 returns-clause-members c x le =
