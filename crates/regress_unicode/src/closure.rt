@@ -166,7 +166,7 @@ fn targets(
             return Ok(found);
         }
         if rest[0].first() <= mapping.last() {
-            push_targets(&mut found, &Shift::forward(mapping), intervals)?;
+            push_targets(&mut found, &Shift::forward(mapping), intervals, rest)?;
         }
     }
     Ok(found)
@@ -192,7 +192,7 @@ fn sources(
     for mapping in mappings {
         let first = mapping.shifted(mapping.first());
         if first <= high && low <= mapping.shifted(mapping.last()) {
-            push_targets(&mut found, &Shift::backward(mapping), intervals)?;
+            push_sources(&mut found, &Shift::backward(mapping), intervals)?;
         }
     }
     Ok(found)
@@ -213,6 +213,7 @@ fn ends(intervals: &[Interval]) -> (u32, u32)
 fn skip_below(intervals: &[Interval], low: u32) -> &[Interval]
     requires { IsCanonical intervals.now }
     ensures canonical { IsCanonical result.now }
+    ensures within { (c : ℕ) → IsTrue (is_member result.now c) → IsTrue (is_member intervals.now c) }
     ensures members { (c : ℕ) → low ≤ c → is_member result.now c ≡ is_member intervals.now c }
 {
     let mut position = 0;
@@ -232,8 +233,9 @@ fn search(intervals: &[Interval], low: u32) -> &[Interval]
     &intervals[intervals.partition_point(|interval| interval.last() < low)..]
 }
 
-/// Appends what the shift maps the members of the intervals to, unless it maps its whole range to members.
-fn push_targets(
+/// Appends what the shift maps the members of the intervals to, unless it maps its whole range to members. Finds the
+/// first interval in its range by a binary search.
+fn push_sources(
     found: &mut Vec<Interval>,
     shift: &Shift,
     intervals: &[Interval],
@@ -245,6 +247,28 @@ fn push_targets(
 {
     if !maps_into_one(shift, intervals) {
         push_moved(found, shift, search(intervals, shift.first))?;
+    }
+    Ok(())
+}
+
+/// Appends what the shift maps the members of the intervals to, unless it maps its whole range to members. `rest` has
+/// the intervals in its range.
+fn push_targets(
+    found: &mut Vec<Interval>,
+    shift: &Shift,
+    intervals: &[Interval],
+    rest: &[Interval],
+) -> Result<(), AllocError>
+    requires shift { IsShift shift.now }
+    requires canonical { IsCanonical intervals.now }
+    requires rest_canonical { IsCanonical rest.now }
+    requires rest_within { (c : ℕ) → IsTrue (is_member rest.now c) → IsTrue (is_member intervals.now c) }
+    requires rest_members { (c : ℕ) → shift.now.first ≤ c → is_member rest.now c ≡ is_member intervals.now c }
+    ensures { OnOk result ((c : ℕ) → (is_member intervals.now c || is_member found.new.items c) ≡
+        ((is_member intervals.now c || is_member found.old.items c) || maps_to shift.now (is_member intervals.now) c)) }
+{
+    if !maps_into_one(shift, intervals) {
+        push_moved(found, shift, rest)?;
     }
     Ok(())
 }

@@ -1,4 +1,4 @@
--- What the shift maps is the same for all intervals as for those that do not end before its range.
+-- What the shift maps is the same for all intervals as for those that are left.
 use Rattle.std.proofs.Common.{◌||◌, ◌∙◌, ap}
 use Rattle.regress_base.specs.Intervals.{is_member}
 use Rattle.regress_unicode.specs.Shifts.{maps_to}
@@ -9,7 +9,8 @@ use Rattle.regress_unicode.proofs.closure.push_targets.Goals as goal
 pub returns-in_ok-push_moved : goal.returns-in_ok-push_moved
 returns-in_ok-push_moved c x =
     let member = is_member c.args.intervals.now in
-    widened (is_member c.search.result.now x) (member x) (is_member c.args.found.now.items x) _ (maps_to c.args.shift.now (is_member c.search.result.now) x)
-    (c.search.ensures.within x) (c.in_ok-push_moved.ensures x)
+    let left = is_member c.args.rest.now in
+    widened (left x) (member x) (is_member c.args.found.now.items x) _ (maps_to c.args.shift.now left x)
+    (c.requires.rest_within x) (c.in_ok-push_moved.ensures x)
     ∙ ap (λ b. (member x || is_member c.args.found.now.items x) || b)
-    (maps_to-same c.args.shift.now (is_member c.search.result.now) member x (λ y from to. c.search.ensures.members y from))
+    (maps_to-same c.args.shift.now left member x (λ y from to. c.requires.rest_members y from))

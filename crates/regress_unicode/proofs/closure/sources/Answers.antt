@@ -8,7 +8,7 @@ use Rattle.regress_unicode.specs.Shifts.{maps_to_by, backward}
 use Rattle.regress_unicode.proofs.ShiftLemmas.{mappings_more}
 use Rattle.regress_unicode.proofs.ClosingLemmas.{found_none, mapping_no_more, beyond}
 use Rattle.regress_unicode.proofs.closure.sources.Goals as goal
-use Rattle.regress_unicode.proofs.closure.sources.Goals.{then-first-high+then-low-shifted+in_ok-push_targets, else-first-high, else-first-high-via-then-first-high+else-low-shifted, else-first-high-via-else-first-high}
+use Rattle.regress_unicode.proofs.closure.sources.Goals.{then-first-high+then-low-shifted+in_ok-push_sources, else-first-high, else-first-high-via-then-first-high+else-low-shifted, else-first-high-via-else-first-high}
 
 -- a code point up to the last one is below every number that the last one is below; likewise above for the first one
 below : (y last found low : ℕ) → y ≤ last → found ≡ last → found < low → y < low
@@ -33,10 +33,10 @@ loop-mapping-preserved c =
     let nonempty = All-more (λ (mapping : FoldEntry). 1 ≤ mapping.length) mappings i mapping c.loop-mapping-test.true c.loop-mapping.invariant.nonempty
     (subst (λ (mapping : FoldEntry). 1 ≤ mapping.length) c.mapping-item.is c.first.ensures.nonempty) in
     elim c.if-first-high.branch [
-      | then-first-high+then-low-shifted+in_ok-push_targets w ↦ rw w.found-is (record {
+      | then-first-high+then-low-shifted+in_ok-push_sources w ↦ rw w.found-is (record {
         members = λ x. mappings_more backward (is_member c.args.intervals.now) mappings i x mapping w.backward.result
             (is_member c.args.intervals.now x) _ _ c.loop-mapping-test.true c.mapping-item.is w.backward.ensures.value
-            (c.loop-mapping.invariant.members x) (w.in_ok-push_targets.ensures x);
+            (c.loop-mapping.invariant.members x) (w.in_ok-push_sources.ensures x);
         nonempty = nonempty;
       })
       | else-first-high w ↦ rw w.found-is (record {
