@@ -77,6 +77,10 @@ typedef struct regress_matches {
 /* Use the small table instead of the one of all of Unicode: for patterns in ASCII, and for tests. It has few
    properties; letters in names are those of ASCII and from U+00C0 to U+00F6. */
 #define REGRESS_SMALL_TABLE 32u
+/* The dialect of a pattern, for regress_compile alone; docs/syntax.md has the rules in which the dialects differ.
+   Without either of these bits it is the default of the library, REGRESS. In ECMA, UNICODE_SETS implies UNICODE. */
+#define REGRESS_DIALECT_ECMA 0x10000u
+#define REGRESS_DIALECT_REGRESS 0x20000u
 
 /* The limits of a compiled pattern; 0 is the default of each, so {0} are the default limits.
 
@@ -175,7 +179,8 @@ REGRESS_INLINE uint32_t regress_bad_input(size_t *needed) {
 /* Returns the version of the calls of the library, REGRESS_ABI_VERSION of the header that it was built with. */
 uint32_t regress_abi_version(void);
 
-/* Compiles a pattern, and writes `handle`. A handle that it had before is not freed.
+/* Compiles a pattern, and writes `handle`. A handle that it had before is not freed. `flags` is a sum of flags, and of
+   at most one dialect.
 
    Returns OK, SYNTAX, TOO_LARGE, MEMORY or BAD_INPUT. With OK `handle` is written, else it is unchanged. With SYNTAX
    `kind` is the kind of the syntax error and `position` its position, from 0 to the number of code points of the

@@ -4,10 +4,10 @@ ghost use Rattle.regress.specs.Costs.{AllAreTooCostly, IsTooCostly, factor_of, f
 ghost use Rattle.regress.specs.Compiled.{groups_of, outcomes_of};
 ghost use Rattle.regress.specs.Memory.{TablesNeedMore};
 ghost use Rattle.regress.specs.Searched.{MatchesSomewhere};
-ghost use Rattle.regress_capi.specs.CompileResults.{CompileResult, limits_of};
+ghost use Rattle.regress_capi.specs.CompileResults.{CompileResult, options_of};
 ghost use Rattle.regress_capi.specs.Fault.{HasKind, IsTextOf};
 ghost use Rattle.regress_capi.specs.Reasons.{reason_number};
-ghost use Rattle.regress_capi.specs.Request.{setting_by, IsTextRequest};
+ghost use Rattle.regress_capi.specs.Request.{dialect_of, setting_in, IsCompileRequest};
 ghost use Rattle.regress_capi.specs.SearchResults.{SearchResult, TestResult};
 ghost use Rattle.regress_capi.specs.Spans.{AreEndsOfAll, AreEndsOfFirst};
 ghost use Rattle.regress_capi.specs.TextResults.{HasGroup, IsNameOf, TextResult};
@@ -47,8 +47,8 @@ pub extern "C" fn regress_compile_raw(
     kind: &mut u32,
     position: &mut usize,
 ) -> u32
-    ensures status { CompileResult (IsTextRequest pattern.now flags 0) (setting_by flags) pattern.now (limits_of limits.now)
-        handle.old.value result kind.new position.new handle.new.value }
+    ensures status { let dialect = dialect_of flags in CompileResult (IsCompileRequest pattern.now flags) (setting_in dialect flags)
+        pattern.now (options_of dialect limits.now) handle.old.value result kind.new position.new handle.new.value }
 {
     let reply = write_handle(alloc, pattern, flags, limits, handle);
     *kind = reply.kind;

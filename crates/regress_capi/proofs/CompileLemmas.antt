@@ -4,8 +4,8 @@ use Rattle.std.specs.Prelude.{Some}
 use Rattle.regress_front.specs.Steps.{Setting}
 use Rattle.regress_lexer.specs.FaultKinds.{number_of}
 use Rattle.regress_lexer.specs.declared.fault.FaultKind.{FaultKind}
-use Rattle.regress_parse.specs.Rejected.{NoneIsAccepted}
-use Rattle.regress_parse.specs.Settled.{IsReported, IsSyntaxError}
+use Rattle.regress_parse.specs.Rejected.{NoneIsAcceptedIn}
+use Rattle.regress_parse.specs.Settled.{IsReportedIn, IsSyntaxErrorIn}
 use Rattle.regress.specs.Failures.{IsTooLarge}
 use Rattle.regress.specs.declared.limits.Options.{Options}
 use Rattle.regress.specs.declared.pattern.Regex.{Regex}
@@ -17,13 +17,13 @@ module _ {Asked : Type 0} {setting : Setting} {text : List ℕ} {options : Optio
   compile-ok new regex is made =
       subst (λ v. CompileResult Asked setting text options old 0 0 0 v) (sym made) (compiled asked (subst (λ t. IsCompiledWithin setting t options regex) same is))
 
-  pub compile-rejected : (kind : FaultKind) (message : List ℕ) (position : ℕ) → IsSyntaxError setting (chars pattern) kind message position →
+  pub compile-rejected : (kind : FaultKind) (message : List ℕ) (position : ℕ) → IsSyntaxErrorIn options.dialect setting (chars pattern) kind message position →
       CompileResult Asked setting text options old 5 (number_of kind) position old
   compile-rejected kind message position error =
-      rejected asked (subst (λ t. NoneIsAccepted setting (chars t)) same error.rejected) (record {
+      rejected asked (subst (λ t. NoneIsAcceptedIn options.dialect setting (chars t)) same error.rejected) (record {
         kind = kind;
         numbered = refl;
-        reported = subst (λ t. IsReported setting (chars t) kind position) same error.reported;
+        reported = subst (λ t. IsReportedIn options.dialect setting (chars t) kind position) same error.reported;
       })
 
   pub compile-large : IsTooLarge setting (chars pattern) options → CompileResult Asked setting text options old 6 0 0 old

@@ -1,23 +1,25 @@
 -- The result of a call that compiles a pattern.
 use Rattle.std.specs.Prelude.{◌==◌, ℕ, List, Option, Some, chars, if◌then◌else◌}
 use Rattle.regress_front.specs.Steps.{Setting}
-use Rattle.regress_parse.specs.Rejected.{NoneIsAccepted}
-use Rattle.regress.specs.Compiled.{IsCompiled}
+use Rattle.regress_lexer.specs.declared.dialect.Dialect.{Dialect}
+use Rattle.regress_parse.specs.Rejected.{NoneIsAcceptedIn}
+use Rattle.regress.specs.Compiled.{IsCompiledIn}
 use Rattle.regress.specs.Kept.{Keeps}
 use Rattle.regress.specs.Failures.{IsTooLarge}
 use Rattle.regress.specs.Limits.{default_options}
 use Rattle.regress.specs.declared.limits.Options.{Options}
 use Rattle.regress.specs.declared.pattern.Regex.{Regex}
-use Rattle.regress_capi.specs.Results.{IsError}
+use Rattle.regress_capi.specs.Results.{IsErrorIn}
 use Rattle.regress_capi.specs.declared.limits.Limits.{Limits}
 
 -- a limit, where 0 is the default
 abbrev pub or_default : (limit default : ℕ) → ℕ
 or_default limit default = if limit == 0 then default else limit
 
--- the limits, where 0 is the default of each
-abbrev pub limits_of : Limits → Options
-limits_of l = record {
+-- the dialect and the limits, where 0 is the default of each limit
+abbrev pub options_of : Dialect → Limits → Options
+options_of dialect l = record {
+  dialect = dialect;
   steps = or_default l.steps default_options.steps;
   nodes = or_default l.nodes default_options.nodes;
   instructions = or_default l.instructions default_options.instructions;
@@ -25,9 +27,10 @@ limits_of l = record {
   memory = or_default l.memory default_options.memory;
 }
 
--- The regular expression is compiled from this text, within these limits, and searches within them.
+-- The regular expression is compiled from this text, in the dialect and within the limits of the options, and searches
+-- within them.
 pub record IsCompiledWithin (setting : Setting) (text : List ℕ) (options : Options) (regex : Regex) : Type 0 where
-  pub compiled : IsCompiled setting text regex
+  pub compiled : IsCompiledIn options.dialect setting text regex
   pub keeps : Keeps options setting.flags (chars text) regex
 
 -- The status, `kind`, `position`, and the handle before and after. `Asked` states that the arguments are valid.
@@ -40,7 +43,7 @@ pub data CompileResult (Asked : Type 0) (setting : Setting) (text : List ℕ) (o
   -- the arguments are invalid
   bad : (Asked → ⊥) → CompileResult Asked setting text options old 4 0 0 old
   -- the pattern is rejected, with the kind and the position of its syntax error
-  rejected : {kind position : ℕ} → Asked → NoneIsAccepted setting (chars text) → IsError setting (chars text) kind position →
-      CompileResult Asked setting text options old 5 kind position old
+  rejected : {kind position : ℕ} → Asked → NoneIsAcceptedIn options.dialect setting (chars text) →
+      IsErrorIn options.dialect setting (chars text) kind position → CompileResult Asked setting text options old 5 kind position old
   -- the pattern may have more nodes than allowed, or its program has more instructions
   too_large : Asked → IsTooLarge setting (chars text) options → CompileResult Asked setting text options old 6 0 0 old

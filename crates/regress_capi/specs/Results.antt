@@ -5,13 +5,15 @@ use Rattle.regress_tree.specs.Steps.{Setting}
 use Rattle.regress_tree.specs.Tree.{Tree}
 use Rattle.regress_tree.specs.WellFormed.{captures}
 use Rattle.regress_lexer.specs.Source.{Source}
+use Rattle.regress_lexer.specs.declared.dialect.Dialect.{Dialect}
+use Rattle.regress_lexer.specs.declared.dialect.Dialect.TheVariants.{Regress}
 use Rattle.regress_lexer.specs.declared.fault.FaultKind.{FaultKind}
 use Rattle.regress_lexer.specs.FaultKinds.{number_of}
 use Rattle.regress_syntax.specs.Syntax.{Pattern}
 use Rattle.regress_parse.specs.TreeOf.{tree_of}
 use Rattle.regress_parse.specs.Accepted.{IsAccepted, Means}
 use Rattle.regress_parse.specs.Fault.{text_of}
-use Rattle.regress_parse.specs.Settled.{IsReported}
+use Rattle.regress_parse.specs.Settled.{IsReportedIn}
 use Rattle.regress_encoding.specs.Encoding.{encode}
 
 -- A tree of the pattern that the source denotes: as parsed, or in normal form.
@@ -28,10 +30,14 @@ abbrev pub AreWords : Setting → Source → Bool → List ℕ → Type 0
 AreWords setting source optimized words = (t : Tree) × IsResult setting source optimized t × (words ≡ encode t)
 
 -- A syntax error that is reported of the source: its kind has this number, and it is at this position.
-pub record IsError (setting : Setting) (source : Source) (number position : ℕ) : Type 0 where
+pub record IsErrorIn (dialect : Dialect) (setting : Setting) (source : Source) (number position : ℕ) : Type 0 where
   pub kind : FaultKind
   pub numbered : number ≡ number_of kind
-  pub reported : IsReported setting source kind position
+  pub reported : IsReportedIn dialect setting source kind position
+
+-- the same in the dialect Regress
+abbrev pub IsError : Setting → Source → (number position : ℕ) → Type 0
+IsError = IsErrorIn Regress
 
 -- the text of such a syntax error
 abbrev pub IsText : Setting → Source → (number position : ℕ) → List ℕ → Type 0

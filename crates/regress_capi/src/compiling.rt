@@ -1,13 +1,13 @@
 //! The results of compiling a pattern.
 ghost use Rattle.std.specs.Prelude.{◌≡◌, chars, IfErr, IfOk};
 ghost use Rattle.regress.specs.Failures.{IsDue};
-ghost use Rattle.regress_capi.specs.CompileResults.{CompileResult, IsCompiledWithin, limits_of};
-ghost use Rattle.regress_capi.specs.Request.{setting_by, IsTextRequest};
+ghost use Rattle.regress_capi.specs.CompileResults.{CompileResult, IsCompiledWithin, options_of};
+ghost use Rattle.regress_capi.specs.Request.{dialect_of, setting_in, IsCompileRequest};
 
 use super::handle::Handle;
 use super::limits::Limits;
 use super::reply::Reply;
-use super::request::{are_options, make_tables, parse_flags};
+use super::request::{are_compile_bits, dialect_of, make_tables, parse_flags};
 use super::results::{BAD_INPUT, MEMORY, OK, SYNTAX};
 use regress::{Error, Options, Regex};
 use std::alloc::Global;
@@ -15,7 +15,7 @@ use std::sync::Arc;
 
 const TOO_LARGE: u32 = 6;
 
-/// Compiles a pattern within the limits that a caller passes, and writes its handle. Returns the kind and the position of
+/// Compiles a pattern in the dialect and within the limits that a caller passes, and writes its handle. Returns the kind and the position of
 /// its syntax error, if it has one.
 ///
 /// # Errors
@@ -28,10 +28,16 @@ pub fn write_handle(
     limits: &Limits,
     handle: &mut Handle,
 ) -> Reply
-    ensures status { CompileResult (IsTextRequest pattern.now bits 0) (setting_by bits) pattern.now (limits_of limits.now)
-        handle.old.value result.status result.kind result.position handle.new.value }
+    ensures status { let dialect = dialect_of bits in CompileResult (IsCompileRequest pattern.now bits) (setting_in dialect bits)
+        pattern.now (options_of dialect limits.now) handle.old.value result.status result.kind result.position handle.new.value }
 {
-    write_compiled(alloc, pattern, bits, limits.options(), handle)
+    write_compiled(
+        alloc,
+        pattern,
+        bits,
+        limits.options(dialect_of(bits)),
+        handle,
+    )
 }
 
 /// Compiles a pattern, and writes its handle. Returns the kind and the position of its syntax error, if it has one.
@@ -42,10 +48,10 @@ fn write_compiled(
     options: Options,
     handle: &mut Handle,
 ) -> Reply
-    ensures status { CompileResult (IsTextRequest pattern.now bits 0) (setting_by bits) pattern.now options
+    ensures status { CompileResult (IsCompileRequest pattern.now bits) (setting_in options.dialect bits) pattern.now options
         handle.old.value result.status result.kind result.position handle.new.value }
 {
-    if !are_options(bits, 0) {
+    if !are_compile_bits(bits) {
         return Reply::bare(BAD_INPUT);
     }
     match str::from_utf8(pattern) {
@@ -64,8 +70,8 @@ fn write_compiled(
 }
 
 fn compile(alloc: Global, pattern: &str, bits: u32, options: Options) -> Result<Box<Regex>, Error>
-    ensures compiled { IfOk result (λ regex. IsCompiledWithin (setting_by bits) pattern.now options regex.value) }
-    ensures failed { IfErr result (IsDue (setting_by bits) (chars pattern.now) options) }
+    ensures compiled { IfOk result (λ regex. IsCompiledWithin (setting_in options.dialect bits) pattern.now options regex.value) }
+    ensures failed { IfErr result (IsDue (setting_in options.dialect bits) (chars pattern.now) options) }
 {
     let tables = Arc::new(alloc, make_tables(alloc, bits)?)?;
     let regex = Regex::with_options(alloc, pattern, parse_flags(bits), options, &tables)?;

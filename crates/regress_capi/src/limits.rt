@@ -1,8 +1,8 @@
 //! The limits that a caller passes.
 ghost use Rattle.std.specs.Prelude.{◌≡◌};
-ghost use Rattle.regress_capi.specs.CompileResults.{limits_of, or_default};
+ghost use Rattle.regress_capi.specs.CompileResults.{options_of, or_default};
 
-use regress::Options;
+use regress::{Dialect, Options};
 
 /// The limits of a compiled pattern, 0 for the default of each.
 #[repr(C)]
@@ -15,12 +15,13 @@ pub struct Limits {
 }
 
 impl Limits {
-    /// Returns the limits, where 0 is the default.
-    pub(crate) fn options(&self) -> Options
-        ensures { result ≡ limits_of self.now }
+    /// Returns the options of a pattern of a dialect with these limits, where 0 is the default.
+    pub(crate) fn options(&self, dialect: Dialect) -> Options
+        ensures { result ≡ options_of dialect self.now }
     {
         let default = Options::default();
         Options {
+            dialect,
             steps: if self.steps == 0 {
                 default.steps
             } else {

@@ -2,8 +2,9 @@
 ghost use Rattle.std.specs.Prelude.{◌≡◌, ◌≤◌, ◌↔◌, All, chars, IsTrue, IfOk, OnErr, MatchOption};
 ghost use Rattle.regress_front.specs.Intervals.{code_point_max};
 ghost use Rattle.regress_front.specs.TableOf.{table_of};
-ghost use Rattle.regress_capi.specs.Request.{flags_of, table_by, AreOptions, IsRequest, IsTextRequest};
+ghost use Rattle.regress_capi.specs.Request.{dialect_of, flags_of, table_by, AreCompileBits, AreOptions, IsRequest, IsTextRequest};
 
+use regress::{Dialect, Options};
 use regress_front::codepointset::CODE_POINT_MAX;
 use regress_front::types::Flags;
 use regress_front::unicode::Tables;
@@ -25,6 +26,14 @@ const SMALL_TABLE: u32 = 32;
 
 const ALL_BITS: u32 = 63;
 
+const DIALECT_ECMA: u32 = 0x1_0000;
+
+const DIALECT_REGRESS: u32 = 0x2_0000;
+
+const DIALECT_BITS: u32 = 0x3_0000;
+
+const COMPILE_BITS: u32 = 0x3_003F;
+
 /// Returns whether `pattern` consists of code points, `bits` of known flags, and `choice` is 0 or 1.
 pub(crate) fn is_request(pattern: &[u32], bits: u32, choice: u32) -> bool
     ensures { IsTrue result ↔ IsRequest pattern.now bits choice }
@@ -37,6 +46,13 @@ pub(crate) fn are_options(bits: u32, choice: u32) -> bool
     ensures { IsTrue result ↔ AreOptions bits choice }
 {
     bits <= ALL_BITS && choice < 2
+}
+
+/// Returns whether `bits` consists of known flags, and of at most one dialect.
+pub(crate) fn are_compile_bits(bits: u32) -> bool
+    ensures { IsTrue result ↔ AreCompileBits bits }
+{
+    bits & COMPILE_BITS == bits && bits & DIALECT_BITS < DIALECT_BITS
 }
 
 /// Returns the code points of a pattern in UTF-8; `None` if it is not UTF-8 or the options are invalid.
@@ -69,6 +85,19 @@ pub(crate) fn parse_flags(bits: u32) -> Flags
         dot_all: bits & DOT_ALL != 0,
         unicode: bits & UNICODE != 0,
         unicode_sets: bits & UNICODE_SETS != 0,
+    }
+}
+
+/// Returns the dialect that `bits` names, or the default one.
+pub(crate) fn dialect_of(bits: u32) -> Dialect
+    ensures { result ≡ dialect_of bits }
+{
+    if bits & DIALECT_ECMA != 0 {
+        Dialect::Ecma
+    } else if bits & DIALECT_REGRESS != 0 {
+        Dialect::Regress
+    } else {
+        Options::default().dialect
     }
 }
 

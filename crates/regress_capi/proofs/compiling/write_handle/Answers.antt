@@ -1,13 +1,13 @@
-use Rattle.std.proofs.Common.{subst}
-use Rattle.regress_capi.specs.CompileResults.{CompileResult}
-use Rattle.regress_capi.specs.Request.{setting_by, IsTextRequest}
+use Rattle.std.proofs.Common.{◌∙◌, ap, subst}
+use Rattle.regress_capi.specs.CompileResults.{CompileResult, options_of}
+use Rattle.regress_capi.specs.Request.{setting_in, IsCompileRequest}
 use Rattle.regress_capi.proofs.compiling.write_handle.Goals as goal
 
 pub returns : goal.returns
 returns c = record {
   status =
       subst
-      (λ options. CompileResult (IsTextRequest c.args.pattern.now c.args.bits 0) (setting_by c.args.bits) c.args.pattern.now options
+      (λ options. CompileResult (IsCompileRequest c.args.pattern.now c.args.bits) (setting_in options.dialect c.args.bits) c.args.pattern.now options
       c.args.handle.now.value c.write_compiled.result.status c.write_compiled.result.kind c.write_compiled.result.position c.write_compiled.new.handle.value)
-      c.options.ensures c.write_compiled.ensures.status;
+      (c.options.ensures ∙ ap (λ dialect. options_of dialect c.args.limits.now) c.dialect_of.ensures) c.write_compiled.ensures.status;
 }
