@@ -48,7 +48,7 @@ pub(crate) fn fill(
     let mut table = Table::new(alloc, routine.instructions.len(), length, routine.backwards)?;
     for row in 0..length + 1 {
         let position = row_of(routine.backwards, length, row);
-        fill_row(input, routine, &mut table, &mut memo, position)?;
+        fill_row(&input, routine, &mut table, &mut memo, position)?;
     }
     Ok(table)
 }
@@ -58,26 +58,26 @@ pub(crate) fn fill(
 /// # Errors
 /// Returns [`AllocError`] if an allocation fails.
 fn fill_row(
-    input: Input<'_, '_>,
+    input: &Input<'_, '_>,
     routine: &Routine,
     table: &mut Table,
     memo: &mut Memo,
     position: usize,
 ) -> Result<(), AllocError>
-    requires no_reference { has_no_back_reference (code_routines input.code.now) ≡ true }
-    requires tables { AreTables input.text.now (code_routines input.code.now) input.tables.now }
-    requires can { CanFill input (routine_in input.code.now.program.leaves.items routine.now) table.old }
+    requires no_reference { has_no_back_reference (code_routines input.now.code.now) ≡ true }
+    requires tables { AreTables input.now.text.now (code_routines input.now.code.now) input.now.tables.now }
+    requires can { CanFill input.now (routine_in input.now.code.now.program.leaves.items routine.now) table.old }
     requires position { position ≤ table.old.length }
     requires at { index table.old 0 false position ≡ length (evaluated table.old) }
-    requires known { IsKnown input (routine_in input.code.now.program.leaves.items routine.now) table.old memo.old }
+    requires known { IsKnown input.now (routine_in input.now.code.now.program.leaves.items routine.now) table.old memo.old }
     ensures shape { IfOk result (λ _. SameShape table.old table.new) }
     ensures more { IfOk result (λ _. length (evaluated table.new) ≡ length (evaluated table.old) + 2 * table.old.width) }
-    ensures known { IfOk result (λ _. IsKnown input.entry (routine_in input.entry.code.now.program.leaves.items routine.now) table.new memo.new) }
+    ensures known { IfOk result (λ _. IsKnown input.now (routine_in input.now.code.now.program.leaves.items routine.now) table.new memo.new) }
 {
     if table.rows.len() == row_of(table.backwards, table.length, position) {
         return fill_shared(input, routine, table, memo, position);
     }
-    fill_both(input, routine, table, position)?;
+    fill_both(*input, routine, table, position)?;
     Ok(())
 }
 
@@ -86,29 +86,29 @@ fn fill_row(
 /// # Errors
 /// Returns [`AllocError`] if an allocation fails.
 fn fill_shared(
-    input: Input<'_, '_>,
+    input: &Input<'_, '_>,
     routine: &Routine,
     table: &mut Table,
     memo: &mut Memo,
     position: usize,
 ) -> Result<(), AllocError>
-    requires no_reference { has_no_back_reference (code_routines input.code.now) ≡ true }
-    requires tables { AreTables input.text.now (code_routines input.code.now) input.tables.now }
-    requires can { CanFill input (routine_in input.code.now.program.leaves.items routine.now) table.old }
+    requires no_reference { has_no_back_reference (code_routines input.now.code.now) ≡ true }
+    requires tables { AreTables input.now.text.now (code_routines input.now.code.now) input.now.tables.now }
+    requires can { CanFill input.now (routine_in input.now.code.now.program.leaves.items routine.now) table.old }
     requires position { position ≤ table.old.length }
     requires at { index table.old 0 false position ≡ length (evaluated table.old) }
     requires numbered { length table.old.rows.items ≡ row_of (direction_if table.old.backwards) table.old.length position }
-    requires known { IsKnown input (routine_in input.code.now.program.leaves.items routine.now) table.old memo.old }
+    requires known { IsKnown input.now (routine_in input.now.code.now.program.leaves.items routine.now) table.old memo.old }
     ensures shape { IfOk result (λ _. SameShape table.old table.new) }
     ensures more { IfOk result (λ _. length (evaluated table.new) ≡ length (evaluated table.old) + 2 * table.old.width) }
-    ensures known { IfOk result (λ _. IsKnown input.entry (routine_in input.entry.code.now.program.leaves.items routine.now) table.new memo.new) }
+    ensures known { IfOk result (λ _. IsKnown input.now (routine_in input.now.code.now.program.leaves.items routine.now) table.new memo.new) }
 {
     let key = key_at(input, routine, table, memo, position);
     if let Some(number) = memo.find(key, table.distinct) {
         table.repeat(number)?;
         return Ok(());
     }
-    fill_both(input, routine, table, position)?;
+    fill_both(*input, routine, table, position)?;
     if table.distinct > u32::MAX as usize {
         return Ok(());
     }

@@ -20,20 +20,20 @@ use regress_program::instruction::Routine;
 
 /// Returns what the next row is computed from, or `None` if that is not known or does not fit.
 pub(crate) fn key_at(
-    input: Input<'_, '_>,
+    input: &Input<'_, '_>,
     routine: &Routine,
     table: &Table,
     memo: &Memo,
     position: usize,
 ) -> Option<Key>
-    requires no_reference { has_no_back_reference (code_routines input.code.now) ≡ true }
-    requires tables { AreTables input.text.now (code_routines input.code.now) input.tables.now }
-    requires can { CanFill input (routine_in input.code.now.program.leaves.items routine.now) table.now }
+    requires no_reference { has_no_back_reference (code_routines input.now.code.now) ≡ true }
+    requires tables { AreTables input.now.text.now (code_routines input.now.code.now) input.now.tables.now }
+    requires can { CanFill input.now (routine_in input.now.code.now.program.leaves.items routine.now) table.now }
     requires position { position ≤ table.now.length }
     requires at { index table.now 0 false position ≡ length (evaluated table.now) }
-    ensures { IfSome result (λ key. (outs : ℕ → Out) → AreRight outs input.entry.tables.now →
-        (let ops = (routine_in input.entry.code.now.program.leaves.items routine.now).ops in
-        Knows input.entry outs ops table.now memo.now → HasKey input.entry outs ops table.now memo.now.far.items position key)) }
+    ensures { IfSome result (λ key. (outs : ℕ → Out) → AreRight outs input.now.tables.now →
+        (let ops = (routine_in input.now.code.now.program.leaves.items routine.now).ops in
+        Knows input.now outs ops table.now memo.now → HasKey input.now outs ops table.now memo.now.far.items position key)) }
 {
     let probes = probes_at(input, routine, table, &memo.far, position)?;
     match next_read(input.text, input.rules.backwards, position) {
@@ -65,21 +65,21 @@ pub(crate) fn key_at(
 
 /// Returns what these instructions lead to from a position, as digits, or `None` if there are too many.
 fn probes_at(
-    input: Input<'_, '_>,
+    input: &Input<'_, '_>,
     routine: &Routine,
     table: &Table,
     far: &[usize],
     position: usize,
 ) -> Option<u64>
-    requires no_reference { has_no_back_reference (code_routines input.code.now) ≡ true }
-    requires tables { AreTables input.text.now (code_routines input.code.now) input.tables.now }
-    requires can { CanFill input (routine_in input.code.now.program.leaves.items routine.now) table.now }
+    requires no_reference { has_no_back_reference (code_routines input.now.code.now) ≡ true }
+    requires tables { AreTables input.now.text.now (code_routines input.now.code.now) input.now.tables.now }
+    requires can { CanFill input.now (routine_in input.now.code.now.program.leaves.items routine.now) table.now }
     requires position { position ≤ table.now.length }
     requires at { index table.now 0 false position ≡ length (evaluated table.now) }
-    ensures { IfSome result (λ code. (outs : ℕ → Out) → AreRight outs input.entry.tables.now → IsRight (outs (length input.entry.tables.now)) table.now →
-        (let u = subject input.entry.rules input.entry.text.now in
-        Coded u.setting u.bytes u.direction (matcher_of u.setting u.bytes (code_routines input.entry.code.now) outs) (outs (length input.entry.tables.now))
-        (routine_in input.entry.code.now.program.leaves.items routine.now).ops far.now position code)) }
+    ensures { IfSome result (λ code. (outs : ℕ → Out) → AreRight outs input.now.tables.now → IsRight (outs (length input.now.tables.now)) table.now →
+        (let u = subject input.now.rules input.now.text.now in
+        Coded u.setting u.bytes u.direction (matcher_of u.setting u.bytes (code_routines input.now.code.now) outs) (outs (length input.now.tables.now))
+        (routine_in input.now.code.now.program.leaves.items routine.now).ops far.now position code)) }
 {
     let mut code: u64 = 0;
     for k in (0..far.len()).rev() {
@@ -87,7 +87,7 @@ fn probes_at(
         if pc >= routine.instructions.len() {
             return None;
         }
-        let probe = probe_at(input, table, routine.instructions[pc], position);
+        let probe = probe_at(*input, table, routine.instructions[pc], position);
         let next = with_digit(code, probe)?;
         code = next;
     }

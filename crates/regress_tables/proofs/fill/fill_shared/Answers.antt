@@ -33,9 +33,9 @@ returns-in-Some-clause-known c =
     let t = c.args.table.now in
     let memo = c.args.memo.now in
     let n = c.in-Some.number in
-    let r = routine_in c.args.input.code.now.program.leaves.items c.args.routine.now in
+    let r = routine_in c.args.input.now.code.now.program.leaves.items c.args.routine.now in
     let next = c.in_ok-repeat.ensures in
-    known-hit c.args.input r t memo c.args.position c.requires.can c.requires.position c.requires.at c.requires.known c.requires.numbered c.key_at-key.result c.key_at-key.ensures
+    known-hit c.args.input.now r t memo c.args.position c.requires.can c.requires.position c.requires.at c.requires.known c.requires.numbered c.key_at-key.result c.key_at-key.ensures
     c.repeat.new.self n next.shape next.rows next.bits next.evaluated
     (subst (λ o. IfSome o (λ row. row < t.distinct)) c.in-Some.is c.find.ensures.row)
     (subst (λ o. IfSome o (IsKept memo.slots.items c.key_at-key.result)) c.in-Some.is c.find.ensures.found)
@@ -43,8 +43,8 @@ returns-in-Some-clause-known c =
 pub returns-then-table-clause-known : goal.returns-then-table-clause-known
 returns-then-table-clause-known c =
     let both = c.in_ok-fill_both.ensures in
-    let r = routine_in c.args.input.code.now.program.leaves.items c.args.routine.now in
-    known-flat c.args.input r c.args.table.now c.args.memo.now c.args.position c.requires.can c.requires.position c.requires.at c.requires.known
+    let r = routine_in c.args.input.now.code.now.program.leaves.items c.args.routine.now in
+    known-flat c.args.input.now r c.args.table.now c.args.memo.now c.args.position c.requires.can c.requires.position c.requires.at c.requires.known
     c.fill_both.new.table both.grows.0 both.grows.1 both.filled
 
 pub first_equal-number-requires-clause-one : goal.first_equal-number-requires-clause-one
@@ -92,8 +92,8 @@ returns-clause-known c =
     let both = c.in_ok-fill_both.ensures in
     let found = c.first_equal-number.ensures in
     let shared = c.in_ok-share.ensures in
-    let r = routine_in c.args.input.code.now.program.leaves.items c.args.routine.now in
-    known-miss c.args.input r t memo c.args.position c.requires.can c.requires.position c.requires.at c.requires.known c.requires.numbered c.key_at-key.result c.key_at-key.ensures
+    let r = routine_in c.args.input.now.code.now.program.leaves.items c.args.routine.now in
+    known-miss c.args.input.now r t memo c.args.position c.requires.can c.requires.position c.requires.at c.requires.known c.requires.numbered c.key_at-key.result c.key_at-key.ensures
     c.fill_both.new.table c.share.new.self c.add.new.self n both.grows.0 both.grows.1 both.filled shared.shape shared.rows shared.bits shared.distinct shared.evaluated
     (c.add.ensures.far ∙ found.far)
     (λ k e is. subst (λ (xs : List (Option Entry)). (slice_get xs k ≡ Some (Some e)) ⊎ ((c.key_at-key.result ≡ Some e.key) × (e.row ≡ n))) found.slots

@@ -14,7 +14,7 @@ use Rattle.regress_tables.proofs.keys.key_at.Goals as goal
 
 pub returns-in-None : goal.returns-in-None
 returns-in-None c = λ outs right knows.
-    let input = c.args.input in
+    let input = c.args.input.now in
     let u = subject input.rules input.text.now in
     let ops = (routine_in input.code.now.program.leaves.items c.args.routine.now).ops in
     let probes = c.in_ok-probes.probes in
@@ -26,7 +26,7 @@ returns-in-None c = λ outs right knows.
 
 pub returns-else-row-len : goal.returns-else-row-len
 returns-else-row-len c = λ outs right knows.
-    let input = c.args.input in
+    let input = c.args.input.now in
     let u = subject input.rules input.text.now in
     let t = c.args.table.now in
     let ops = (routine_in input.code.now.program.leaves.items c.args.routine.now).ops in

@@ -12,21 +12,21 @@ use Rattle.regress_tables.proofs.keys.probes_at.Goals as goal
 
 pub probe_at-probe-requires-clause-can : goal.probe_at-probe-requires-clause-can
 probe_at-probe-requires-clause-can c =
-    let leaves = c.args.input.code.now.program.leaves.items in
+    let leaves = c.args.input.now.code.now.program.leaves.items in
     let items = c.args.routine.now.instructions.items in
     let r = routine_in leaves c.args.routine.now in
     let pc = get_or c.args.far.now (c.loop-k.k - 1) 0 in
     let lt : pc < length items = omega (arith, c.if-pc-len.false, c.len.ensures) in
     let is_op : slice_get (ops_in leaves items) pc ≡ Some (op_in leaves c.index.result.now) =
     slice_get-map (op_in leaves) items pc ∙ ap (option_map (op_in leaves)) (slice_get_read items _ pc _ refl lt c.index.ensures) in
-    can-probe c.args.input r c.args.table.now pc c.args.position (op_in leaves c.index.result.now) c.requires.can c.requires.position c.requires.at
+    can-probe c.args.input.now r c.args.table.now pc c.args.position (op_in leaves c.index.result.now) c.requires.can c.requires.position c.requires.at
     (omega (arith, length-map items (op_in leaves), lt)) c.requires.no_reference is_op
 
 pub loop-k-init : goal.loop-k-init
 loop-k-init c = record {
   within = omega arith;
   coded = λ outs tables right.
-      let input = c.args.input in
+      let input = c.args.input.now in
       let u = subject input.rules input.text.now in
       let far = c.args.far.now in
       subst (λ (pcs : List ℕ). Coded u.setting u.bytes u.direction (matcher_of u.setting u.bytes (code_routines input.code.now) outs) (outs (length input.tables.now))
@@ -36,7 +36,7 @@ loop-k-init c = record {
 pub loop-k-preserved : goal.loop-k-preserved
 loop-k-preserved c =
     let so_far = c.loop-k.invariant in
-    let input = c.args.input in
+    let input = c.args.input.now in
     let u = subject input.rules input.text.now in
     let leaves = input.code.now.program.leaves.items in
     let items = c.args.routine.now.instructions.items in
@@ -59,7 +59,7 @@ loop-k-preserved c =
 
 pub returns : goal.returns
 returns c = λ outs tables right.
-    let input = c.args.input in
+    let input = c.args.input.now in
     let u = subject input.rules input.text.now in
     let e : c.loop-k.k ≡ 0 = omega (arith, c.loop-k-test.false) in
     subst (λ k. Coded u.setting u.bytes u.direction (matcher_of u.setting u.bytes (code_routines input.code.now) outs) (outs (length input.tables.now))
