@@ -1,5 +1,5 @@
 //! An index of the entries of a case mapping by the code points that they map to.
-ghost use Rattle.std.specs.Prelude.{◌≡◌, ◌<◌, ◌/◌, ◌==◌, ℕ, false, length, IsTrue};
+ghost use Rattle.std.specs.Prelude.{◌≡◌, ◌<◌, ◌/◌, ◌==◌, ℕ, false, IsTrue};
 ghost use Rattle.std.specs.Int.{bit_at};
 ghost use Rattle.regress_base.specs.AsciiBitmap.{ascii_contains};
 ghost use Rattle.regress_unicode.specs.FoldEntries.{is_source};

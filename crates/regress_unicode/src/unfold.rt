@@ -7,7 +7,7 @@ ghost use Rattle.regress_unicode.specs.FoldEntries.{FoldEntry, is_source, mapped
 ghost use Rattle.regress_unicode.specs.ValidEntries.{is_in_order, are_targets_in_range};
 ghost use Rattle.regress_base.specs.Listing.{lists, is_ascending, IsListing};
 ghost use Rattle.regress_base.specs.Table.{denotes};
-ghost use Rattle.regress_unicode.specs.SourceIndex.{IsIndexOf, ListsSources, HasGroups};
+ghost use Rattle.regress_unicode.specs.SourceIndex.{IsIndexOf, ListsSources};
 ghost use Rattle.regress_unicode.specs.TableOf.{table_of};
 
 use super::index::{GROUP_LEN, INDEXED_LEN, SourceIndex};
@@ -27,8 +27,8 @@ const MOST: usize = 4;
 /// Returns [`AllocError`] if an allocation fails.
 ///
 /// # Complexity
-/// At most linear in the number of entries of the table, and logarithmic for most ASCII characters: those that no entry
-/// after the first maps another code point to.
+/// A binary search, and a scan of the entries that can map a code point to the result: one entry for most ASCII
+/// characters, a few for most others, and at most all.
 ///
 /// # Examples
 /// ```
