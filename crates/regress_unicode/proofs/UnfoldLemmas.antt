@@ -1,15 +1,12 @@
 -- The code points with a given canonical form, appended to a list entry by entry.
-use Rattle.std.proofs.Common.{◌≡◌, ℕ, ◌+◌, ◌<◌, ◌≤◌, Bool, true, false, ◌&&◌, ◌||◌, nat_le, ◌==◌, IsTrue, List, [], ◌∷◌, ◌++◌, length, get_or, refl, sym, ap, subst, ◌∙◌, arith}
-use Rattle.std.proofs.lemmas.Bool.{eq-eqb, eqb-true}
+use Rattle.std.proofs.Common.{◌≡◌, ℕ, ◌+◌, ◌<◌, ◌≤◌, Bool, true, false, ◌&&◌, ◌||◌, nat_le, ◌==◌, IsTrue, List, [], ◌∷◌, ◌++◌, refl, sym, ap, subst, ◌∙◌, arith}
+use Rattle.std.proofs.lemmas.Bool.{eq-eqb}
 use Rattle.std.proofs.lemmas.Bool.Decides.{nat_tests}
-use Rattle.std.proofs.lemmas.List.{get_or_read}
 use Rattle.regress_base.specs.Intervals.{code_point_max}
 use Rattle.regress_unicode.specs.FoldEntries.{FoldEntry, is_source}
-use Rattle.regress_unicode.specs.ValidEntries.{is_in_order}
 use Rattle.regress_base.specs.Listing.{lists, is_ascending, is_ascending_from}
 use Rattle.regress_base.proofs.lemmas.Listings.{ascending_parts, lists-append, lists-head, lists-tail}
 use Rattle.regress_base.proofs.lemmas.Literals.{lists-one}
-use Rattle.regress_unicode.proofs.ListLemmas.{order_apart}
 
 -- ---- appending a number
 
@@ -38,25 +35,6 @@ source_within mapping target source some =
     let here : is_source mapping target source ≡ true = some source ∙ eq-eqb source source refl in
     (grind (arith, nat_tests, here), grind (arith, nat_tests, here))
 
--- the listed numbers are below the remaining entries, and so is what an entry adds
-pub below_mappings : (mappings : List FoldEntry) (i : ℕ) (mapping : FoldEntry) (xs ys : List ℕ) (source : ℕ) → IsTrue (is_in_order mappings) →
-    mapping ≡ get_or mappings i mapping → source < mapping.start + mapping.length → ys ≡ xs ++ source ∷ [] →
-    ((x : ℕ) → lists xs x ≡ true → (k : ℕ) (d : FoldEntry) → i ≤ k → k < length mappings → x < (get_or mappings k d).start) →
-    (x : ℕ) → lists ys x ≡ true → (k : ℕ) (d : FoldEntry) → i + 1 ≤ k → k < length mappings → x < (get_or mappings k d).start
-below_mappings mappings i mapping xs ys source order is within pushed below x listed k d le lt =
-    by_test (lists xs x) refl (sym (pushed_lists xs ys source x pushed) ∙ listed)
-  where
-    after : x ≡ source → x < (get_or mappings k d).start
-    after same =
-        let apart = order_apart 0 mappings i k d order (omega arith) lt in
-        let start : mapping.start ≡ (get_or mappings i d).start = ap (λ (r : FoldEntry). r.start) (get_or_read mappings i mapping (omega arith) is d) in
-        let count : mapping.length ≡ (get_or mappings i d).length = ap (λ (r : FoldEntry). r.length) (get_or_read mappings i mapping (omega arith) is d) in
-        omega (arith, apart, start, count, within, same)
-
-    by_test : (b : Bool) → lists xs x ≡ b → (b || (x == source)) ≡ true → x < (get_or mappings k d).start
-    by_test true e h = below x e k d (omega arith) lt
-    by_test false e h = after (eqb-true x source h)
-
 pub target_added : (x target : ℕ) (old new before : Bool) → target ≤ code_point_max → old ≡ (nat_le x code_point_max && before) →
     new ≡ (old || (x == target)) → new ≡ (nat_le x code_point_max && ((x == target) || before))
 target_added x target old new before le so_far is =
@@ -74,6 +52,3 @@ target_added x target old new before le so_far is =
 
 pub listed_none : (list : List ℕ) (x : ℕ) → list ≡ [] → lists list x ≡ (nat_le x code_point_max && false)
 listed_none list x is = rw is (grind (arith, nat_tests))
-
-pub none_listed : (list : List ℕ) (x : ℕ) → list ≡ [] → lists list x ≡ true → ⊥
-none_listed list x is listed = let no : false ≡ true = sym (ap (λ l. lists l x) is) ∙ listed in cc
