@@ -129,6 +129,36 @@ static void searches(void) {
     regress_free(&regex);
 }
 
+/* Where a pattern matches a text, in the dialect of the flags. */
+static uint32_t found_by(const char *pattern, uint32_t flags, const char *text) {
+    regress_regex regex = {NULL};
+    uint32_t status = compiled(pattern, SMALL | flags, &regex);
+    if (status == REGRESS_OK) {
+        status = found(&regex, text, 0, ROOM);
+    }
+    regress_free(&regex);
+    return status;
+}
+
+/* What V8 matches and rejects, in ECMA; and what the dialect REGRESS does, which is the default. */
+static void dialects(void) {
+    const uint32_t ecma = REGRESS_DIALECT_ECMA, regress = REGRESS_DIALECT_REGRESS;
+    regress_regex regex = {NULL};
+    CHECK(found_by("[\\W_]", ecma | REGRESS_ICASE, "k") == REGRESS_NO_MATCH);
+    CHECK(found_by("[\\W_]", regress | REGRESS_ICASE, "k") == REGRESS_OK && ARE(0, 1));
+    CHECK(found_by("[\\W_]", REGRESS_ICASE, "k") == REGRESS_OK && ARE(0, 1));
+    CHECK(found_by("\\u{3}", ecma, "uuu") == REGRESS_OK && ARE(0, 3));
+    CHECK(found_by("\\u{3}", regress, "uuu") == REGRESS_NO_MATCH);
+    CHECK(found_by("\\b+", ecma, "") == REGRESS_SYNTAX && kind == 11 && position == 2);
+    CHECK(found_by("\\b+", regress, "a") == REGRESS_OK && ARE(0, 0));
+    /* UNICODE_SETS implies UNICODE in ECMA. */
+    CHECK(found_by("\\y", ecma | REGRESS_UNICODE_SETS, "y") == REGRESS_SYNTAX);
+    CHECK(found_by("\\y", regress | REGRESS_UNICODE_SETS, "y") == REGRESS_OK && ARE(0, 1));
+    CHECK(compiled("a", SMALL | ecma | regress, &regex) == REGRESS_BAD_INPUT && !regex.inside);
+    CHECK(compiled("a", SMALL | 0x40, &regex) == REGRESS_BAD_INPUT);
+    CHECK(compiled("a", SMALL | 0x40000, &regex) == REGRESS_BAD_INPUT);
+}
+
 static void rooms(void) {
     regress_regex regex;
     CHECK(compiled("(a)", SMALL, &regex) == REGRESS_OK);
@@ -803,6 +833,7 @@ int main(void) {
     CHECK(regress_abi_version() == REGRESS_ABI_VERSION);
     long before = blocks;
     searches();
+    dialects();
     rooms();
     errors();
     limits();

@@ -383,6 +383,30 @@ class Calls(unittest.TestCase):
             regress.compile('é[z-a]'.encode())
         self.assertEqual(caught.exception.pos, 3)
 
+    def test_dialects(self):
+        """What holds in 'ecma' is what V8 does."""
+        ecma = regress.compile(r'[\W_]', 'i', dialect='ecma')
+        self.assertIsNone(ecma.search('k'))
+        self.assertEqual(regress.compile(r'[\W_]', 'i').search('k').span(), (0, 1))
+        self.assertTrue(regress.compile(r'\u{3}', dialect='ecma').fullmatch('uuu'))
+        self.assertIsNone(regress.compile(r'\u{3}', dialect='regress').fullmatch('uuu'))
+        self.assertEqual(ecma.dialect, 'ecma')
+        self.assertEqual(repr(ecma), "regress.compile('[\\\\W_]', 'i', dialect='ecma')")
+        self.assertEqual(pickle.loads(pickle.dumps(ecma)), ecma)
+        self.assertNotEqual(ecma, regress.compile(r'[\W_]', 'i'))
+        for pattern, pos in (r'é\b+', 3), (r'é\b+'.encode(), 4):
+            with self.assertRaises(regress.error) as raised:
+                regress.compile(pattern, dialect='ecma')
+            self.assertEqual((raised.exception.kind, raised.exception.pos), ('QuantifierNotAllowed', pos))
+            self.assertEqual(raised.exception.msg, 'Quantifier not allowed here')
+            regress.compile(pattern)
+        with self.assertRaises(regress.error) as raised:
+            regress.compile(r'(?<b>x)\k<a>', dialect='ecma')
+        self.assertEqual((raised.exception.msg, raised.exception.pos),
+                         ('Backreference to invalid named capture group: a', 10))
+        with self.assertRaises(ValueError):
+            regress.compile('a', dialect='perl')
+
     def test_limits(self):
         with self.assertRaises(regress.error) as caught:
             regress.compile('a' * 1000, nodes=10)

@@ -68,6 +68,10 @@ _NONLINEAR = None, 'back-reference', 'capturing-lookaround', 'too-many-instructi
 _FLAGS = {'i': 1, 'm': 2, 's': 4, 'u': 8, 'v': 8 | 16}
 
 
+# The dialects, as the library has them.
+_DIALECTS = {'regress': 0x20000, 'ecma': 0x10000}
+
+
 class Flag(enum.IntFlag):
     '''Flags of a pattern. Those that re has too have the same number.'''
 
@@ -119,11 +123,12 @@ class error(Exception):
         self.kind = kind
 
 
-def compile(pattern, flags='', *, steps=None, nodes=None, instructions=None, linear_instructions=None, memory=None):
+def compile(pattern, flags='', *, dialect='regress', steps=None, nodes=None, instructions=None, linear_instructions=None,
+            memory=None):
     """Compiles a pattern to a Pattern.
 
-    flags are JavaScript's letters, or constants such as I. A Pattern is returned as it is, if no flags are given. The
-    limits are:
+    flags are JavaScript's letters, or constants such as I. A Pattern is returned as it is, if no flags are given. dialect is
+    'regress' or 'ecma': docs/syntax.md has the rules in which they differ. The limits are:
 
         steps         the steps of one search that does not take linear time; a billion by default, which takes about a
                       minute at most
@@ -143,7 +148,7 @@ def compile(pattern, flags='', *, steps=None, nodes=None, instructions=None, lin
         if flags:
             raise ValueError('flags are not allowed with a compiled pattern')
         return pattern
-    return Pattern(pattern, flags, steps, nodes, instructions, linear_instructions, memory)
+    return Pattern(pattern, flags, steps, nodes, instructions, linear_instructions, memory, dialect)
 
 
 # The patterns of the calls below.
@@ -285,6 +290,7 @@ class Pattern:
     Attributes:
         pattern: its text
         flags: its flags, as letters in alphabetical order
+        dialect: its dialect, 'regress' or 'ecma'
         is_linear: whether searches take linear time, so that the limit of steps does not apply to them
         nonlinear: why they do not, 'back-reference', 'capturing-lookaround' or 'too-many-instructions', the first of
             these that holds; None if they do
@@ -296,11 +302,14 @@ class Pattern:
     """
 
     def __init__(self, pattern, flags='', steps=None, nodes=None, instructions=None, linear_instructions=None,
-                 memory=None):
+                 memory=None, dialect='regress'):
         self.pattern = _pattern_text(pattern)
         self.flags = _letters(flags, self.pattern)
+        if dialect not in _DIALECTS:
+            raise ValueError('a dialect is regress or ecma, not %r' % (dialect,))
+        self.dialect = dialect
         self._limits = (steps, nodes, instructions, linear_instructions, memory)
-        self._program = program = _Program(_utf8(self.pattern), _bits(self.flags), self._limits, self.pattern)
+        self._program = program = _Program(_utf8(self.pattern), self._bits(), self._limits, self.pattern)
         # The call of fullmatch, after the first.
         self._full = None
         self._type = type(self.pattern)
@@ -342,7 +351,7 @@ class Pattern:
         """
         if self._full is None:
             wrapped = b'(?:' + _utf8(self.pattern) + b')(?![^])'
-            program = _Program(wrapped, _bits(self.flags), self._limits, self.pattern, offset=3)
+            program = _Program(wrapped, self._bits(), self._limits, self.pattern, offset=3)
             if _native:
                 self._full = self._searcher(program).match
             else:
@@ -448,8 +457,13 @@ class Pattern:
         replaced = replaced if self._type is bytes else replaced.decode()
         return (replaced, count) if is_counted else replaced
 
+    def _bits(self):
+        """Returns the flags and the dialect as the library has them."""
+        return _bits(self.flags) | _DIALECTS[self.dialect]
+
     def __repr__(self):
-        return 'regress.compile(%r%s)' % (self.pattern, self.flags and ', %r' % self.flags)
+        dialect = '' if self.dialect == 'regress' else ', dialect=%r' % self.dialect
+        return 'regress.compile(%r%s%s)' % (self.pattern, self.flags and ', %r' % self.flags, dialect)
 
     def __eq__(self, other):
         if not isinstance(other, Pattern):
@@ -460,7 +474,7 @@ class Pattern:
         return hash(self._key())
 
     def _key(self):
-        return self.pattern, self.flags, self._limits
+        return self.pattern, self.flags, self.dialect, self._limits
 
     def __copy__(self):
         return self
@@ -469,7 +483,7 @@ class Pattern:
         return self
 
     def __reduce__(self):
-        return Pattern, (self.pattern, self.flags, *self._limits)
+        return Pattern, (self.pattern, self.flags, *self._limits, self.dialect)
 
 
 class Match:
@@ -626,7 +640,9 @@ class _Program:
             ctypes.byref(position))
         if status == _SYNTAX:
             # `offset` code points are not the caller's.
-            raise _syntax_error(pattern, flags, source, offset)
+            if flags & _DIALECTS['ecma']:
+                raise _syntax_error_at(kind.value, position.value - offset, source)
+            raise _syntax_error(pattern, flags & ~_DIALECTS['regress'], source, offset)
         if status != _OK:
             raise self.failure(status)
         self.address = self._regex.inside
@@ -755,6 +771,20 @@ def _syntax_error(data, bits, source, offset=0):
         return _failure(status)
     name = _KINDS[kind.value - 1] if kind.value <= len(_KINDS) else None
     return error(text.decode(), source, _position(source, position.value - offset), name)
+
+
+def _syntax_error_at(kind, index, source):
+    """Returns the exception of a pattern that is rejected with this kind, at a code-point index of the source. Its message
+    ends in the name that no group has, as the source has it."""
+    status, text = _call(ctypes.c_char, 128, _OK, lambda *buffer: _library.regress_error_message_raw(kind, *buffer))
+    if status != _OK:
+        return _failure(status)
+    text = text.decode()
+    name = _KINDS[kind - 1] if kind <= len(_KINDS) else None
+    if name == 'UnknownName':
+        characters = source.decode() if isinstance(source, bytes) else source
+        text += characters[index:].partition('>')[0]
+    return error(text, source, _position(source, index), name)
 
 
 def _position(source, index):
@@ -930,6 +960,7 @@ def _load():
         'regress_steps_per_byte_raw': (wide, handle),
         'regress_find_steps_per_byte_raw': (wide, handle),
         'regress_nonlinear_raw': (number, handle),
+        'regress_error_message_raw': (number, number, octets, size, sizes),
         'regress_escape_raw': (number, data, size, octets, size, sizes),
         'regress_free_raw': (None, handle),
         'regress_differences_raw': (number, data, size, number, listed, size, sizes, numbers, sizes),

@@ -1,4 +1,4 @@
-//! Flags of a pattern.
+//! Flags and dialect of a pattern.
 
 use std::error::Error;
 use std::fmt::{self, Write};
@@ -13,6 +13,34 @@ pub struct Flags {
     pub dot_all: bool,
     pub unicode: bool,
     pub unicode_sets: bool,
+}
+
+/// The dialect of the syntax. `docs/syntax.md` has the rules in which the dialects differ.
+#[derive(Clone, Copy, Debug, Default, PartialEq, Eq, Hash)]
+pub enum Dialect {
+    /// The default. Each flag has its effect independently.
+    #[default]
+    Regress,
+    /// The rules in which the dialects differ are those of ECMA-262 with Annex B.
+    Ecma,
+}
+
+impl Dialect {
+    /// Returns the flags in force for a pattern with the flags `given`: in `Ecma` the flag v implies u.
+    pub fn flags_in_force(self, given: Flags) -> Flags {
+        Flags {
+            unicode: given.unicode || self == Dialect::Ecma && given.unicode_sets,
+            ..given
+        }
+    }
+
+    /// Returns the dialect as the library has it.
+    pub(crate) fn bits(self) -> u32 {
+        match self {
+            Dialect::Ecma => 0x1_0000,
+            Dialect::Regress => 0x2_0000,
+        }
+    }
 }
 
 /// The table of Unicode data under which a pattern is parsed.

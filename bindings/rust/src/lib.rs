@@ -30,7 +30,7 @@ pub mod regex;
 mod words;
 
 pub use difference::{differences, Difference, DifferenceKind};
-pub use flags::{Flags, FlagsError, PatternFlags, Table};
+pub use flags::{Dialect, Flags, FlagsError, PatternFlags, Table};
 pub use kind::FaultKind;
 pub use library::{
     node_bound, parse, parse_and_optimize, parse_and_optimize_str, parse_str, parse_str_with_spans,

@@ -39,7 +39,7 @@ pub use split::Split;
 pub(crate) use error::syntax_error;
 
 use crate::ffi::{self, Handle};
-use crate::flags::{bits, Flags, PatternFlags, Table};
+use crate::flags::{bits, Dialect, Flags, PatternFlags, Table};
 use error::{compile_error, search_error};
 use found::Found;
 use names::Names;
@@ -72,9 +72,11 @@ struct Compiled {
     named: Option<Arc<Names>>,
 }
 
-/// The limits of a regular expression, 0 for the default of each, and its table of Unicode.
+/// The dialect of a regular expression, its limits, 0 for the default of each, and its table of Unicode.
 #[derive(Clone, Copy, Debug, PartialEq, Eq)]
 pub struct Options {
+    /// The dialect of the syntax. By default `Dialect::Regress`.
+    pub dialect: Dialect,
     /// The number of steps that one search may take if it does not take linear time ([`Regex::is_linear`],
     /// [`Regex::is_find_linear`]). By default a billion, which takes about a minute at most. A call that is about all
     /// matches is one search.
@@ -98,6 +100,7 @@ pub struct Options {
 impl Default for Options {
     fn default() -> Options {
         Options {
+            dialect: Dialect::Regress,
             steps: 1_000_000_000,
             nodes: 1_000_000,
             instructions: 250_000,
@@ -125,7 +128,7 @@ impl Regex {
         Regex::with_options(pattern, flags.flags()?, Options::default())
     }
 
-    /// Compiles a pattern with flags, within limits.
+    /// Compiles a pattern with flags, in a dialect and within limits.
     ///
     /// # Errors
     /// - [`Error::Syntax`] if the pattern is rejected.
@@ -144,8 +147,8 @@ impl Regex {
             memory: options.memory,
         };
         let bits = bits(flags, options.table);
-        let handle = ffi::compile(pattern, bits, &limits)
-            .map_err(|status| compile_error(status, pattern, bits))?;
+        let handle = ffi::compile(pattern, bits | options.dialect.bits(), &limits)
+            .map_err(|fault| compile_error(&fault, options.dialect, pattern, bits))?;
         let nonlinear = match handle.nonlinear() {
             0 => None,
             number => Some(Nonlinear::from_number(number).ok_or(Error::Library)?),
@@ -157,7 +160,7 @@ impl Regex {
                 find_steps_per_byte: handle.find_steps_per_byte(),
                 handle,
                 pattern: pattern.to_owned(),
-                flags,
+                flags: options.dialect.flags_in_force(flags),
                 nonlinear,
                 named: Some(names).filter(Names::any).map(Arc::new),
             }),
@@ -368,7 +371,7 @@ impl Regex {
         &self.compiled.pattern
     }
 
-    /// Returns the flags.
+    /// Returns the flags in force ([`Dialect::flags_in_force`]).
     pub fn flags(&self) -> Flags {
         self.compiled.flags
     }

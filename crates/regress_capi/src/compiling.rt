@@ -15,8 +15,8 @@ use std::sync::Arc;
 
 const TOO_LARGE: u32 = 6;
 
-/// Compiles a pattern in the dialect and within the limits that a caller passes, and writes its handle. Returns the kind and the position of
-/// its syntax error, if it has one.
+/// Compiles a pattern in the dialect and within the limits that a caller passes, and writes its handle. Returns the kind
+/// and the position of its syntax error, if it has one.
 ///
 /// # Errors
 /// The status is 2 if an allocation failed, 4 if the arguments are invalid, 5 if the pattern is rejected, and 6 if it may
