@@ -103,10 +103,10 @@ pub(crate) fn slot_of(hash: u64, slots: usize) -> usize {
 
 /// Returns the hash of a key.
 fn hash_of(key: Key) -> u64 {
-    let behind = (key.from as u64) ^ key.probes.rotate_left(32);
+    let others = (key.from as u64) ^ key.probes.rotate_left(32);
     key.symbol
         .wrapping_mul(0x9E37_79B9_7F4A_7C15)
-        .wrapping_add(behind.wrapping_mul(0xC2B2_AE3D_27D4_EB4F))
+        .wrapping_add(others.wrapping_mul(0xC2B2_AE3D_27D4_EB4F))
 }
 
 /// Returns whether two keys are equal.
