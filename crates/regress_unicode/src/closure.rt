@@ -27,7 +27,7 @@ const SINGLE_INSERTION_LIMIT: usize = 32;
 /// # Complexity
 /// Two passes over the table and the intervals, with a binary search for each entry. An entry whose range is mapped
 /// into one interval adds nothing. An entry that maps every code point of its range adds one interval for each interval
-/// that its range overlaps; any other entry adds single code points. Many of them are sorted, and merged with the set.
+/// that its range overlaps; any other entry adds code points one by one. Many of them are sorted, and merged with the set.
 /// Members outside the ranges of the table are never traversed one by one.
 ///
 /// # Examples
