@@ -1,6 +1,7 @@
 -- The contents of a class without the flag v, part by part.
 use Rattle.std.proofs.Common.{◌≡◌, ℕ, ◌+◌, ◌≤◌, ◌==◌, Bool, true, false, cond, not, ◌&&◌, ◌||◌, Option, Result, Ok, Err, List, [], ◌∷◌, ◌++◌, length, drop, Some, None, refl, sym, ap, ap₂, ◌∙◌, append_assoc, append-nil, arith}
-use Rattle.std.proofs.lemmas.Bool.{cond-true, cond-false, false≢true, le-leb}
+use Rattle.std.proofs.lemmas.Bool.{cond-true, cond-false, and_parts, le-leb}
+use Rattle.std.proofs.lemmas.Bool.Decides.{nat_tests}
 use Rattle.std.specs.Prelude.{nat_le}
 use Rattle.regress_base.specs.Intervals.{Bounds, is_within, is_member, IsCanonical, IsComplement}
 use Rattle.regress_base.proofs.lemmas.Sets.{or_assoc, is_member-nil, is_member-one, is_member-append}
@@ -12,7 +13,7 @@ use Rattle.regress_lexer.specs.declared.fault.Fault.{Fault}
 use Rattle.regress_lexer.proofs.lemmas.Sources.{on_rejected_then}
 use Rattle.regress_classes.specs.declared.parameters.Parameters.{Parameters}
 use Rattle.regress_classes.specs.ClassProductions.{ClassAtom, point, is_pair, splits, one_point, range_of, atom_members, class_atom_at, complement, begins_range, begins_next, range_to, range_end_at, ranges_to, range_at, class_part_at, class_parts_by, class_at}
-use Rattle.regress_classes.specs.ClassViews.{is_plain, HasMembers, Adds}
+use Rattle.regress_classes.specs.ClassViews.{HasMembers, Adds}
 use Rattle.regress_classes.proofs.lemmas.Values.{complement_is}
 use Rattle.regress_classes.proofs.lemmas.Pieces.{more_parts, parts_closed, parts_go_on}
 
@@ -39,6 +40,10 @@ more_parts-more xs ys (Some x) = ap (λ (l : List Bounds). Some (l, x.1)) (sym (
 pub no_front : (k : ℕ) (t : Source) → length t ≡ 0 → is_at k t ≡ false
 no_front k [] e = refl
 no_front k (c ∷ t) e = absurd (omega arith)
+
+no : (b : Bool) → not b ≡ true → b ≡ false
+no true e = sym e
+no false e = refl
 
 -- Adding nothing changes nothing.
 pub adds_none : (old : List Bounds) → Adds [] old old
@@ -108,20 +113,18 @@ module _ (table : Table) (parameters : Parameters) where
   abbrev is_split : ℕ → Bool
   is_split c = splits parameters && is_pair (point c)
 
-  plain_parts : (a b c : Bool) → not (a || b || c) ≡ true → (a ≡ false) × (b ≡ false) × (c ≡ false)
-  plain_parts false false false e = (refl, refl, refl)
-  plain_parts true b c e = absurd (false≢true e)
-  plain_parts false true c e = absurd (false≢true e)
-  plain_parts false false true e = absurd (false≢true e)
+  -- The range ends at one code unit, so it begins at one.
+  first_whole : (a b : ℕ) → a ≤ b → is_split b ≡ false → is_split a ≡ false
+  first_whole a b le whole = by (splits parameters) whole
+    where
+      by : (split : Bool) → (split && nat_le 0x10000 b) ≡ false → (split && nat_le 0x10000 a) ≡ false
+      by false e = refl
+      by true e = grind (arith, nat_tests, e, le)
 
-  -- A literal of one code unit is no delimiter, and does not split.
-  plain_is : (c : ℕ) → is_plain parameters c ≡ true → ((c == 93) ≡ false) × ((c == 92) ≡ false) × (is_split c ≡ false)
-  plain_is c plain = plain_parts (c == 93) (c == 92) (is_split c) plain
-
-  literal_parsed : (s t : Source) (c : ℕ) → s ≡ c ∷ t → is_plain parameters c ≡ true → class_atom_at table parameters s ≡ Some (point c, t)
+  literal_parsed : (s t : Source) (c : ℕ) → s ≡ c ∷ t → (not (c == 93) && not (c == 92)) ≡ true → class_atom_at table parameters s ≡ Some (point c, t)
   literal_parsed s t c front plain =
-      let parts = plain_is c plain in
-      ap (class_atom_at table parameters) front ∙ cond-false _ _ _ parts.0 ∙ cond-false _ _ _ parts.1
+      let parts = and_parts (not (c == 93)) (not (c == 92)) plain in
+      ap (class_atom_at table parameters) front ∙ cond-false _ _ _ (no (c == 93) parts.0) ∙ cond-false _ _ _ (no (c == 92) parts.1)
 
   -- the members of a code point, given whether it is two code units
   abbrev units_if : Bool → ℕ → List Bounds
@@ -135,20 +138,21 @@ module _ (table : Table) (parameters : Parameters) where
       ∷ cond split' (one_point (trail_surrogate b)) []))
       None
 
-  pub plain_point_read : (s t : Source) (c : ℕ) → s ≡ c ∷ t → is_plain parameters c ≡ true → is_at 45 t ≡ false →
-      class_part_at table parameters s ≡ Some (record { first = c; last = c } ∷ [], t)
-  plain_point_read s t c front plain alone =
+  pub plain_point_read : (s t : Source) (c : ℕ) → s ≡ c ∷ t → (not (c == 93) && not (c == 92)) ≡ true → is_split c ≡ false →
+      is_at 45 t ≡ false → class_part_at table parameters s ≡ Some (record { first = c; last = c } ∷ [], t)
+  plain_point_read s t c front plain whole alone =
       alone_read s t (point c) (literal_parsed s t c front plain) (ap (λ b. b && not (is_at 93 (drop 1 t))) alone)
-      ∙ ap (λ split. Some (units_if split c, t)) (plain_is c plain).2
+      ∙ ap (λ split. Some (units_if split c, t)) whole
 
-  pub plain_range_read : (s t u v : Source) (a b : ℕ) → s ≡ a ∷ t → t ≡ 45 ∷ u → u ≡ b ∷ v → is_plain parameters a ≡ true →
-      is_plain parameters b ≡ true → a ≤ b → class_part_at table parameters s ≡ Some (record { first = a; last = b } ∷ [], v)
-  plain_range_read s t u v a b front hyphen after plain plain' le =
+  pub plain_range_read : (s t u v : Source) (a b : ℕ) → s ≡ a ∷ t → t ≡ 45 ∷ u → u ≡ b ∷ v → (not (a == 93) && not (a == 92)) ≡ true →
+      (not (b == 93) && not (b == 92)) ≡ true → is_split b ≡ false → a ≤ b →
+      class_part_at table parameters s ≡ Some (record { first = a; last = b } ∷ [], v)
+  plain_range_read s t u v a b front hyphen after plain plain' whole le =
       ap part_from (literal_parsed s t a front plain)
-      ∙ cond-true _ _ _ (ap begins_range (hyphen ∙ ap (λ (r : Source). 45 ∷ r) after) ∙ ap not (plain_is b plain').0)
+      ∙ cond-true _ _ _ (ap begins_range (hyphen ∙ ap (λ (r : Source). 45 ∷ r) after) ∙ (and_parts (not (b == 93)) (not (b == 92)) plain').0)
       ∙ ap (λ (r : Source). range_at table parameters (point a) (drop 1 r)) hyphen
-      ∙ range_read (point a) (point b) u v _ (literal_parsed u v b after plain') (ap (λ split. split && begins_range v) (plain_is b plain').2)
-      (ap₂ (λ split split'. between_if split split' a b) (plain_is a plain).2 (plain_is b plain').2 ∙ cond-true (nat_le a b) _ _ (le-leb a b le))
+      ∙ range_read (point a) (point b) u v _ (literal_parsed u v b after plain') (ap (λ split. split && begins_range v) whole)
+      (ap₂ (λ split split'. between_if split split' a b) (first_whole a b le whole) whole ∙ cond-true (nat_le a b) _ _ (le-leb a b le))
 
   -- ---- the parts so far
 

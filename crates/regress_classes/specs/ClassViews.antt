@@ -1,5 +1,5 @@
 -- The relation of the code's values to the definitions: classes without and with the flag v, and properties.
-use Rattle.std.specs.Prelude.{◌≡◌, ℕ, Vec, Bool, not, ◌&&◌, ◌||◌, ◌==◌, max, List, map, filter, Some, None}
+use Rattle.std.specs.Prelude.{◌≡◌, ℕ, Vec, Bool, not, ◌&&◌, ◌||◌, max, List, map, filter, Some, None}
 use Rattle.std.specs.declared.alloc.Global.{Global}
 use Rattle.regress_base.specs.Intervals.{Bounds, is_member, IsCanonical}
 use Rattle.regress_base.specs.Table.{Table}
@@ -21,7 +21,7 @@ use Rattle.regress_classes.specs.declared.class_sets.ClassSet.{ClassSet as CodeC
 use Rattle.regress_classes.specs.declared.class_sets.OperandContext.{OperandContext}
 use Rattle.regress_classes.specs.declared.class_sets.Operator.{Operator}
 use Rattle.regress_classes.specs.declared.class_sets.Operator.TheVariants as operators
-use Rattle.regress_classes.specs.ClassProductions.{ClassAtom, point, set, splits, is_pair, members_of, complement_if}
+use Rattle.regress_classes.specs.ClassProductions.{ClassAtom, point, set, members_of, complement_if}
 use Rattle.regress_classes.specs.Properties.{Property, of_points, of_strings}
 use Rattle.regress_classes.specs.ClassSets.{Value, joined, folded_left, is_among, common, without, Operand, character, class, parts_at, operands_at, class_set_by}
 use Rattle.regress_lexer.specs.Source.{Source, Found, found_map, IsCodePoint, char}
@@ -37,10 +37,6 @@ abbrev pub IsClassAtomInRange : CodeClassAtom → Type 0
 IsClassAtomInRange (class_atoms.Point c) = IsCodePoint c
 IsClassAtomInRange (class_atoms.Class kind negated) = Unit {0}
 IsClassAtomInRange (class_atoms.Set members negated) = Unit {0}
-
--- a literal of one code unit
-abbrev pub is_plain : Parameters → ℕ → Bool
-is_plain parameters c = not (c == char "]" || c == char "\\" || (splits parameters && is_pair (point c)))
 
 -- The set has these members. The code keeps a set as canonical intervals, not as it was written.
 pub record HasMembers (members set : List Bounds) : Type 0 where

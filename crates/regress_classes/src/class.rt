@@ -1,21 +1,19 @@
 //! Parses classes without the flag v.
-ghost use Rattle.std.specs.Prelude.{◌≡◌, ◌+◌, ◌&&◌, true, false, drop, if◌then◌else◌, Some, None, List, [], ◌∷◌, length, OnOk, IfSome, IfNone};
+ghost use Rattle.std.specs.Prelude.{◌≡◌, ◌+◌, ◌==◌, ◌&&◌, not, true, false, drop, if◌then◌else◌, Some, None, List, [], ◌∷◌, length, OnOk, IfSome, IfNone};
 ghost use Rattle.regress_base.specs.Intervals.{Bounds};
 ghost use Rattle.regress_classes.specs.ClassProductions.{point, is_pair, splits, complement_if, atom_members, units_between, begins_range, range_of, range_end_at, range_at, class_part_at, class_parts_by, class_at};
 ghost use Rattle.regress_base.specs.Table.{Table};
 ghost use Rattle.regress_unicode.specs.TableOf.{table_of};
-ghost use Rattle.regress_lexer.specs.Source.{IsCodePoint};
+ghost use Rattle.regress_lexer.specs.Source.{IsCodePoint, char};
 ghost use Rattle.regress_lexer.specs.Fault.{FailsByNoLimit, FailsOnlyIf};
 ghost use Rattle.regress_lexer.specs.Reads.{ParsesAs};
 ghost use Rattle.regress_classes.specs.declared.parameters.Parameters.{Parameters};
-ghost use Rattle.regress_classes.specs.ClassViews.{class_atom_of, IsClassAtomInRange, is_plain, HasMembers, Adds, IsClassRead};
+ghost use Rattle.regress_classes.specs.ClassViews.{class_atom_of, IsClassAtomInRange, HasMembers, Adds, IsClassRead};
 ghost use Rattle.regress_lexer.specs.Views.{source};
 
 use crate::class_atom::{ClassAtom, read_class_atom};
 use crate::class_escape::class_escape_set;
-use crate::code_units::{
-    add_point, add_units_after, add_units_before, first_unit, is_split, last_unit,
-};
+use crate::code_units::{add_point, add_units_after, add_units_before, first_unit, last_unit};
 use crate::gathered::IntervalCollector;
 use crate::parameters::Parameters;
 use regress_base::codepointset::{CodePointSet, Interval};
@@ -104,42 +102,53 @@ fn parse_part(
     read_any_part(cursor, around, set)
 }
 
-/// Consumes a literal code point, or a range of two literal code points, if one is next. Most parts are such.
+/// Consumes a literal code point, or a range of two literal code points, if one is next whose code points are one member
+/// each. Most parts are such.
 fn take_plain_part(cursor: &mut Cursor, parameters: &Parameters) -> Option<Interval>
     ensures some { IfSome result (λ part. (table : Table) →
         class_part_at table parameters.now (source cursor.old) ≡ Some (part ∷ [], source cursor.new)) }
     ensures none { IfNone result (source cursor.new ≡ source cursor.old) }
 {
-    let (first, after) = split_plain(cursor.rest, parameters)?;
+    let (first, after) = split_plain(cursor.rest)?;
     match after.split_first() {
         Some((hyphen, rest)) if *hyphen == u32::from('-') => {
-            let (last, rest) = split_plain(rest, parameters)?;
-            if first > last {
+            let (last, rest) = split_plain(rest)?;
+            if first > last || splits_point(last, parameters) {
                 return None;
             }
             cursor.rest = rest;
             Some(Interval::new(first, last))
         }
         _ => {
+            if splits_point(first, parameters) {
+                return None;
+            }
             cursor.rest = after;
             Some(Interval::new(first, first))
         }
     }
 }
 
-/// Splits off the first code point, if it is a literal of one code unit.
-fn split_plain<'a>(source: &'a [u32], parameters: &Parameters) -> Option<(u32, &'a [u32])>
-    ensures { IfSome result (λ found. (source.now ≡ found.0 ∷ found.1.now) × (is_plain parameters.now found.0 ≡ true)) }
+/// Splits off the first code point, if it is a literal.
+fn split_plain(source: &[u32]) -> Option<(u32, &[u32])>
+    ensures { IfSome result (λ found. (source.now ≡ found.0 ∷ found.1.now) × ((not (found.0 == char "]") && not (found.0 == char "\\")) ≡ true)) }
 {
     let (c, rest) = source.split_first()?;
-    is_literal(*c, parameters).then_some((*c, rest))
+    is_literal(*c).then_some((*c, rest))
 }
 
-/// Returns whether the code point is a literal of one code unit in a class.
-fn is_literal(c: u32, parameters: &Parameters) -> bool
-    ensures { result ≡ is_plain parameters.now c }
+/// Returns whether the code point is a literal in a class.
+fn is_literal(c: u32) -> bool
+    ensures { result ≡ (not (c == char "]") && not (c == char "\\")) }
 {
-    !(c == u32::from(']') || c == u32::from('\\') || c >= 0x10000 && parameters.splits())
+    c != u32::from(']') && c != u32::from('\\')
+}
+
+/// Returns whether the code point is two members.
+fn splits_point(c: u32, parameters: &Parameters) -> bool
+    ensures { result ≡ (splits parameters.now && is_pair (point c)) }
+{
+    c >= 0x10000 && parameters.splits()
 }
 
 /// Parses an atom or a range of any kind, and adds its members.
@@ -217,7 +226,7 @@ fn split_point(atom: &ClassAtom, parameters: &Parameters) -> Option<u32>
     let ClassAtom::Point(c) = atom else {
         return None;
     };
-    is_split(parameters.splits(), *c).then_some(*c)
+    splits_point(*c, parameters).then_some(*c)
 }
 
 /// Parses the last atom of a range after its hyphen, where it begins no other range, and adds the members of the range.

@@ -9,7 +9,7 @@ use regress_base::codepointset::Interval;
 use std::alloc::AllocError;
 
 /// Returns whether the code point is two code units. `splits` tells whether those above U+FFFF are.
-pub(crate) fn is_split(splits: bool, c: u32) -> bool
+fn is_split(splits: bool, c: u32) -> bool
     ensures { result ≡ (splits && is_pair (point c)) }
 {
     splits && c >= 0x10000
