@@ -1,8 +1,7 @@
 -- The lines of an input are searched one after another.
 use mir.Val.{bool_byte}
-use Rattle.std.proofs.Common.{◌≡◌, inl, inr, ℕ, ◌+◌, ◌≤◌, Bool, true, false, List, [], ◌∷◌, ◌++◌, Option, Some, None, refl, sym, ap, subst, arith, append-nil, ◌∙◌}
+use Rattle.std.proofs.Common.{◌≡◌, inr, ℕ, ◌+◌, ◌≤◌, Bool, true, false, List, [], ◌∷◌, ◌++◌, Option, Some, None, refl, sym, ap, subst, arith, append-nil, ◌∙◌}
 use Rattle.std.specs.Prelude.{Result, Ok, Err, IfErr, nat_lt}
-use Rattle.std.specs.Result.{IsErrAnd}
 use Rattle.std.specs.Io.KnownBytes.{Appends, IsAtEnd}
 use Rattle.std.specs.List.{FoldsTo}
 use Rattle.std.proofs.lemmas.Fn.{FoldsTo-push}
@@ -15,7 +14,6 @@ use Rattle.regex_options.specs.Plain.{Job}
 use Rattle.regex_lines.specs.Reading.{IsRead, is_ended, is_last}
 use Rattle.regex_lines.specs.Reply.{IsReply}
 use Rattle.regex_lines.specs.declared.failure.Failure.{Failure}
-use Rattle.regex_lines.specs.declared.failure.Failure.TheVariants.{Argument, Memory, Output, Closed, Syntax, TooLarge, OutOfSteps, Unreadable, Incomplete, PatternNotUtf8, TooLong}
 use Rattle.regex_lines.specs.declared.reading.Next.{Next}
 use Rattle.regex_lines.specs.declared.reading.Next.TheVariants.{Line, LastLine, End}
 use Rattle.regex_lines.proofs.FoldLemmas.{stays}

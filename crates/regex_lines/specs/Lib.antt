@@ -1,5 +1,6 @@
 pub mod Ending
 pub mod InLine
+pub mod Left
 pub mod Prefix
 pub mod Reading
 pub mod Reply

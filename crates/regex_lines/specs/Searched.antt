@@ -1,5 +1,5 @@
 -- What is written for an input, and for all inputs.
-use Rattle.std.specs.Prelude.{ℕ, Bool, List, ◌≡◌, ◌-◌, true, false, [], ◌∷◌, ◌++◌, length, take, slice_index, if◌then◌else◌, ◌==◌, Option, IfSome, ◌⊎◌, ◌+◌, ◌&&◌, ◌||◌, Some, None, codes, nat_le, nat_lt, map}
+use Rattle.std.specs.Prelude.{ℕ, Bool, List, ◌≡◌, ◌-◌, true, false, [], ◌∷◌, ◌++◌, length, take, slice_index, if◌then◌else◌, ◌==◌, Option, IfSome, ◌⊎◌, ◌+◌, ◌&&◌, ◌||◌, Some, None, bytes_eq, codes, nat_le, nat_lt}
 use Rattle.std.specs.List.{FoldsTo}
 use Rattle.std.specs.Fmt.{decimal}
 use Rattle.std.specs.Io.KnownBytes.{Appends}
@@ -18,9 +18,17 @@ pub record Named : Type 0 where
   pub in_front : Bool
   pub multiline : Bool
 
--- the name as the code represents it
+-- `-` is standard input.
+abbrev pub is_standard : (file : List ℕ) → Bool
+is_standard file = bytes_eq file (codes "-")
+
+-- what an input is called
+abbrev pub input_name : (file : List ℕ) → List ℕ
+input_name file = if is_standard file then codes "(standard input)" else file
+
+-- the same as the code represents it
 abbrev pub named : Place → Named
-named place = record { name = place.name.now; in_front = place.in_front; multiline = place.multiline }
+named place = record { name = input_name place.file.now; in_front = place.in_front; multiline = place.multiline }
 
 -- the bytes end with a line feed
 abbrev pub has_line_feed : List ℕ → Bool
@@ -171,14 +179,32 @@ module _ (r : Regex) (job : Job) where
 abbrev pub Input : Type 0
 Input = Named × Option (List ℕ)
 
--- The files with these names. Their names are in front of lines if there are several. Nothing is known of their bytes.
-abbrev pub named_files : (multiline : Bool) → List (List ℕ) → List Input
-named_files multiline files = map (λ name. (record { name = name; in_front = nat_lt 1 (length files); multiline = multiline }, None)) files
+-- The bytes of an input, if they are known, where standard input has these left. Nothing is known of those of a file.
+abbrev pub bytes_of : (file : List ℕ) → (left : Option (List ℕ)) → Option (List ℕ)
+bytes_of file left = if is_standard file then left else None
 
--- the files, or standard input if there are none
+-- what standard input has left after an input: it is read once
+abbrev pub left_after : (file : List ℕ) → (left : Option (List ℕ)) → Option (List ℕ)
+left_after file left = if is_standard file then Some [] else left
+
+module _ (in_front multiline : Bool) where
+  -- the input with this name
+  abbrev pub input_of : (file : List ℕ) → (left : Option (List ℕ)) → Input
+  input_of file left = (record { name = input_name file; in_front = in_front; multiline = multiline }, bytes_of file left)
+
+  -- the inputs with these names, in order
+  abbrev pub named_inputs : (files : List (List ℕ)) → (left : Option (List ℕ)) → List Input
+  named_inputs [] left = []
+  named_inputs (file ∷ files) left = input_of file left ∷ named_inputs files (left_after file left)
+
+-- the names of files, or that of standard input if there are none
+abbrev pub or_standard : List (List ℕ) → List (List ℕ)
+or_standard [] = codes "-" ∷ []
+or_standard (file ∷ files) = file ∷ files
+
+-- The files, or standard input if there are none. Their names are in front of lines if there are several.
 abbrev pub inputs_of : (multiline : Bool) → (files : List (List ℕ)) → (input : Option (List ℕ)) → List Input
-inputs_of multiline [] input = (record { name = codes "(standard input)"; in_front = false; multiline = multiline }, input) ∷ []
-inputs_of multiline (file ∷ files) input = named_files multiline (file ∷ files)
+inputs_of multiline files input = named_inputs (nat_lt 1 (length files)) multiline (or_standard files) input
 
 -- whether a line was selected, which inputs were not read, and what was written
 pub record Result : Type 0 where

@@ -1,19 +1,20 @@
 //! The files that are searched, or standard input.
-ghost use Rattle.std.specs.Prelude.{◌≡◌, [], IfOk, IfErr, None, map, string_bytes};
+ghost use Rattle.std.specs.Prelude.{◌≡◌, [], IfOk, IfErr, None, length, map, nat_lt, string_bytes};
 ghost use Rattle.regex_lines.specs.Ending.{IsCostly, IsInputFailure, IsSearchFailure, OrOutput};
-ghost use Rattle.regex_lines.specs.Searched.{AddsInput, WritesInput, WritesInputs, WritesSomeOf, has_ended, inputs_of, named_files, named, SearchesFirst};
+ghost use Rattle.regex_lines.specs.Left.{left_of};
+ghost use Rattle.regex_lines.specs.Searched.{AddsInput, WritesInput, WritesInputs, WritesSomeOf, bytes_of, has_ended, inputs_of, left_after, named_inputs, named, SearchesFirst};
 ghost use Rattle.regex_lines.specs.Unread.{IsSkipped, all_unread};
 ghost use Rattle.regex_options.specs.Plain.{job};
 
 use crate::failure::{Failure, read_failure};
-use crate::place::Place;
+use crate::place::{Place, STANDARD_INPUT, is_standard};
 use crate::searcher::Searcher;
 use crate::searching::{InputSearch, reaches, search_lines, write_end};
 use crate::unread::Unread;
 use regex_options::{Search, Shown, Task};
 use regress::Regex;
 use std::fs::{File, Files};
-use std::io::{BufRead, BufReader, Read, Write};
+use std::io::{self, BufRead, BufReader, Read, Write};
 
 /// What a search in inputs ended with.
 #[derive(Drop)]
@@ -24,8 +25,9 @@ pub struct Searched<'a> {
     pub unread: Vec<Unread<'a>>,
 }
 
-/// Searches with a regular expression in files, in order until the search ends, or in `input` if there are none. Returns
-/// whether a line is selected, and the inputs that cannot be read: after one of them the search goes on with the next.
+/// Searches with a regular expression in files, in order until the search ends, or in `input` if there are none. The name `-`
+/// denotes `input` among them, which is empty after its first search. Returns whether a line is selected, and the inputs that
+/// cannot be read: after one of them the search goes on with the next.
 ///
 /// # Errors
 /// The result is a failure of the output, of a search or of memory, or that an input is too long. What was written for the
@@ -49,11 +51,11 @@ pub fn search_all<'a, R: Files + AllocGlobal, I: Read + Drop, W: Write>(
         let result = search_standard_input(&searcher, search, input, out, &mut unread);
         return Searched { result, unread };
     }
-    let result = search_files(rt, &searcher, search, out, &mut unread);
+    let result = search_files(rt, &searcher, search, input, out, &mut unread);
     Searched { result, unread }
 }
 
-/// Searches standard input.
+/// Searches standard input alone.
 fn search_standard_input<'a, I: Read + Drop, W: Write>(
     searcher: &Searcher<'_>,
     search: Search<'a>,
@@ -72,7 +74,7 @@ fn search_standard_input<'a, I: Read + Drop, W: Write>(
         return Ok(false);
     }
     let place = Place {
-        name: "(standard input)",
+        file: STANDARD_INPUT,
         in_front: false,
         multiline: search.multiline,
     };
@@ -85,29 +87,31 @@ fn search_standard_input<'a, I: Read + Drop, W: Write>(
     search_input(search, input, out, unread)
 }
 
-/// Searches files in order.
-fn search_files<'a, R: Files, W: Write>(
+/// Searches files in order, and standard input where its name is among them.
+fn search_files<'a, R: Files, I: Read + Drop, W: Write>(
     rt: &R,
     searcher: &Searcher<'_>,
     search: Search<'a>,
+    input: I,
     out: &mut W,
     unread: &mut Vec<Unread<'a>>,
 ) -> Result<bool, Failure<'a>>
     requires none { unread.old.items ≡ [] }
     ensures all { IfOk result (WritesInputs searcher.now.regex.now (job search.entry.task)
-        (named_files search.entry.multiline (map string_bytes search.entry.files.now)) (W.contents out.old) (W.contents out.new) (all_unread unread.new)) }
+        (named_inputs (nat_lt 1 (length search.entry.files.now)) search.entry.multiline (map string_bytes search.entry.files.now) (I.remaining input)) (W.contents out.old) (W.contents out.new) (all_unread unread.new)) }
     ensures first { IfErr result (OrOutput (WritesSomeOf searcher.now.regex.now (job search.entry.task)
-        (named_files search.entry.multiline (map string_bytes search.entry.files.now)) (W.contents out.old) (W.contents out.new) (all_unread unread.new))) }
+        (named_inputs (nat_lt 1 (length search.entry.files.now)) search.entry.multiline (map string_bytes search.entry.files.now) (I.remaining input)) (W.contents out.old) (W.contents out.new) (all_unread unread.new))) }
     ensures failed { IfErr result (IsSearchFailure (IsCostly searcher.now.regex.now)) }
 {
     let in_front = search.files.len() > 1;
+    let mut left = Some(input);
     let mut any = false;
     for file in search.files {
         if has_ended(search.task, any) {
             return Ok(any);
         }
         let place = Place {
-            name: file.as_str(),
+            file: file.as_str(),
             in_front,
             multiline: search.multiline,
         };
@@ -117,7 +121,7 @@ fn search_files<'a, R: Files, W: Write>(
             place,
             at_once: search.at_once,
         };
-        any |= search_file(rt, search, out, unread)?;
+        any |= search_next(rt, search, &mut left, out, unread)?;
     }
     Ok(any)
 }
@@ -134,6 +138,47 @@ fn has_ended(task: Task<'_>, any: bool) -> bool
     }
 }
 
+/// Searches a file, or what is left of standard input.
+fn search_next<'a, R: Files, I: Read + Drop, W: Write>(
+    rt: &R,
+    search: InputSearch<'_, 'a>,
+    left: &mut Option<I>,
+    out: &mut W,
+    unread: &mut Vec<Unread<'a>>,
+) -> Result<bool, Failure<'a>>
+    ensures all { IfOk result (AddsInput search.entry.searcher.now.regex.now (job search.entry.task) (named search.entry.place) (bytes_of search.entry.place.file.now (left_of I.remaining left.old))
+        (W.contents out.old) (W.contents out.new) (all_unread unread.old) (all_unread unread.new)) }
+    ensures first { IfErr result (OrOutput (SearchesFirst search.entry.searcher.now.regex.now (job search.entry.task) (named search.entry.place) (bytes_of search.entry.place.file.now (left_of I.remaining left.old)) (W.contents out.old) (W.contents out.new))) }
+    ensures kept { IfErr result (λ _. all_unread unread.new ≡ all_unread unread.old) }
+    ensures failed { IfErr result (IsSearchFailure (IsCostly search.entry.searcher.now.regex.now)) }
+    ensures after { left_of I.remaining left.new ≡ left_after search.entry.place.file.now (left_of I.remaining left.old) }
+{
+    if is_standard(search.place.file) {
+        search_left(search, left.take(), out, unread)
+    } else {
+        search_file(rt, search, out, unread)
+    }
+}
+
+/// Searches what is left of standard input.
+fn search_left<'a, I: Read + Drop, W: Write>(
+    search: InputSearch<'_, 'a>,
+    left: Option<I>,
+    out: &mut W,
+    unread: &mut Vec<Unread<'a>>,
+) -> Result<bool, Failure<'a>>
+    ensures all { IfOk result (AddsInput search.entry.searcher.now.regex.now (job search.entry.task) (named search.entry.place) (left_of I.remaining left)
+        (W.contents out.old) (W.contents out.new) (all_unread unread.old) (all_unread unread.new)) }
+    ensures first { IfErr result (OrOutput (SearchesFirst search.entry.searcher.now.regex.now (job search.entry.task) (named search.entry.place) (left_of I.remaining left) (W.contents out.old) (W.contents out.new))) }
+    ensures kept { IfErr result (λ _. all_unread unread.new ≡ all_unread unread.old) }
+    ensures failed { IfErr result (IsSearchFailure (IsCostly search.entry.searcher.now.regex.now)) }
+{
+    match left {
+        Some(input) => search_input(search, input, out, unread),
+        None => search_input(search, io::empty(), out, unread),
+    }
+}
+
 /// Searches a file, or adds it to those that are not read.
 fn search_file<'a, R: Files, W: Write>(
     rt: &R,
@@ -147,13 +192,10 @@ fn search_file<'a, R: Files, W: Write>(
     ensures kept { IfErr result (λ _. all_unread unread.new ≡ all_unread unread.old) }
     ensures failed { IfErr result (IsSearchFailure (IsCostly search.entry.searcher.now.regex.now)) }
 {
-    match File::open(rt, search.place.name) {
+    let name = search.place.name();
+    match File::open(rt, search.place.file) {
         Ok(file) => search_input(search, file, out, unread),
-        Err(error) => skip(
-            read_failure(error, search.place.name),
-            search.place.name,
-            unread,
-        ),
+        Err(error) => skip(read_failure(error, name), name, unread),
     }
 }
 
@@ -172,7 +214,7 @@ fn search_input<'a, I: Read + Drop, W: Write>(
 {
     match read_input(search, input, out) {
         Ok(any) => Ok(any),
-        Err(failure) => skip(failure, search.place.name, unread),
+        Err(failure) => skip(failure, search.place.name(), unread),
     }
 }
 

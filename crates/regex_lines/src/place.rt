@@ -1,9 +1,38 @@
 //! Inputs as they are shown.
+ghost use Rattle.std.specs.Prelude.{◌≡◌};
+ghost use Rattle.regex_lines.specs.Searched.{is_standard};
 
-/// The name of an input, whether it is shown in front of each line, and whether the input is one line.
+/// The name among files that denotes standard input.
+pub(crate) const STANDARD_INPUT: &str = "-";
+
+/// An input, whether its name is shown in front of each line, and whether it is one line.
 #[derive(Clone, Copy)]
 pub(crate) struct Place<'a> {
-    pub(crate) name: &'a str,
+    /// The name of the file, or that of standard input.
+    pub(crate) file: &'a str,
     pub(crate) in_front: bool,
     pub(crate) multiline: bool,
+}
+
+impl<'a> Place<'a> {
+    ghost use Rattle.std.specs.Prelude.{◌≡◌};
+    ghost use Rattle.regex_lines.specs.Searched.{input_name};
+
+    /// Returns what the input is called.
+    pub(crate) fn name(self) -> &'a str
+        ensures { result.now ≡ input_name self.entry.file.now }
+    {
+        if is_standard(self.file) {
+            "(standard input)"
+        } else {
+            self.file
+        }
+    }
+}
+
+/// Returns whether a name denotes standard input.
+pub(crate) fn is_standard(file: &str) -> bool
+    ensures { result ≡ is_standard file.now }
+{
+    file == STANDARD_INPUT
 }

@@ -23,7 +23,7 @@ pub(crate) fn prefix_text(alloc: Global, prefix: Prefix<'_>) -> Result<String, A
     ensures { IfOk result (λ text. string_bytes text ≡ text_of prefix.entry) }
 {
     if shows_json(prefix.task) {
-        json_prefix(alloc, prefix.place.name, prefix.number)
+        json_prefix(alloc, prefix.place.name(), prefix.number)
     } else {
         text_prefix(alloc, prefix)
     }
@@ -63,7 +63,7 @@ pub(crate) fn name_in_front(alloc: Global, place: Place<'_>) -> Result<String, A
     ensures { IfOk result (λ text. string_bytes text ≡ name_of (named place.entry)) }
 {
     if place.in_front {
-        Ok(format!(in alloc; "{}:", place.name)?)
+        Ok(format!(in alloc; "{}:", place.name())?)
     } else {
         Ok(String::new(alloc))
     }

@@ -57,7 +57,7 @@ pub(crate) fn search_lines<'a, B: BufRead, W: Write>(
             return Ok(selected);
         }
     }
-    Err(Failure::TooLong(search.place.name))
+    Err(Failure::TooLong(search.place.name()))
 }
 
 /// Returns whether this many selected lines are enough.
@@ -102,7 +102,7 @@ fn next_line<'a, B: BufRead>(
 {
     match read_next(reader, place.multiline, line) {
         Ok(next) => Ok(next),
-        Err(error) => Err(read_failure(error, place.name)),
+        Err(error) => Err(read_failure(error, place.name())),
     }
 }
 
@@ -169,7 +169,7 @@ fn end(alloc: Global, task: Task<'_>, place: Place<'_>, selected: u64) -> Result
             end.push_str(&format!(in alloc; "{selected}\n")?)?;
             Ok(end)
         }
-        Shown::Names if selected > 0 => Ok(format!(in alloc; "{}\n", place.name)?),
+        Shown::Names if selected > 0 => Ok(format!(in alloc; "{}\n", place.name())?),
         Shown::Lines | Shown::Matches | Shown::Json | Shown::Names | Shown::Nothing => {
             Ok(String::new(alloc))
         }

@@ -67,6 +67,7 @@ pub const COMMANDS: [CommandEntry; 8] = [
 usage: regex match [OPTION..] PATTERN [FILE..]
 
 Writes the lines of the files, or of standard input, in which PATTERN matches.
+A FILE - is standard input.
 
 ",
         examples: "\
@@ -87,7 +88,7 @@ usage: regex replace [OPTION..] PATTERN TEMPLATE [FILE..]
 
 Writes the lines of the files, or of standard input, with each match of PATTERN
 replaced by TEMPLATE, in which $& is the match, $1 a group, $<name> a group with
-a name, and $$ a dollar sign.
+a name, and $$ a dollar sign. A FILE - is standard input.
 
 ",
         examples: "\
@@ -107,7 +108,7 @@ examples:
 usage: regex split [OPTION..] PATTERN [FILE..]
 
 Writes each piece between the matches of PATTERN, in the lines of the files, or
-of standard input, on a line.
+of standard input, on a line. A FILE - is standard input.
 
 ",
         examples: "\

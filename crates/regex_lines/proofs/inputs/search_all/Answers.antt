@@ -1,17 +1,11 @@
-use Rattle.std.proofs.Common.{◌≡◌, ◌∙◌, ℕ, Bool, false, List, [], ◌∷◌, Option, eq-eqb, eqb, length, map, refl, rules, sym, subst}
-use Rattle.std.specs.Prelude.{IfErr, String, string_bytes}
-use Rattle.std.specs.declared.alloc.Global.{Global}
+use Rattle.std.proofs.Common.{◌≡◌, ◌∙◌, length, map, rules, sym, subst}
+use Rattle.std.specs.Prelude.{IfErr, string_bytes}
 use Rattle.regex_lines.specs.Ending.{OrOutput}
-use Rattle.regex_lines.specs.Searched.{WritesSomeOf, inputs_of, named_files}
+use Rattle.regex_lines.specs.Searched.{WritesSomeOf, inputs_of}
 use Rattle.regex_lines.specs.Unread.{all_unread}
 use Rattle.regex_options.specs.Plain.{job}
-use Rattle.regex_lines.proofs.InputLemmas.{no_files}
+use Rattle.regex_lines.proofs.InputLemmas.{no_files, some_files}
 use Rattle.regex_lines.proofs.inputs.search_all.Goals as goal
-
-some_files : (multiline : Bool) (files : List (String Global)) (input : Option (List ℕ)) → eqb (length files) 0 ≡ false →
-    inputs_of multiline (map string_bytes files) input ≡ named_files multiline (map string_bytes files)
-some_files multiline [] input some = let bad : ⊥ = cc (eq-eqb 0 0 refl, some) in absurd bad
-some_files multiline (file ∷ files) input some = refl
 
 pub returns-then-is_empty-clause-first : goal.returns-then-is_empty-clause-first
 returns-then-is_empty-clause-first g c =
