@@ -11,6 +11,7 @@ macro_rules! expect_eq {
 }
 
 mod cookbook_examples;
+mod dialects;
 mod examples;
 mod regular_expressions;
 mod schemas;
