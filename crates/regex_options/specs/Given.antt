@@ -4,6 +4,8 @@ use Rattle.std.specs.Str.{all_ascii_digits}
 use Rattle.std.specs.Str.Parse.{digits_value}
 use Rattle.regress_arguments.specs.Letters.{no_flags, with_letters}
 use Rattle.regress_base.specs.declared.types.Flags.{Flags}
+use Rattle.regress_lexer.specs.declared.dialect.Dialect.{Dialect}
+use Rattle.regress_lexer.specs.declared.dialect.Dialect.TheVariants.{Regress, Ecma}
 use Rattle.regex_options.specs.Plain.{Source, in_argument, in_file, source}
 use Rattle.regex_options.specs.declared.given.Color.{Color}
 use Rattle.regex_options.specs.declared.given.Color.TheVariants.{Always, Never, Auto}
@@ -12,7 +14,7 @@ use Rattle.regex_options.specs.declared.given.Options.{Options}
 use Rattle.regex_options.specs.declared.table.Switch.{Switch}
 use Rattle.regex_options.specs.declared.table.Switch.TheVariants.{Help, Version, IgnoreCase, Fixed, WholeLines, WholeWords, Multiline, LineBuffered, Binary, Invert, Numbers, Shown, Json, Stage, Small, Html}
 use Rattle.regex_options.specs.declared.table.Value.{Value}
-use Rattle.regex_options.specs.declared.table.Value.TheVariants.{Pattern, File, Flags as FlagLetters, Count, Color as When, Text}
+use Rattle.regex_options.specs.declared.table.Value.TheVariants.{Pattern, File, Flags as FlagLetters, Dialect as DialectName, Count, Color as When, Text}
 use Rattle.regex_options.specs.declared.task.Shown.TheVariants.{Lines}
 
 -- the options, and the texts that they have: the pattern of the last option, and the text of a page
@@ -26,6 +28,7 @@ no_options = record {
   help = false;
   version = false;
   flags = no_flags;
+  dialect = Regress;
   form = record { fixed = false; lines = false; words = false };
   selection = record { invert = false; numbers = false; shown = Lines; max_count = None; paints = false };
   multiline = false;
@@ -77,6 +80,16 @@ js_flags o flags =
 abbrev pub with_flags : (letters : List ℕ) → Options → Option Options
 with_flags letters o = option_and_then (js_flags o) (with_letters no_flags letters)
 
+-- a dialect by its name
+abbrev pub dialect_of : List ℕ → Option Dialect
+dialect_of name =
+    if bytes_eq name (codes "regress") then Some Regress
+    else if bytes_eq name (codes "ecma") then Some Ecma
+    else None
+
+abbrev pub with_dialect : (name : List ℕ) → Options → Option Options
+with_dialect name o = option_map (λ dialect. record o { dialect = dialect }) (dialect_of name)
+
 -- the number that decimal digits denote, if it has 64 bits
 abbrev pub count_of : List ℕ → Option ℕ
 count_of text =
@@ -106,6 +119,7 @@ abbrev pub valued : Value → (text : List ℕ) → Given → Option Given
 valued Pattern text given = Some (with_pattern (in_argument text) given)
 valued File text given = Some (with_pattern (in_file text) given)
 valued FlagLetters text given = option_map (λ options. record given { options = options }) (with_flags text given.options)
+valued DialectName text given = option_map (λ options. record given { options = options }) (with_dialect text given.options)
 valued Count text given = option_map (λ options. record given { options = options }) (with_count text given.options)
 valued When text given = option_map (λ options. record given { options = options }) (with_color text given.options)
 valued Text text given = Some (record given { text = Some text })

@@ -7,6 +7,7 @@ use Rattle.regress_display.specs.declared.request.Format.{Format}
 use Rattle.regress_display.specs.declared.request.Format.TheVariants.{Text, Json, Svg}
 use Rattle.regress_display.specs.declared.request.Stage.{Stage}
 use Rattle.regress_display.specs.declared.request.Stage.TheVariants as stages
+use Rattle.regress_lexer.specs.declared.dialect.Dialect.{Dialect}
 use Rattle.regex_options.specs.Table.{command_help, is_named, program_help, topic_text}
 use Rattle.regex_options.specs.Given.{Given}
 use Rattle.regex_options.specs.Plain.{Job, job, matching, replacing, Source, in_argument, sources, UsageError, excluded_by_json, missing, on_ok, or_error, text_without_page, unexpected, unknown_command, unknown_option, unless_error}
@@ -56,10 +57,11 @@ pub data Action : Type 0 where
   lint : Action
   explain : Form → Action
 
--- patterns, their flags, how they are read, and what to do with them
+-- patterns, their flags and dialect, how they are read, and what to do with them
 pub record Request : Type 0 where
   pub patterns : List Source
   pub flags : Flags
+  pub dialect : Dialect
   pub form : PatternForm
   pub action : Action
 
@@ -88,7 +90,7 @@ action (Explain form) = explain (asked_form form)
 
 -- a request as the code represents it
 abbrev pub requested : code.Request → Request
-requested r = record { patterns = sources r.patterns; flags = r.flags; form = r.form; action = action r.action }
+requested r = record { patterns = sources r.patterns; flags = r.flags; dialect = r.dialect; form = r.form; action = action r.action }
 
 -- what the arguments ask for, as the code represents it
 abbrev pub ask : Asked → Ask
@@ -164,7 +166,13 @@ taken_patterns [] (pattern ∷ args) = Some (in_argument pattern ∷ [], args)
 
 -- the request with these options and patterns, for this action
 abbrev pub request_for : Options → (patterns : List Source) → Action → Ask
-request_for options patterns action = apply (record { patterns = patterns; flags = options.flags; form = options.form; action = action })
+request_for options patterns action = apply (record {
+  patterns = patterns;
+  flags = options.flags;
+  dialect = options.dialect;
+  form = options.form;
+  action = action;
+})
 
 -- the request of an operation, with its arguments
 abbrev pub request_of : (terminal : Bool) → Operation → Words → Result Ask UsageError

@@ -6,6 +6,7 @@ use crate::source::{PatternForm, PatternSource};
 use crate::task::{Selection, Shown};
 use regress_base::types::Flags;
 use regress_display::Stage;
+use regress_lexer::Dialect;
 
 /// When matches are in color.
 #[derive(Clone, Copy)]
@@ -22,6 +23,7 @@ pub(crate) struct Options {
     pub(crate) help: bool,
     pub(crate) version: bool,
     pub(crate) flags: Flags,
+    pub(crate) dialect: Dialect,
     pub(crate) form: PatternForm,
     pub(crate) selection: Selection,
     /// Whether a text is searched as one, and not line by line.
@@ -57,6 +59,7 @@ pub(crate) fn nothing_given() -> Given<'static>
             help: false,
             version: false,
             flags: Flags::default(),
+            dialect: Dialect::Regress,
             form: PatternForm {
                 fixed: false,
                 lines: false,

@@ -16,6 +16,7 @@ use crate::table::OptionEntry;
 use crate::task::{Selection, Shown, Task};
 use regress_base::types::Flags;
 use regress_display::{Format, Stage};
+use regress_lexer::Dialect;
 use std::alloc::Global;
 
 /// What the arguments ask for.
@@ -36,6 +37,8 @@ pub struct Request<'a> {
     pub patterns: Patterns<'a>,
     /// Their flags.
     pub flags: Flags,
+    /// Their dialect.
+    pub dialect: Dialect,
     /// How they are read, and what a match has to be.
     pub form: PatternForm,
     /// What to do with them.
@@ -306,6 +309,7 @@ fn read_request<'p, 'a: 'p>(
     Ok(Asked::Apply(Request {
         patterns,
         flags: given.options.flags,
+        dialect: given.options.dialect,
         form: given.options.form,
         action: read_action(operation, given, rest, output)?,
     }))

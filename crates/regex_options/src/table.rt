@@ -87,6 +87,8 @@ pub enum Value {
     File,
     /// The flags.
     Flags,
+    /// The dialect.
+    Dialect,
     /// How many lines of an input are selected at most.
     Count,
     /// When matches are in color.
@@ -246,7 +248,7 @@ const OF_EXPLAIN: Scope = Scope {
 };
 
 /// The options, in the order of the help.
-pub const OPTIONS: [OptionEntry; 27] = [
+pub const OPTIONS: [OptionEntry; 28] = [
     OptionEntry {
         short: Some("-e"),
         long: Some("regexp"),
@@ -289,6 +291,18 @@ pub const OPTIONS: [OptionEntry; 27] = [
         }),
         scope: OF_PATTERNS,
         line: "      --flags LETTERS       flags of JavaScript, letters of imsuv, each at most\n                            once; v includes u; none by default\n",
+    },
+    OptionEntry {
+        short: None,
+        long: Some("dialect"),
+        sets: Sets::Value(Argument {
+            value: Value::Dialect,
+            name: "NAME",
+            default: None,
+            kind: "NAME (regress or ecma)",
+        }),
+        scope: OF_LINES,
+        line: "      --dialect NAME        the dialect of PATTERN: regress, or ecma, in which less\n                            differs from JavaScript; regress by default\n",
     },
     OptionEntry {
         short: Some("-F"),

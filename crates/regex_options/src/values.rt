@@ -1,6 +1,6 @@
 //! What options with an argument set.
 ghost use Rattle.std.specs.Prelude.{◌≡◌, option_map};
-ghost use Rattle.regex_options.specs.Given.{color_of, count_of, given_by, valued, with_color, with_count, with_flags, with_pattern};
+ghost use Rattle.regex_options.specs.Given.{color_of, count_of, dialect_of, given_by, valued, with_color, with_count, with_dialect, with_flags, with_pattern};
 ghost use Rattle.regex_options.specs.Plain.{source};
 
 use crate::given::{Color, Given, Options};
@@ -9,6 +9,7 @@ use crate::table::Value;
 use crate::task::Selection;
 use regress_arguments::parse_flags;
 use regress_base::types::Flags;
+use regress_lexer::Dialect;
 
 /// Returns what is given with one more option; `None` if its argument is invalid.
 pub(crate) fn valued<'a>(value: Value, text: &'a str, given: Given<'a>) -> Option<Given<'a>>
@@ -23,6 +24,10 @@ pub(crate) fn valued<'a>(value: Value, text: &'a str, given: Given<'a>) -> Optio
         }),
         Value::Flags => Some(Given {
             options: with_flags(given.options, text)?,
+            ..given
+        }),
+        Value::Dialect => Some(Given {
+            options: with_dialect(given.options, text)?,
             ..given
         }),
         Value::Count => Some(Given {
@@ -62,6 +67,24 @@ fn with_flags(options: Options, letters: &str) -> Option<Options>
         },
         ..options
     })
+}
+
+/// Sets the dialect by its name.
+fn with_dialect(options: Options, name: &str) -> Option<Options>
+    ensures { result ≡ with_dialect name.now options }
+{
+    let dialect = dialect_of(name)?;
+    Some(Options { dialect, ..options })
+}
+
+fn dialect_of(name: &str) -> Option<Dialect>
+    ensures { result ≡ dialect_of name.now }
+{
+    match name {
+        "regress" => Some(Dialect::Regress),
+        "ecma" => Some(Dialect::Ecma),
+        _ => None,
+    }
 }
 
 /// Sets how many lines are selected at most.
