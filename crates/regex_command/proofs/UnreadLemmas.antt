@@ -10,7 +10,8 @@ use Rattle.regex_lines.specs.declared.failure.Failure.TheVariants.{Argument, Mem
 use Rattle.regex_lines.specs.declared.unread.Unread as code
 use Rattle.regex_options.specs.Plain.{Job}
 use Rattle.regex_options.specs.Request.{Action, Ask, apply, escape, explain, help, lint, search, show}
-use Rattle.regress.specs.Compiled.{IsCompiled}
+use Rattle.regress.specs.Compiled.{IsCompiledIn}
+use Rattle.regress_front.specs.declared.parse.Dialect.{Dialect}
 use Rattle.regress_tree.specs.Steps.{Setting}
 use Rattle.std.specs.Prelude.{⊤, IfErr, IfOk, Result, Ok, Err, is_ok}
 
@@ -52,20 +53,20 @@ quiet_none none quiet (help text) h is = h
 quiet_none none quiet (escape string) h is = h
 quiet_none none quiet (apply request) h is = quiet_at none quiet request.action h is
 
-module _ (setting : Setting) (text : List ℕ) (job : Job) (multiline : Bool) (files : List (List ℕ)) (input old new : Option (List ℕ)) (r : Regex) where
-  module _ (compiled : IsCompiled setting text r) (any : Bool) (unread : List Unread) where
+module _ (dialect : Dialect) (setting : Setting) (text : List ℕ) (job : Job) (multiline : Bool) (files : List (List ℕ)) (input old new : Option (List ℕ)) (r : Regex) where
+  module _ (compiled : IsCompiledIn dialect setting text r) (any : Bool) (unread : List Unread) where
     -- all inputs, at the end of a search
     pub prints_all : (result : Result Bool Failure) → is_complete job any unread ≡ is_ok result → IfOk result (λ found. found ≡ any || changes job) →
-        WritesInputs r job (inputs_of multiline files input) old new unread any → IfOk result (PrintsAll setting text job multiline files input old new)
+        WritesInputs r job (inputs_of multiline files input) old new unread any → IfOk result (PrintsAll dialect setting text job multiline files input old new)
     prints_all (Ok found) complete is writes = (r, compiled, (any, is, (unread, complete, writes)))
     prints_all (Err failure) complete is writes = tt
 
     pub prints_incomplete : (same : Type 0) (result : Result Bool Failure) → is_complete job any unread ≡ is_ok result → IfErr result (λ failure. failure ≡ Incomplete) →
         WritesInputs r job (inputs_of multiline files input) old new unread any →
-        IfErr result (λ failure. OrOutput (same ⊎ PrintsFirst setting text job multiline files input old new failure) failure)
+        IfErr result (λ failure. OrOutput (same ⊎ PrintsFirst dialect setting text job multiline files input old new failure) failure)
     prints_incomplete same (Ok found) complete is writes = tt
     prints_incomplete same (Err failure) complete is writes =
-        subst (λ f. OrOutput (same ⊎ PrintsFirst setting text job multiline files input old new f) f) (sym is)
+        subst (λ f. OrOutput (same ⊎ PrintsFirst dialect setting text job multiline files input old new f) f) (sym is)
         (inr (inr (r, compiled, (any || changes job, (any, refl, (unread, complete, writes))))))
 
 pub none_of : (a b : Bool) → false ≡ a || b → a ≡ false

@@ -4,9 +4,9 @@ use Rattle.std.specs.Str.{byte}
 use Rattle.regex_options.specs.Plain.{matching, replacing}
 use Rattle.regex_options.specs.Request.{Action, Request, explain, lint, search, show}
 use Rattle.regex_options.specs.declared.source.PatternForm.{PatternForm}
-use Rattle.regress.specs.Unicode.{unicode_setting}
 use Rattle.regress_escape.specs.Escape.{escaped}
-use Rattle.regex_command.specs.Patterns.{IsAcceptedPattern}
+use Rattle.regex_command.specs.Patterns.{IsAcceptedPatternIn}
+use Rattle.regex_lines.specs.Ending.{setting_in}
 
 -- the pattern of a text, or the pattern itself
 abbrev pub part : (fixed : Bool) → (pattern : List ℕ) → List ℕ
@@ -62,4 +62,5 @@ module _ (request : Request) (patterns : List (List ℕ)) where
   pub record AreJoinable : Type 0 where
     pub taken : are_several patterns ≡ true → takes_several request.action ≡ true
     pub closed : are_several patterns ≡ true → request.form.fixed ≡ false → All IsClosed patterns
-    pub accepted : are_parts request.form patterns ≡ true → All (λ pattern. IsAcceptedPattern (unicode_setting request.flags) (chars pattern)) patterns
+    pub accepted : are_parts request.form patterns ≡ true →
+        All (λ pattern. IsAcceptedPatternIn request.dialect (setting_in request.dialect request.flags) (chars pattern)) patterns

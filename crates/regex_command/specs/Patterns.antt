@@ -20,9 +20,11 @@ use Rattle.regress_explain.specs.Page.{IsPageOf}
 use Rattle.regress_found.specs.Found.{start_of, state_of}
 use Rattle.regress_found.specs.Repeated.{AreAllMatches}
 use Rattle.regress_found.specs.declared.found.Match.{Match}
-use Rattle.regress_parse.specs.Accepted.{IsAccepted}
+use Rattle.regress_parse.specs.Accepted.{IsAccepted, IsAcceptedIn}
 use Rattle.regress_parse.specs.Rejected.{NoneIsAccepted}
 use Rattle.regress_parse.specs.declared.span.Span.{Span}
+use Rattle.regress_front.specs.declared.parse.Dialect.{Dialect}
+use Rattle.regress_front.specs.declared.parse.Dialect.TheVariants.{Regress}
 use Rattle.regress_spans.specs.Paired.{spanned_of}
 use Rattle.regress_spans.specs.Remarks.{Said}
 use Rattle.regress_syntax.specs.Syntax.{Pattern}
@@ -120,8 +122,12 @@ MayFailToLint setting source (PatternNotUtf8 name offset) = ⊥
 MayFailToLint setting source (TooLong name) = ⊥
 
 -- Some pattern is accepted.
+abbrev pub IsAcceptedPatternIn : Dialect → Setting → (source : List ℕ) → Type 0
+IsAcceptedPatternIn dialect setting source = (p : Pattern) × IsAcceptedIn dialect setting source p
+
+-- The same in the default dialect.
 abbrev pub IsAcceptedPattern : Setting → (source : List ℕ) → Type 0
-IsAcceptedPattern setting source = (p : Pattern) × IsAccepted setting source p
+IsAcceptedPattern = IsAcceptedPatternIn Regress
 
 -- Some text for an accepted pattern, and nothing to standard output for a rejected one.
 abbrev pub IsExplanation : (accepted : Bool) → Setting → (source : List ℕ) → List ℕ → Type 0

@@ -5,9 +5,8 @@ use Rattle.std.specs.List.{Any, FoldsTo}
 use Rattle.regex_options.specs.Plain.{Job, matching, replacing, Source, in_argument, in_file}
 use Rattle.regex_options.specs.Request.{Action, Ask, Request, apply, escape, explain, help, lint, search, show}
 use Rattle.regex_options.specs.declared.request.View.{View}
-use Rattle.regress.specs.Compiled.{IsCompiled}
+use Rattle.regress.specs.Compiled.{IsCompiledIn}
 use Rattle.regress.specs.Failures.{IsTooLarge}
-use Rattle.regress.specs.Limits.{default_options}
 use Rattle.regress.specs.Unicode.{unicode_setting}
 use Rattle.regress.specs.declared.pattern.Regex.{Regex}
 use Rattle.regress_arguments.specs.Output.{Took}
@@ -16,9 +15,11 @@ use Rattle.regress_display.specs.Request as trees
 use Rattle.regress_display.specs.Request.{table_asked}
 use Rattle.regress_display.specs.Shown.{IsFirstOutput}
 use Rattle.regress_escape.specs.Escape.{escaped}
-use Rattle.regress_front.specs.Rejected.{NoneIsAccepted}
+use Rattle.regress_front.specs.Rejected.{NoneIsAcceptedIn}
+use Rattle.regress_front.specs.declared.parse.Dialect.{Dialect}
+use Rattle.regress_front.specs.declared.parse.Dialect.TheVariants.{Regress}
 use Rattle.regress_tree.specs.Steps.{Setting}
-use Rattle.regex_lines.specs.Ending.{IsCostlyPattern, IsLate, IsSearchFailure, MayFailToRead}
+use Rattle.regex_lines.specs.Ending.{IsCostlyPatternIn, IsLate, IsSearchFailure, MayFailToRead, options_in, setting_in}
 use Rattle.regex_command.specs.Joined.{AreJoinable, are_parts, are_several, joined, refers, takes_several}
 use Rattle.regex_command.specs.Patterns.{IsExplanationIn, MayFailToExplain, MayFailToLint, IsReport, IsTreeOutput, IsQuietFor, IsShowFailure}
 use Rattle.regex_lines.specs.Searched.{Input, WritesInputs, WritesSomeOf, inputs_of, is_nothing}
@@ -48,18 +49,22 @@ abbrev pub AreUnread : List Source → Failure → Type 0
 AreUnread sources failure = Any (λ source. IsUnread source failure) sources
 
 -- No pattern is accepted, or it is too large, or memory is short.
+abbrev pub IsRejectedIn : Dialect → Setting → (text : List ℕ) → Failure → Type 0
+IsRejectedIn dialect setting text Argument = ⊥
+IsRejectedIn dialect setting text Memory = ⊤
+IsRejectedIn dialect setting text Output = ⊥
+IsRejectedIn dialect setting text Closed = ⊥
+IsRejectedIn dialect setting text (Syntax pattern message position) = NoneIsAcceptedIn dialect setting (chars text)
+IsRejectedIn dialect setting text TooLarge = IsTooLarge setting (chars text) (options_in dialect)
+IsRejectedIn dialect setting text OutOfSteps = ⊥
+IsRejectedIn dialect setting text (Unreadable unread) = ⊥
+IsRejectedIn dialect setting text Incomplete = ⊥
+IsRejectedIn dialect setting text (PatternNotUtf8 name offset) = ⊥
+IsRejectedIn dialect setting text (TooLong name) = ⊥
+
+-- The same in the default dialect.
 abbrev pub IsRejected : Setting → (text : List ℕ) → Failure → Type 0
-IsRejected setting text Argument = ⊥
-IsRejected setting text Memory = ⊤
-IsRejected setting text Output = ⊥
-IsRejected setting text Closed = ⊥
-IsRejected setting text (Syntax pattern message position) = NoneIsAccepted setting (chars text)
-IsRejected setting text TooLarge = IsTooLarge setting (chars text) default_options
-IsRejected setting text OutOfSteps = ⊥
-IsRejected setting text (Unreadable unread) = ⊥
-IsRejected setting text Incomplete = ⊥
-IsRejected setting text (PatternNotUtf8 name offset) = ⊥
-IsRejected setting text (TooLong name) = ⊥
+IsRejected = IsRejectedIn Regress
 
 abbrev pub IsSyntaxError : Failure → Type 0
 IsSyntaxError (Syntax pattern message position) = ⊤
@@ -68,7 +73,8 @@ IsSyntaxError failure = ⊥
 module _ (request : Request) (patterns : List (List ℕ)) (failure : Failure) where
   -- A pattern that becomes a part of another one is rejected.
   abbrev pub HasRejectedPart : Type 0
-  HasRejectedPart = (are_parts request.form patterns ≡ true) × Any (λ pattern. IsRejected (unicode_setting request.flags) pattern failure) patterns
+  HasRejectedPart = (are_parts request.form patterns ≡ true)
+      × Any (λ pattern. IsRejectedIn request.dialect (setting_in request.dialect request.flags) pattern failure) patterns
 
   -- There are several patterns where one is taken, or one of them refers to a group.
   abbrev pub AreBadSeveral : Type 0
@@ -91,9 +97,9 @@ LacksPattern request failure =
 
 -- A failure of a search: a syntax error is due only if no pattern is accepted, and too many steps only if it is costly. Or
 -- inputs were not read.
-abbrev pub IsDue : Setting → (text : List ℕ) → Failure → Type 0
-IsDue setting text failure =
-    IsRejected setting text failure ⊎ IsSearchFailure (IsCostlyPattern setting text) failure ⊎ (failure ≡ Incomplete)
+abbrev pub IsDue : Dialect → Setting → (text : List ℕ) → Failure → Type 0
+IsDue dialect setting text failure =
+    IsRejectedIn dialect setting text failure ⊎ IsSearchFailure (IsCostlyPatternIn dialect setting text) failure ⊎ (failure ≡ Incomplete)
 
 -- a job that changes lines
 abbrev pub changes : Job → Bool
@@ -123,15 +129,15 @@ module _ (r : Regex) (job : Job) (inputs : List Input) where
   SearchesUntil Incomplete old new = (found : Bool) × Searches old new false found
   SearchesUntil failure old new = (unread : List Unread) × WritesSomeOf r job inputs old new unread
 
-module _ (setting : Setting) (text : List ℕ) (job : Job) (multiline : Bool) (files : List (List ℕ)) where
+module _ (dialect : Dialect) (setting : Setting) (text : List ℕ) (job : Job) (multiline : Bool) (files : List (List ℕ)) where
   -- All inputs were searched.
   abbrev pub PrintsAll : (input old new : Option (List ℕ)) → (found : Bool) → Type 0
-  PrintsAll input old new found = (r : Regex) × IsCompiled setting text r × Searches r job (inputs_of multiline files input) old new true found
+  PrintsAll input old new found = (r : Regex) × IsCompiledIn dialect setting text r × Searches r job (inputs_of multiline files input) old new true found
 
   -- What was searched before a failure.
   abbrev pub PrintsFirst : (input old new : Option (List ℕ)) → Failure → Type 0
   PrintsFirst input old new failure =
-      (r : Regex) × IsCompiled setting text r × SearchesUntil r job (inputs_of multiline files input) failure old new
+      (r : Regex) × IsCompiledIn dialect setting text r × SearchesUntil r job (inputs_of multiline files input) failure old new
 
 -- a text, escaped, on a line
 abbrev pub PrintsEscaped : (old new : Option (List ℕ)) → (text : List ℕ) → Type 0
@@ -147,25 +153,27 @@ view_of view flags text = record {
   flags = flags;
 }
 
-module _ (flags : Flags) (text : List ℕ) where
+module _ (dialect : Dialect) (flags : Flags) (text : List ℕ) where
   -- What is written for a pattern: the output of a search, a tree, a report, or an explanation. `found` states whether
   -- something is found, the pattern is accepted, or for a report, there is nothing to report.
   abbrev pub Does : Action → (input old new : Option (List ℕ)) → (found : Bool) → Type 0
-  Does (search job multiline files) input old new found = PrintsAll (unicode_setting flags) text job multiline files input old new found
+  Does (search job multiline files) input old new found =
+      PrintsAll dialect (setting_in dialect flags) text job multiline files input old new found
   Does (show view) input old new found = Took old new (IsTreeOutput found (view_of view flags text))
   Does lint input old new found = Took old new (IsReport found (unicode_setting flags) text)
   Does (explain form) input old new found = Took old new (IsExplanationIn form found (unicode_setting flags) text)
 
   -- What may be written before a failure: what a search writes before it, or the first of two trees.
   abbrev pub Begins : Action → (input old new : Option (List ℕ)) → Failure → Type 0
-  Begins (search job multiline files) input old new failure = PrintsFirst (unicode_setting flags) text job multiline files input old new failure
+  Begins (search job multiline files) input old new failure =
+      PrintsFirst dialect (setting_in dialect flags) text job multiline files input old new failure
   Begins (show view) input old new failure = Took old new (IsFirstOutput (view_of view flags text))
   Begins lint input old new failure = ⊥
   Begins (explain form) input old new failure = ⊥
 
   -- A failure is due: a syntax error only for a search or a report whose pattern is rejected.
   abbrev pub MayFailAt : Action → Failure → Type 0
-  MayFailAt (search job multiline files) failure = IsDue (unicode_setting flags) text failure
+  MayFailAt (search job multiline files) failure = IsDue dialect (setting_in dialect flags) text failure
   MayFailAt (show view) failure = IsShowFailure (view_of view flags text) failure
   MayFailAt lint failure = MayFailToLint (unicode_setting flags) (chars text) failure
   MayFailAt (explain form) failure = MayFailToExplain form (unicode_setting flags) text failure
@@ -175,7 +183,7 @@ abbrev pub Prints : (input old new : Option (List ℕ)) → (found : Bool) → A
 Prints input old new found (help text) = (found ≡ true) × Appends old new text
 Prints input old new found (escape string) = (found ≡ true) × PrintsEscaped old new string
 Prints input old new found (apply request) =
-    OfPattern request (λ pattern. Does request.flags pattern request.action input old new found)
+    OfPattern request (λ pattern. Does request.dialect request.flags pattern request.action input old new found)
 
 -- Nothing is written to standard error where something is found, unless the search shows nothing: then messages of inputs
 -- that are not read may be.
@@ -208,14 +216,14 @@ abbrev pub PrintsSome : (input old new : Option (List ℕ)) → (nothing : Type 
 PrintsSome input old new nothing (help text) failure = nothing
 PrintsSome input old new nothing (escape string) failure = nothing
 PrintsSome input old new nothing (apply request) failure =
-    nothing ⊎ OfPattern request (λ pattern. Begins request.flags pattern request.action input old new failure)
+    nothing ⊎ OfPattern request (λ pattern. Begins request.dialect request.flags pattern request.action input old new failure)
 
 -- A failure is due.
 abbrev pub MayFail : Ask → Failure → Type 0
 MayFail (help text) failure = IsLate failure
 MayFail (escape string) failure = IsLate failure
 MayFail (apply request) failure =
-    LacksPattern request failure ⊎ OfPattern request (λ pattern. MayFailAt request.flags pattern request.action failure)
+    LacksPattern request failure ⊎ OfPattern request (λ pattern. MayFailAt request.dialect request.flags pattern request.action failure)
 
 -- the exit status if nothing is found: 2 if that means that the pattern is rejected
 abbrev pub status_of_none : Action → ℕ

@@ -36,7 +36,7 @@ pub(crate) fn check_patterns<'f>(
         }
     }
     if are_parts(request.form, patterns) {
-        compile_each(alloc, request.flags, patterns)?;
+        compile_each(alloc, request.dialect, request.flags, patterns)?;
     }
     Ok(())
 }

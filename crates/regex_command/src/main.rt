@@ -9,12 +9,11 @@ ghost use Rattle.std.specs.Io.KnownBytes.{Appends};
 ghost use Rattle.regress_display.specs.Request.{requested};
 ghost use Rattle.regex_options.specs.Table.{topic_text};
 ghost use Rattle.regex_options.specs.Request.{action, ask, asked_by, requested as request_asked};
-ghost use Rattle.regex_lines.specs.Ending.{IsLate, OrOutput};
+ghost use Rattle.regex_lines.specs.Ending.{IsLate, OrOutput, setting_in};
 ghost use Rattle.regex_options.specs.Plain.{job};
 ghost use Rattle.regex_command.specs.Printed.{Begins, Does, IsDue, IsQuiet, IsQuietAt, IsQuietFound, IsQuietIfFound, LacksPattern, MayFail, MayFailAt, Prints, PrintsAll, PrintsEscaped, PrintsFirst, PrintsSome, changes, is_complete, is_silent, status_if_none, view_of, OfPattern};
 ghost use Rattle.regex_lines.specs.Unread.{unread_of};
 ghost use Rattle.regex_lines.specs.declared.failure.Failure.TheVariants.{Incomplete};
-ghost use Rattle.regress.specs.Unicode.{unicode_setting};
 
 mod checking;
 mod compiling;
@@ -25,7 +24,7 @@ mod pattern;
 mod showing;
 mod size;
 
-use compiling::compiled;
+use compiling::compiled_in;
 use explaining::print_explanation;
 use linting::print_lint;
 use pattern::{Pattern, pattern_text};
@@ -35,6 +34,7 @@ use regex_options::{
     Topic, UsageError, View, allows_color, interpret, parse_arguments, topic_text,
     write_usage_error,
 };
+use regress::Dialect;
 use regress_arguments::{ArgumentsError, arguments};
 use regress_display::Request as TreeRequest;
 use regress_escape::escape;
@@ -224,12 +224,12 @@ fn apply<'a, R: Files + AllocGlobal, I: Read + Drop, W: Write, E: Write>(
     out: &mut W,
     err: &mut E,
 ) -> Result<bool, Failure<'a>>
-    ensures found { IfOk result (λ found. OfPattern (request_asked request.entry) (λ pattern. Does request.entry.flags pattern
+    ensures found { IfOk result (λ found. OfPattern (request_asked request.entry) (λ pattern. Does request.entry.dialect request.entry.flags pattern
         (action request.entry.action) (I.remaining input) (W.contents out.old) (W.contents out.new) found)) }
     ensures first { IfErr result (λ failure. OrOutput ((out.new ≡ out.old) ⊎ OfPattern (request_asked request.entry)
-        (λ pattern. Begins request.entry.flags pattern (action request.entry.action) (I.remaining input) (W.contents out.old) (W.contents out.new) failure)) failure) }
+        (λ pattern. Begins request.entry.dialect request.entry.flags pattern (action request.entry.action) (I.remaining input) (W.contents out.old) (W.contents out.new) failure)) failure) }
     ensures due { IfErr result (λ failure. LacksPattern (request_asked request.entry) failure
-        ⊎ OfPattern (request_asked request.entry) (λ pattern. MayFailAt request.entry.flags pattern (action request.entry.action) failure)) }
+        ⊎ OfPattern (request_asked request.entry) (λ pattern. MayFailAt request.entry.dialect request.entry.flags pattern (action request.entry.action) failure)) }
     ensures quiet { result ≡ Ok true → IsQuietFound (err.new ≡ err.old) (action request.entry.action) }
     ensures quiet_none { IsQuietAt (result ≡ Ok false) (err.new ≡ err.old) (action request.entry.action) }
 {
@@ -240,6 +240,7 @@ fn apply<'a, R: Files + AllocGlobal, I: Read + Drop, W: Write, E: Write>(
     };
     let wanted = Wanted {
         pattern,
+        dialect: request.dialect,
         action: request.action,
     };
     apply_to(rt, wanted, input, out, err)
@@ -249,6 +250,8 @@ fn apply<'a, R: Files + AllocGlobal, I: Read + Drop, W: Write, E: Write>(
 #[derive(Clone, Copy)]
 struct Wanted<'p, 'a> {
     pattern: Pattern<'p>,
+    /// The dialect of a pattern that is searched for.
+    dialect: Dialect,
     action: Action<'a>,
 }
 
@@ -260,18 +263,24 @@ fn apply_to<'a, R: Files + AllocGlobal, I: Read + Drop, W: Write, E: Write>(
     out: &mut W,
     err: &mut E,
 ) -> Result<bool, Failure<'a>>
-    ensures found { IfOk result (Does wanted.entry.pattern.flags wanted.entry.pattern.text.now (action wanted.entry.action) (I.remaining input)
+    ensures found { IfOk result (Does wanted.entry.dialect wanted.entry.pattern.flags wanted.entry.pattern.text.now (action wanted.entry.action) (I.remaining input)
         (W.contents out.old) (W.contents out.new)) }
-    ensures first { IfErr result (λ failure. OrOutput ((out.new ≡ out.old) ⊎ Begins wanted.entry.pattern.flags wanted.entry.pattern.text.now
+    ensures first { IfErr result (λ failure. OrOutput ((out.new ≡ out.old) ⊎ Begins wanted.entry.dialect wanted.entry.pattern.flags wanted.entry.pattern.text.now
         (action wanted.entry.action) (I.remaining input) (W.contents out.old) (W.contents out.new) failure) failure) }
-    ensures due { IfErr result (MayFailAt wanted.entry.pattern.flags wanted.entry.pattern.text.now (action wanted.entry.action)) }
+    ensures due { IfErr result (MayFailAt wanted.entry.dialect wanted.entry.pattern.flags wanted.entry.pattern.text.now (action wanted.entry.action)) }
     ensures quiet { result ≡ Ok true → IsQuietFound (err.new ≡ err.old) (action wanted.entry.action) }
     ensures quiet_none { IsQuietAt (result ≡ Ok false) (err.new ≡ err.old) (action wanted.entry.action) }
 {
     let pattern = wanted.pattern;
     match wanted.action {
         Action::Search(search) => {
-            print_search(rt, PatternSearch { pattern, search }, input, out, err)
+            let dialect = wanted.dialect;
+            let wanted = PatternSearch {
+                pattern,
+                dialect,
+                search,
+            };
+            print_search(rt, wanted, input, out, err)
         }
         Action::Show(view) => print_tree(rt.alloc(), view_of(view, pattern), out, err),
         Action::Lint => print_lint(rt.alloc(), pattern, out),
@@ -297,6 +306,7 @@ fn view_of(view: View, pattern: Pattern<'_>) -> TreeRequest<'_>
 #[derive(Clone, Copy)]
 struct PatternSearch<'p, 'a> {
     pattern: Pattern<'p>,
+    dialect: Dialect,
     search: Search<'a>,
 }
 
@@ -312,15 +322,15 @@ fn print_search<'a, R: Files + AllocGlobal, I: Read + Drop, W: Write, E: Write>(
     out: &mut W,
     err: &mut E,
 ) -> Result<bool, Failure<'a>>
-    ensures all { IfOk result (PrintsAll (unicode_setting wanted.entry.pattern.flags) wanted.entry.pattern.text.now (job wanted.entry.search.task)
+    ensures all { IfOk result (PrintsAll wanted.entry.dialect (setting_in wanted.entry.dialect wanted.entry.pattern.flags) wanted.entry.pattern.text.now (job wanted.entry.search.task)
         wanted.entry.search.multiline (map string_bytes wanted.entry.search.files.now) (I.remaining input) (W.contents out.old) (W.contents out.new)) }
-    ensures first { IfErr result (λ failure. OrOutput ((out.new ≡ out.old) ⊎ PrintsFirst (unicode_setting wanted.entry.pattern.flags) wanted.entry.pattern.text.now
+    ensures first { IfErr result (λ failure. OrOutput ((out.new ≡ out.old) ⊎ PrintsFirst wanted.entry.dialect (setting_in wanted.entry.dialect wanted.entry.pattern.flags) wanted.entry.pattern.text.now
         (job wanted.entry.search.task) wanted.entry.search.multiline (map string_bytes wanted.entry.search.files.now) (I.remaining input) (W.contents out.old) (W.contents out.new) failure) failure) }
-    ensures due { IfErr result (IsDue (unicode_setting wanted.entry.pattern.flags) wanted.entry.pattern.text.now) }
+    ensures due { IfErr result (IsDue wanted.entry.dialect (setting_in wanted.entry.dialect wanted.entry.pattern.flags) wanted.entry.pattern.text.now) }
     ensures quiet { result ≡ Ok true → is_silent (job wanted.entry.search.task) ≡ false → err.new ≡ err.old }
     ensures quiet_none { result ≡ Ok false → err.new ≡ err.old }
 {
-    let regex = compiled(rt.alloc(), wanted.pattern)?;
+    let regex = compiled_in(rt.alloc(), wanted.dialect, wanted.pattern)?;
     let Searched { result, unread } = search_all(rt, &regex, wanted.search, input, out);
     let flushed = flush(out);
     report_unread(&unread, err);

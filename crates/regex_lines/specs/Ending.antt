@@ -1,12 +1,18 @@
 -- How a run of the program ends.
 use Rattle.std.specs.Prelude.{◌≡◌, ◌⊎◌, ⊤, ℕ, Bool, false, List, None, Result, Ok, Err, chars}
-use Rattle.regress.specs.Compiled.{IsCompiled}
+use Rattle.regress.specs.Compiled.{IsCompiledIn}
 use Rattle.regress.specs.Costs.{AllCostLimit, CostsLimit, factor_of}
 use Rattle.regress.specs.Kept.{Keeps}
 use Rattle.regress.specs.Limits.{default_options}
+use Rattle.regress.specs.Unicode.{unicode_setting}
 use Rattle.regress.specs.declared.failure.SearchError.{SearchError}
 use Rattle.regress.specs.declared.failure.SearchError.TheVariants as errors
+use Rattle.regress.specs.declared.limits.Options.{Options}
 use Rattle.regress.specs.declared.pattern.Regex.{Regex}
+use Rattle.regress_front.specs.Dialects.{flags_in_force}
+use Rattle.regress_front.specs.declared.parse.Dialect.{Dialect}
+use Rattle.regress_front.specs.declared.parse.Dialect.TheVariants.{Regress}
+use Rattle.regress_front.specs.declared.types.Flags.{Flags}
 use Rattle.regress_parse.specs.declared.fault.PlacedFault.{PlacedFault}
 use Rattle.regress_parse.specs.declared.fault.PlacedFault.TheVariants as placed
 use Rattle.regress_tree.specs.Steps.{Setting}
@@ -27,10 +33,13 @@ IsLate Incomplete = ⊥
 IsLate (PatternNotUtf8 name offset) = ⊥
 IsLate (TooLong name) = ⊥
 
--- The regular expression that the program compiles from a pattern: with the default options.
-pub record IsOwn (setting : Setting) (text : List ℕ) (r : Regex) : Type 0 where
-  pub compiled : IsCompiled setting text r
-  pub keeps : Keeps default_options setting.flags (chars text) r
+-- the default options with this dialect
+abbrev pub options_in : Dialect → Options
+options_in dialect = record default_options { dialect = dialect }
+
+-- the flags in force, and the table of all of Unicode
+abbrev pub setting_in : Dialect → Flags → Setting
+setting_in dialect flags = unicode_setting (flags_in_force dialect flags)
 
 -- Searches with the regular expression are not known to take linear time, and in some text they cost at least the step
 -- limit: one search, or those for all matches.
@@ -39,9 +48,23 @@ pub record IsCostly (r : Regex) : Type 0 where
   pub text : List ℕ
   pub costs : CostsLimit r text 0 ⊎ AllCostLimit r text 0
 
--- The regular expression of the pattern is costly.
+module _ (dialect : Dialect) where
+  -- The regular expression that the program compiles from a pattern: with the default options.
+  pub record IsOwnIn (setting : Setting) (text : List ℕ) (r : Regex) : Type 0 where
+    pub compiled : IsCompiledIn dialect setting text r
+    pub keeps : Keeps (options_in dialect) setting.flags (chars text) r
+
+  -- The regular expression of the pattern is costly.
+  abbrev pub IsCostlyPatternIn : Setting → (text : List ℕ) → Type 0
+  IsCostlyPatternIn setting text = (r : Regex) × IsOwnIn setting text r × IsCostly r
+
+-- ---- the same in the default dialect
+
+abbrev pub IsOwn : Setting → (text : List ℕ) → Regex → Type 0
+IsOwn = IsOwnIn Regress
+
 abbrev pub IsCostlyPattern : Setting → (text : List ℕ) → Type 0
-IsCostlyPattern setting text = (r : Regex) × IsOwn setting text r × IsCostly r
+IsCostlyPattern = IsCostlyPatternIn Regress
 
 -- why a search fails, as a failure of the program
 abbrev pub search_failure : SearchError → Failure
