@@ -1,5 +1,5 @@
 -- What a report is.
-use Rattle.std.proofs.Common.{◌≡◌, ◌≢◌, ◌==◌, ◌∙◌, ◌+◌, ◌<◌, ◌≤◌, ℕ, Bool, List, [], ◌∷◌, ◌++◌, map, Option, Some, None, length, take, get_or, refl, ap, ap₂, subst, sym, append-nil, append_assoc}
+use Rattle.std.proofs.Common.{◌≡◌, ◌==◌, ◌∙◌, ◌+◌, ◌<◌, ◌≤◌, ℕ, Bool, List, [], ◌∷◌, ◌++◌, map, Option, Some, None, length, take, get_or, refl, ap, ap₂, subst, sym, append-nil, append_assoc}
 use Rattle.std.specs.Prelude.{Result, Ok, Err, IfOk, chars, codes}
 use Rattle.std.specs.Fmt.{decimal}
 use Rattle.std.specs.Io.KnownBytes.{Appends}
@@ -21,13 +21,9 @@ use Rattle.regress_syntax.specs.Syntax.{Pattern}
 use Rattle.regress_tree.specs.Tree.{Tree}
 use Rattle.regress_warnings.specs.Warned as warnings
 use Rattle.regex_command.specs.Remarks.{AreRemarks}
-use Rattle.regress_tree.specs.Steps.{Setting}
-use Rattle.regex_lines.specs.Ending.{IsLate}
-use Rattle.regex_command.specs.Patterns.{HasDifferences, HasWarnings, IsAcceptedPattern, IsListed, IsListedNext, IsReport, MayFailToLint, line_of}
-use Rattle.regex_command.specs.Printed.{IsRejected}
+use Rattle.regex_command.specs.Patterns.{HasDifferences, HasWarnings, IsListed, IsListedNext, IsReport, MayFailToLint, line_of}
 use Rattle.regex_command.specs.Size.{IsSizeWarning, said_of_size}
 use Rattle.regex_command.specs.declared.size.SizeWarning.{SizeWarning}
-use Rattle.regex_lines.specs.declared.failure.Failure.TheVariants.{Argument, Memory, Output, Closed, Syntax, TooLarge, OutOfSteps, Unreadable, Incomplete, PatternNotUtf8, TooLong}
 use Rattle.regress.specs.Unicode.{unicode_setting}
 use Rattle.regex_lines.specs.declared.failure.Failure.{Failure}
 use Rattle.regex_command.proofs.SettingLemmas.{under_unicode}

@@ -1,6 +1,6 @@
 -- What is warned of in the size of a pattern.
 use Rattle.std.specs.Prelude.{◌≡◌, ℕ, List, Option, Some, None}
-use Rattle.std.proofs.Common.{◌∙◌, sym, refl}
+use Rattle.std.proofs.Common.{◌∙◌, sym}
 use Rattle.regress.specs.Costs.{nonlinear_of}
 use Rattle.regress.specs.declared.pattern.Regex.{Regex}
 use Rattle.regress_match.specs.declared.nonlinear.Nonlinear.TheVariants.{BackReference, CapturingLookaround, TooManyInstructions}

@@ -1,5 +1,5 @@
 -- What `parse`, `draw`, `lint` and `explain` write.
-use Rattle.std.specs.Prelude.{◌≡◌, ◌⊎◌, ⊤, ℕ, Bool, true, false, List, [], ◌==◌, ◌&&◌, ◌++◌, chars, codes, length, map, Option, Some, None}
+use Rattle.std.specs.Prelude.{◌≡◌, ◌⊎◌, ⊤, ℕ, Bool, true, false, List, [], ◌==◌, ◌++◌, chars, codes, length, map, Option, Some, None}
 use Rattle.std.specs.Fmt.{decimal}
 use Rattle.std.specs.List.{FoldsTo}
 use Rattle.std.specs.declared.ops.Range.{Range}
@@ -22,7 +22,6 @@ use Rattle.regress_found.specs.Repeated.{AreAllMatches}
 use Rattle.regress_found.specs.declared.found.Match.{Match}
 use Rattle.regress_parse.specs.Accepted.{IsAccepted, IsAcceptedIn}
 use Rattle.regress_parse.specs.Rejected.{NoneIsAccepted}
-use Rattle.regress_parse.specs.declared.span.Span.{Span}
 use Rattle.regress_front.specs.declared.parse.Dialect.{Dialect}
 use Rattle.regress_front.specs.declared.parse.Dialect.TheVariants.{Regress}
 use Rattle.regress_spans.specs.Paired.{spanned_of}

@@ -1,4 +1,4 @@
-use Rattle.std.proofs.Common.{◌≡◌, ℕ, List, Option, Some, None, Bor, refl, sym, subst}
+use Rattle.std.proofs.Common.{ℕ, List, Option, Some, None, Bor, refl, sym, subst}
 use Rattle.std.specs.Option.{option_map}
 use Rattle.regress.specs.Unicode.{unicode_setting}
 use Rattle.regress_explain.specs.Page.{IsPageOf}

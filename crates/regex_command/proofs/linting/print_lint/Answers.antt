@@ -1,5 +1,4 @@
 use Rattle.std.proofs.Common.{◌∙◌, ap, length, sym}
-use Rattle.regress.specs.Unicode.{unicode_setting}
 use Rattle.regress_spans.specs.Remarks.{said_by}
 use Rattle.regress_tree.specs.Tree.{tree}
 use Rattle.regress_unicode.specs.TableOf.{table_of}
