@@ -1,7 +1,7 @@
 -- Inputs that are not read.
-use Rattle.std.proofs.Common.{◌≡◌, ◌⊎◌, ◌||◌, inl, inr, ℕ, Bool, true, false, List, [], ◌∷◌, Option, map, refl, subst, sym}
+use Rattle.std.proofs.Common.{◌≡◌, ◌⊎◌, ◌||◌, inr, ℕ, Bool, true, false, List, [], ◌∷◌, Option, map, refl, subst, sym}
 use Rattle.regress.specs.declared.pattern.Regex.{Regex}
-use Rattle.regex_command.specs.Printed.{IsDue, IsQuiet, IsQuietAt, PrintsAll, PrintsFirst, SearchesUntil, changes, is_complete, is_silent}
+use Rattle.regex_command.specs.Printed.{IsQuiet, IsQuietAt, PrintsAll, PrintsFirst, SearchesUntil, changes, is_complete, is_silent}
 use Rattle.regex_lines.specs.Ending.{IsSearchFailure, OrOutput}
 use Rattle.regex_lines.specs.Searched.{Input, WritesInputs, WritesSomeOf, inputs_of}
 use Rattle.regex_lines.specs.Unread.{Unread, unread_of}
@@ -57,12 +57,12 @@ module _ (dialect : Dialect) (setting : Setting) (text : List ℕ) (job : Job) (
   module _ (compiled : IsCompiledIn dialect setting text r) (any : Bool) (unread : List Unread) where
     -- all inputs, at the end of a search
     pub prints_all : (result : Result Bool Failure) → is_complete job any unread ≡ is_ok result → IfOk result (λ found. found ≡ any || changes job) →
-        WritesInputs r job (inputs_of multiline files input) old new unread any → IfOk result (PrintsAll dialect setting text job multiline files input old new)
+        WritesInputs r job (inputs_of job multiline files input) old new unread any → IfOk result (PrintsAll dialect setting text job multiline files input old new)
     prints_all (Ok found) complete is writes = (r, compiled, (any, is, (unread, complete, writes)))
     prints_all (Err failure) complete is writes = tt
 
     pub prints_incomplete : (same : Type 0) (result : Result Bool Failure) → is_complete job any unread ≡ is_ok result → IfErr result (λ failure. failure ≡ Incomplete) →
-        WritesInputs r job (inputs_of multiline files input) old new unread any →
+        WritesInputs r job (inputs_of job multiline files input) old new unread any →
         IfErr result (λ failure. OrOutput (same ⊎ PrintsFirst dialect setting text job multiline files input old new failure) failure)
     prints_incomplete same (Ok found) complete is writes = tt
     prints_incomplete same (Err failure) complete is writes =

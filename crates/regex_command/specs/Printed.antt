@@ -132,12 +132,12 @@ module _ (r : Regex) (job : Job) (inputs : List Input) where
 module _ (dialect : Dialect) (setting : Setting) (text : List ℕ) (job : Job) (multiline : Bool) (files : List (List ℕ)) where
   -- All inputs were searched.
   abbrev pub PrintsAll : (input old new : Option (List ℕ)) → (found : Bool) → Type 0
-  PrintsAll input old new found = (r : Regex) × IsCompiledIn dialect setting text r × Searches r job (inputs_of multiline files input) old new true found
+  PrintsAll input old new found = (r : Regex) × IsCompiledIn dialect setting text r × Searches r job (inputs_of job multiline files input) old new true found
 
   -- What was searched before a failure.
   abbrev pub PrintsFirst : (input old new : Option (List ℕ)) → Failure → Type 0
   PrintsFirst input old new failure =
-      (r : Regex) × IsCompiledIn dialect setting text r × SearchesUntil r job (inputs_of multiline files input) failure old new
+      (r : Regex) × IsCompiledIn dialect setting text r × SearchesUntil r job (inputs_of job multiline files input) failure old new
 
 -- a text, escaped, on a line
 abbrev pub PrintsEscaped : (old new : Option (List ℕ)) → (text : List ℕ) → Type 0

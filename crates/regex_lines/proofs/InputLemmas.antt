@@ -1,6 +1,6 @@
 -- Inputs are searched one after another.
 use Rattle.std.proofs.Common.{◌≡◌, ◌∙◌, ◌⊎◌, inl, inr, ℕ, suc, ◌+◌, ◌<◌, ◌≤◌, Bool, true, false, ◌||◌, List, [], ◌∷◌, ◌++◌, Option, Some, None, length, map, take, drop, get_or, eqb, eq-eqb, refl, sym, ap, subst, arith, append-nil, drop-cons, take-append-drop}
-use Rattle.std.specs.Prelude.{nat_lt, String, string_bytes, codes}
+use Rattle.std.specs.Prelude.{String, string_bytes}
 use Rattle.std.specs.Io.KnownBytes.{Appends}
 use Rattle.std.specs.List.{FoldsTo}
 use Rattle.std.specs.declared.alloc.Global.{Global}
@@ -10,7 +10,7 @@ use Rattle.std.proofs.lemmas.List.{drop-drop, get_or-drop, get_or-map, length-dr
 use Rattle.regress_arguments.proofs.lemmas.Output.{appends_both}
 use Rattle.regex_lines.proofs.FoldLemmas.{stays}
 use Rattle.regress.specs.declared.pattern.Regex.{Regex}
-use Rattle.regex_lines.specs.Searched.{AddsInput, Input, IsInputStep, IsSearchedInput, IsUnreadInput, Result, WritesInputs, WritesSomeOf, has_ended, input_of, inputs_of, left_after, named_inputs, nothing, Named, SearchesFirst}
+use Rattle.regex_lines.specs.Searched.{AddsInput, Input, IsInputStep, IsSearchedInput, IsUnreadInput, Result, WritesInputs, WritesSomeOf, bytes_of, has_ended, inputs_of, left_after, named_inputs, nothing, place_of, Named, SearchesFirst}
 use Rattle.regex_lines.specs.Unread.{Unread}
 use Rattle.regex_options.specs.Plain.{Job}
 
@@ -112,29 +112,29 @@ module _ (r : Regex) (job : Job) (inputs : List Input) (before : Option (List �
   pub all_passed : (unread : List Unread) → unread ≡ [] → has_ended job false ≡ true → WritesInputs r job inputs before before unread false
   all_passed unread none is = subst (λ unread. WritesInputs r job inputs before before unread false) (sym none) (ended 0 false [] before none_yet is)
 
-module _ (in_front multiline : Bool) (files : List (String Global)) (inputs : List Input) where
+module _ (place : (file : List ℕ) → Named) (files : List (String Global)) (inputs : List Input) where
   abbrev names : List (List ℕ)
   names = map string_bytes files
 
   -- The inputs from i on are those with the names of the files from i on.
   pub record AreLeft (i : ℕ) (left : Option (List ℕ)) : Type 0 where
-    pub are : drop i inputs ≡ named_inputs in_front multiline (drop i names) left
+    pub are : drop i inputs ≡ named_inputs place (drop i names) left
 
   module _ (i : ℕ) (left : Option (List ℕ)) (rest : AreLeft i left) where
     -- No file is left.
     pub none_left : length files ≤ i → length inputs ≤ i
     none_left all =
-        let none = rest.are ∙ ap (λ some. named_inputs in_front multiline some left) (drop_of_length-le names (omega (arith, all, length-map files string_bytes))) in
+        let none = rest.are ∙ ap (λ some. named_inputs place some left) (drop_of_length-le names (omega (arith, all, length-map files string_bytes))) in
         omega (arith, ap length none, length-drop i inputs)
 
     module _ (file : String Global) (within : i < length files) (here : get_or files i file ≡ file) where
       abbrev input : Input
-      input = input_of in_front multiline (string_bytes file) left
+      input = (place (string_bytes file), bytes_of (string_bytes file) left)
 
-      next : drop i inputs ≡ input ∷ named_inputs in_front multiline (drop (suc i) names) (left_after (string_bytes file) left)
+      next : drop i inputs ≡ input ∷ named_inputs place (drop (suc i) names) (left_after (string_bytes file) left)
       next =
           rest.are
-          ∙ ap (λ some. named_inputs in_front multiline some left)
+          ∙ ap (λ some. named_inputs place some left)
           (drop-cons names i (string_bytes file) (omega (arith, within, length-map files string_bytes))
           ∙ ap (λ name. name ∷ drop (suc i) names) (get_or-map string_bytes files i file (string_bytes file) within ∙ ap string_bytes here))
 
@@ -150,31 +150,31 @@ module _ (in_front multiline : Bool) (files : List (String Global)) (inputs : Li
       pub one_less : AreLeft (i + 1) (left_after (string_bytes file) left)
       one_less = record {
         are = sym (drop-drop 1 i inputs) ∙ ap (drop 1) next
-            ∙ ap (λ n. named_inputs in_front multiline (drop n names) (left_after (string_bytes file) left)) (let at : suc i ≡ i + 1 = omega arith in at);
+            ∙ ap (λ n. named_inputs place (drop n names) (left_after (string_bytes file) left)) (let at : suc i ≡ i + 1 = omega arith in at);
       }
 
-module _ (r : Regex) (job : Job) (in_front multiline : Bool) (files : List (String Global)) (input before : Option (List ℕ)) where
+module _ (r : Regex) (job : Job) (place : (file : List ℕ) → Named) (files : List (String Global)) (input before : Option (List ℕ)) where
   abbrev inputs : List Input
-  inputs = named_inputs in_front multiline (map string_bytes files) input
+  inputs = named_inputs place (map string_bytes files) input
 
   -- The first i inputs were searched, and standard input has this left.
   pub record SoFar (i : ℕ) (any : Bool) (unread : List Unread) (left after : Option (List ℕ)) : Type 0 where
     pub first : FirstInputs r job inputs before i any unread after
-    pub rest : AreLeft in_front multiline files inputs i left
+    pub rest : AreLeft place files inputs i left
 
   pub at_first : (unread : List Unread) → unread ≡ [] → SoFar 0 false unread input before
   at_first unread none = subst (λ unread. SoFar 0 false unread input before) (sym none) (record { first = none_yet r job inputs before; rest = record { are = refl } })
 
-pub no_files : (multiline : Bool) (files : List (String Global)) (input : Option (List ℕ)) → length files ≡ 0 →
-    inputs_of multiline (map string_bytes files) input ≡ (record { name = codes "(standard input)"; in_front = false; multiline = multiline }, input) ∷ []
-no_files multiline [] input none = refl
-no_files multiline (file ∷ files) input none = absurd (omega (arith, none))
+module _ (job : Job) (multiline : Bool) (input : Option (List ℕ)) where
+  pub no_files : (files : List (String Global)) → length files ≡ 0 → inputs_of job multiline (map string_bytes files) input ≡ inputs_of job multiline [] input
+  no_files [] none = refl
+  no_files (file ∷ files) none = absurd (omega (arith, none))
 
-pub some_files : (multiline : Bool) (files : List (String Global)) (input : Option (List ℕ)) → eqb (length files) 0 ≡ false →
-    inputs_of multiline (map string_bytes files) input ≡ named_inputs (nat_lt 1 (length files)) multiline (map string_bytes files) input
-some_files multiline [] input some = let bad : ⊥ = cc (eq-eqb 0 0 refl, some) in absurd bad
-some_files multiline (file ∷ files) input some =
-    ap (λ n. named_inputs (nat_lt 1 n) multiline (map string_bytes (file ∷ files)) input) (length-map (file ∷ files) string_bytes)
+  pub some_files : (files : List (String Global)) → eqb (length files) 0 ≡ false →
+      inputs_of job multiline (map string_bytes files) input ≡ named_inputs (place_of job multiline (length files)) (map string_bytes files) input
+  some_files [] some = let bad : ⊥ = cc (eq-eqb 0 0 refl, some) in absurd bad
+  some_files (file ∷ files) some =
+      ap (λ n. named_inputs (place_of job multiline n) (map string_bytes (file ∷ files)) input) (length-map (file ∷ files) string_bytes)
 
 module _ (r : Regex) (job : Job) (place : Named) (input before after : Option (List ℕ)) where
   abbrev alone : List Input
@@ -186,3 +186,7 @@ module _ (r : Regex) (job : Job) (place : Named) (input before after : Option (L
   one_all goes_on is unread adds =
       finished r job alone before 1 is unread after
       (one_more r job alone before 0 false [] before (none_yet r job alone before) (place, input) (omega arith) refl after goes_on is unread adds) (omega arith)
+
+  -- the first lines of one input
+  pub one_first : SearchesFirst r job place input before after → WritesSomeOf r job alone before after []
+  one_first = some_of r job alone before 0 false [] before (none_yet r job alone before) (place, input) (omega arith) refl after

@@ -1,5 +1,5 @@
 -- An input that cannot be read is added to those that are not read, and any other failure is passed on.
-use Rattle.std.proofs.Common.{◌≡◌, ◌∙◌, inl, inr, Bool, false, List, [], ◌∷◌, Option, ℕ, arith, refl, sym, subst}
+use Rattle.std.proofs.Common.{◌≡◌, ◌∙◌, inl, inr, Bool, false, List, [], ◌∷◌, Option, ℕ, sym, subst}
 use Rattle.std.specs.Prelude.{Result, Ok, Err, IfOk, IfErr}
 use Rattle.regex_lines.specs.Ending.{IsInputFailure, IsSearchFailure, OrOutput}
 use Rattle.regex_lines.specs.Searched.{AddsInput, Named, SearchesFirst, WritesInputs, WritesSomeOf, has_ended}
@@ -8,7 +8,7 @@ use Rattle.regex_lines.specs.declared.failure.Failure.{Failure}
 use Rattle.regex_lines.specs.declared.failure.Failure.TheVariants.{Argument, Memory, Output, Closed, Syntax, TooLarge, OutOfSteps, Unreadable, Incomplete, PatternNotUtf8, TooLong}
 use Rattle.regex_options.specs.Plain.{Job}
 use Rattle.regress.specs.declared.pattern.Regex.{Regex}
-use Rattle.regex_lines.proofs.InputLemmas.{none_yet, one_all, some_of}
+use Rattle.regex_lines.proofs.InputLemmas.{one_all, one_first}
 use Rattle.regex_lines.proofs.lemmas.Failures.{or_output}
 
 module _ (costly : Type 0) (r : Regex) (job : Job) (place : Named) (input before after : Option (List ℕ)) (old new : List Unread) where
@@ -59,5 +59,4 @@ pub one_failure : (r : Regex) (job : Job) (place : Named) (input before after : 
 one_failure r job place input before after (Ok is) old new none begun kept = tt
 one_failure r job place input before after (Err failure) old new none begun kept =
     or_output (SearchesFirst r job place input before after) _ failure begun
-    (λ first. subst (WritesSomeOf r job ((place, input) ∷ []) before after) (sym (kept ∙ none))
-    (some_of r job ((place, input) ∷ []) before 0 false [] before (none_yet r job ((place, input) ∷ []) before) (place, input) (omega arith) refl after first))
+    (λ first. subst (WritesSomeOf r job ((place, input) ∷ []) before after) (sym (kept ∙ none)) (one_first r job place input before after first))

@@ -4,6 +4,8 @@ use Rattle.std.specs.List.{FoldsTo}
 use Rattle.std.specs.Fmt.{decimal}
 use Rattle.std.specs.Io.KnownBytes.{Appends}
 use Rattle.regex_options.specs.Plain.{Job, matching, replacing}
+use Rattle.regex_options.specs.declared.task.FileNames.TheVariants.{IfSeveral, Always, Never}
+use Rattle.regex_options.specs.declared.task.FileNames.{FileNames}
 use Rattle.regex_options.specs.declared.task.Shown.TheVariants.{Lines, Matches, Json, Count, Names, Nothing}
 use Rattle.regex_options.specs.declared.task.Shown.{Shown}
 use Rattle.regress.specs.declared.pattern.Regex.{Regex}
@@ -12,10 +14,12 @@ use Rattle.regex_lines.specs.Reply.{IsReply, ended, json_prefix}
 use Rattle.regex_lines.specs.Unread.{IsAdded, Unread}
 use Rattle.regex_lines.specs.declared.place.Place.{Place}
 
--- the name of an input, whether it is shown in front of each line, and whether the input is one line
+-- the name of an input, whether it is shown in front of each line, whether a zero byte is after it, and whether the input is
+-- one line
 pub record Named : Type 0 where
   pub name : List ℕ
   pub in_front : Bool
+  pub null : Bool
   pub multiline : Bool
 
 -- `-` is standard input.
@@ -28,7 +32,7 @@ input_name file = if is_standard file then codes "(standard input)" else file
 
 -- the same as the code represents it
 abbrev pub named : Place → Named
-named place = record { name = input_name place.file.now; in_front = place.in_front; multiline = place.multiline }
+named place = record { name = input_name place.file.now; in_front = place.in_front; null = place.null; multiline = place.multiline }
 
 -- the bytes end with a line feed
 abbrev pub has_line_feed : List ℕ → Bool
@@ -94,9 +98,13 @@ abbrev pub has_numbers : Job → Bool
 has_numbers (matching s) = s.numbers
 has_numbers (replacing template) = false
 
--- the name of the input and a colon, if it is shown in front
+-- the name of an input and what is after it: this, or a zero byte in place of it
+abbrev pub name_with : Named → (after : List ℕ) → List ℕ
+name_with place after = place.name ++ (if place.null then 0 ∷ [] else after)
+
+-- the name of the input and what is after it, if it is shown in front
 abbrev pub name_of : Named → List ℕ
-name_of place = if place.in_front then place.name ++ codes ":" else []
+name_of place = if place.in_front then name_with place (codes ":") else []
 
 -- what is shown does not depend on lines after the first selected one
 abbrev pub needs_one : Shown → Bool
@@ -139,7 +147,7 @@ shown_at_end Lines place selected = []
 shown_at_end Matches place selected = []
 shown_at_end Json place selected = []
 shown_at_end Count place selected = name_of place ++ ended (decimal selected)
-shown_at_end Names place selected = if nat_lt 0 selected then ended place.name else []
+shown_at_end Names place selected = if nat_lt 0 selected then name_with place (codes "\n") else []
 shown_at_end Nothing place selected = []
 
 -- the same, where only lines that match are counted
@@ -187,24 +195,41 @@ bytes_of file left = if is_standard file then left else None
 abbrev pub left_after : (file : List ℕ) → (left : Option (List ℕ)) → Option (List ℕ)
 left_after file left = if is_standard file then Some [] else left
 
-module _ (in_front multiline : Bool) where
-  -- the input with this name
-  abbrev pub input_of : (file : List ℕ) → (left : Option (List ℕ)) → Input
-  input_of file left = (record { name = input_name file; in_front = in_front; multiline = multiline }, bytes_of file left)
-
+module _ (place : (file : List ℕ) → Named) where
   -- the inputs with these names, in order
   abbrev pub named_inputs : (files : List (List ℕ)) → (left : Option (List ℕ)) → List Input
   named_inputs [] left = []
-  named_inputs (file ∷ files) left = input_of file left ∷ named_inputs files (left_after file left)
+  named_inputs (file ∷ files) left = (place file, bytes_of file left) ∷ named_inputs files (left_after file left)
 
 -- the names of files, or that of standard input if there are none
 abbrev pub or_standard : List (List ℕ) → List (List ℕ)
 or_standard [] = codes "-" ∷ []
 or_standard (file ∷ files) = file ∷ files
 
--- The files, or standard input if there are none. Their names are in front of lines if there are several.
-abbrev pub inputs_of : (multiline : Bool) → (files : List (List ℕ)) → (input : Option (List ℕ)) → List Input
-inputs_of multiline files input = named_inputs (nat_lt 1 (length files)) multiline (or_standard files) input
+-- whether names are in front of the lines of this many files
+abbrev pub are_in_front : FileNames → (files : ℕ) → Bool
+are_in_front IfSeveral files = nat_lt 1 files
+are_in_front Always files = true
+are_in_front Never files = false
+
+-- the same, where only lines that match have something in front
+abbrev pub shows_names : Job → (files : ℕ) → Bool
+shows_names (matching s) files = are_in_front s.file_names files
+shows_names (replacing template) files = false
+
+-- whether zero bytes are after names
+abbrev pub has_nulls : Job → Bool
+has_nulls (matching s) = s.null
+has_nulls (replacing template) = false
+
+-- how an input is shown among this many files
+abbrev pub place_of : Job → (multiline : Bool) → (files : ℕ) → (file : List ℕ) → Named
+place_of job multiline files file =
+    record { name = input_name file; in_front = shows_names job files; null = has_nulls job; multiline = multiline }
+
+-- the files, or standard input if there are none
+abbrev pub inputs_of : Job → (multiline : Bool) → (files : List (List ℕ)) → (input : Option (List ℕ)) → List Input
+inputs_of job multiline files input = named_inputs (place_of job multiline (length files)) (or_standard files) input
 
 -- whether a line was selected, which inputs were not read, and what was written
 pub record Result : Type 0 where

@@ -1,8 +1,8 @@
 //! The files that are searched, or standard input.
-ghost use Rattle.std.specs.Prelude.{◌≡◌, [], IfOk, IfErr, None, length, map, nat_lt, string_bytes};
+ghost use Rattle.std.specs.Prelude.{◌≡◌, [], IfOk, IfErr, None, length, map, string_bytes};
 ghost use Rattle.regex_lines.specs.Ending.{IsCostly, IsInputFailure, IsSearchFailure, OrOutput};
 ghost use Rattle.regex_lines.specs.Left.{left_of};
-ghost use Rattle.regex_lines.specs.Searched.{AddsInput, WritesInput, WritesInputs, WritesSomeOf, bytes_of, has_ended, inputs_of, left_after, named_inputs, named, SearchesFirst};
+ghost use Rattle.regex_lines.specs.Searched.{AddsInput, WritesInput, WritesInputs, WritesSomeOf, bytes_of, has_nulls, has_ended, inputs_of, left_after, named_inputs, named, place_of, shows_names, SearchesFirst};
 ghost use Rattle.regex_lines.specs.Unread.{IsSkipped, all_unread};
 ghost use Rattle.regex_options.specs.Plain.{job};
 
@@ -11,7 +11,7 @@ use crate::place::{Place, STANDARD_INPUT, is_standard};
 use crate::searcher::Searcher;
 use crate::searching::{InputSearch, reaches, search_lines, write_end};
 use crate::unread::Unread;
-use regex_options::{Search, Shown, Task};
+use regex_options::{FileNames, Search, Shown, Task};
 use regress::Regex;
 use std::fs::{File, Files};
 use std::io::{self, BufRead, BufReader, Read, Write};
@@ -40,9 +40,9 @@ pub fn search_all<'a, R: Files + AllocGlobal, I: Read + Drop, W: Write>(
     out: &mut W,
 ) -> Searched<'a>
     ensures all { IfOk result.result (WritesInputs regex.now (job search.entry.task)
-        (inputs_of search.entry.multiline (map string_bytes search.entry.files.now) (I.remaining input)) (W.contents out.old) (W.contents out.new) (all_unread result.unread)) }
+        (inputs_of (job search.entry.task) search.entry.multiline (map string_bytes search.entry.files.now) (I.remaining input)) (W.contents out.old) (W.contents out.new) (all_unread result.unread)) }
     ensures first { IfErr result.result (OrOutput (WritesSomeOf regex.now (job search.entry.task)
-        (inputs_of search.entry.multiline (map string_bytes search.entry.files.now) (I.remaining input)) (W.contents out.old) (W.contents out.new) (all_unread result.unread))) }
+        (inputs_of (job search.entry.task) search.entry.multiline (map string_bytes search.entry.files.now) (I.remaining input)) (W.contents out.old) (W.contents out.new) (all_unread result.unread))) }
     ensures failed { IfErr result.result (IsSearchFailure (IsCostly regex.now)) }
 {
     let searcher = Searcher::new(rt.alloc(), regex);
@@ -63,25 +63,21 @@ fn search_standard_input<'a, I: Read + Drop, W: Write>(
     out: &mut W,
     unread: &mut Vec<Unread<'a>>,
 ) -> Result<bool, Failure<'a>>
+    requires alone { length search.files.now ≡ 0 }
     requires none { unread.old.items ≡ [] }
     ensures all { IfOk result (WritesInputs searcher.now.regex.now (job search.entry.task)
-        (inputs_of search.entry.multiline [] (I.remaining input)) (W.contents out.old) (W.contents out.new) (all_unread unread.new)) }
+        (inputs_of (job search.entry.task) search.entry.multiline [] (I.remaining input)) (W.contents out.old) (W.contents out.new) (all_unread unread.new)) }
     ensures first { IfErr result (OrOutput (WritesSomeOf searcher.now.regex.now (job search.entry.task)
-        (inputs_of search.entry.multiline [] (I.remaining input)) (W.contents out.old) (W.contents out.new) (all_unread unread.new))) }
+        (inputs_of (job search.entry.task) search.entry.multiline [] (I.remaining input)) (W.contents out.old) (W.contents out.new) (all_unread unread.new))) }
     ensures failed { IfErr result (IsSearchFailure (IsCostly searcher.now.regex.now)) }
 {
     if has_ended(search.task, false) {
         return Ok(false);
     }
-    let place = Place {
-        file: STANDARD_INPUT,
-        in_front: false,
-        multiline: search.multiline,
-    };
     let search = InputSearch {
         searcher,
         task: search.task,
-        place,
+        place: place_of(search, STANDARD_INPUT),
         at_once: search.at_once,
     };
     search_input(search, input, out, unread)
@@ -98,32 +94,63 @@ fn search_files<'a, R: Files, I: Read + Drop, W: Write>(
 ) -> Result<bool, Failure<'a>>
     requires none { unread.old.items ≡ [] }
     ensures all { IfOk result (WritesInputs searcher.now.regex.now (job search.entry.task)
-        (named_inputs (nat_lt 1 (length search.entry.files.now)) search.entry.multiline (map string_bytes search.entry.files.now) (I.remaining input)) (W.contents out.old) (W.contents out.new) (all_unread unread.new)) }
+        (named_inputs (place_of (job search.entry.task) search.entry.multiline (length search.entry.files.now)) (map string_bytes search.entry.files.now) (I.remaining input)) (W.contents out.old) (W.contents out.new) (all_unread unread.new)) }
     ensures first { IfErr result (OrOutput (WritesSomeOf searcher.now.regex.now (job search.entry.task)
-        (named_inputs (nat_lt 1 (length search.entry.files.now)) search.entry.multiline (map string_bytes search.entry.files.now) (I.remaining input)) (W.contents out.old) (W.contents out.new) (all_unread unread.new))) }
+        (named_inputs (place_of (job search.entry.task) search.entry.multiline (length search.entry.files.now)) (map string_bytes search.entry.files.now) (I.remaining input)) (W.contents out.old) (W.contents out.new) (all_unread unread.new))) }
     ensures failed { IfErr result (IsSearchFailure (IsCostly searcher.now.regex.now)) }
 {
-    let in_front = search.files.len() > 1;
     let mut left = Some(input);
     let mut any = false;
     for file in search.files {
         if has_ended(search.task, any) {
             return Ok(any);
         }
-        let place = Place {
-            file: file.as_str(),
-            in_front,
-            multiline: search.multiline,
-        };
         let search = InputSearch {
             searcher,
             task: search.task,
-            place,
+            place: place_of(search, file.as_str()),
             at_once: search.at_once,
         };
         any |= search_next(rt, search, &mut left, out, unread)?;
     }
     Ok(any)
+}
+
+/// Returns how an input is shown.
+fn place_of<'a>(search: Search<'a>, file: &'a str) -> Place<'a>
+    ensures shown { named result ≡ place_of (job search.entry.task) search.entry.multiline (length search.entry.files.now) file.now }
+    ensures file { result.file.now ≡ file.now }
+{
+    Place {
+        file,
+        in_front: shows_names(search.task, search.files.len()),
+        null: has_nulls(search.task),
+        multiline: search.multiline,
+    }
+}
+
+/// Returns whether zero bytes are after names.
+fn has_nulls(task: Task<'_>) -> bool
+    ensures { result ≡ has_nulls (job task.entry) }
+{
+    match task {
+        Task::Match(selection) => selection.null,
+        Task::Replace(_) => false,
+    }
+}
+
+/// Returns whether names are shown in front of the lines of this many files.
+fn shows_names(task: Task<'_>, files: usize) -> bool
+    ensures { result ≡ shows_names (job task.entry) files }
+{
+    match task {
+        Task::Match(selection) => match selection.file_names {
+            FileNames::IfSeveral => files > 1,
+            FileNames::Always => true,
+            FileNames::Never => false,
+        },
+        Task::Replace(_) => false,
+    }
 }
 
 /// Returns whether the search ends before the next input.

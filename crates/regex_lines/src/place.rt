@@ -5,12 +5,13 @@ ghost use Rattle.regex_lines.specs.Searched.{is_standard};
 /// The name among files that denotes standard input.
 pub(crate) const STANDARD_INPUT: &str = "-";
 
-/// An input, whether its name is shown in front of each line, and whether it is one line.
+/// An input, whether its name is shown in front of each line, whether a zero byte is after it, and whether it is one line.
 #[derive(Clone, Copy)]
 pub(crate) struct Place<'a> {
     /// The name of the file, or that of standard input.
     pub(crate) file: &'a str,
     pub(crate) in_front: bool,
+    pub(crate) null: bool,
     pub(crate) multiline: bool,
 }
 

@@ -2,7 +2,7 @@
 ghost use Rattle.std.specs.Prelude.{◌≡◌, IfOk, string_bytes};
 ghost use Rattle.regex_options.specs.Plain.{job};
 ghost use Rattle.regex_lines.specs.Reply.{json_prefix};
-ghost use Rattle.regex_lines.specs.Searched.{named, has_numbers, name_of, shows_json, text_prefix};
+ghost use Rattle.regex_lines.specs.Searched.{named, has_numbers, name_of, name_with, shows_json, text_prefix};
 ghost use Rattle.regex_lines.specs.Prefix.{text_of};
 
 use crate::place::Place;
@@ -58,15 +58,24 @@ fn text_prefix(alloc: Global, prefix: Prefix<'_>) -> Result<String, AllocError>
     Ok(text)
 }
 
-/// Returns the name of an input and a colon, if it is shown in front.
+/// Returns the name of an input and what is after it, if it is shown in front.
 pub(crate) fn name_in_front(alloc: Global, place: Place<'_>) -> Result<String, AllocError>
     ensures { IfOk result (λ text. string_bytes text ≡ name_of (named place.entry)) }
 {
     if place.in_front {
-        Ok(format!(in alloc; "{}:", place.name())?)
+        name_with(alloc, place, ":")
     } else {
         Ok(String::new(alloc))
     }
+}
+
+/// Returns the name of an input and what is after it: `after`, or a zero byte in place of it.
+pub(crate) fn name_with(alloc: Global, place: Place<'_>, after: &str) -> Result<String, AllocError>
+    ensures { IfOk result (λ text. string_bytes text ≡ name_with (named place.entry) after.now) }
+{
+    let mut text = String::from_str(alloc, place.name())?;
+    text.push_str(if place.null { "\0" } else { after })?;
+    Ok(text)
 }
 
 fn has_numbers(task: Task<'_>) -> bool

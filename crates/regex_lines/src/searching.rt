@@ -10,7 +10,7 @@ ghost use Rattle.regex_lines.specs.Searched.{named, SearchesAll, SearchesFirst, 
 
 use crate::failure::{Failure, read_failure};
 use crate::place::Place;
-use crate::prefix::{Prefix, name_in_front};
+use crate::prefix::{Prefix, name_in_front, name_with};
 use crate::printing::{write_at, write_bytes};
 use crate::reading::{Next, is_ended, is_last, read_next};
 use crate::reply::{Reply, reply_to};
@@ -169,7 +169,7 @@ fn end(alloc: Global, task: Task<'_>, place: Place<'_>, selected: u64) -> Result
             end.push_str(&format!(in alloc; "{selected}\n")?)?;
             Ok(end)
         }
-        Shown::Names if selected > 0 => Ok(format!(in alloc; "{}\n", place.name())?),
+        Shown::Names if selected > 0 => name_with(alloc, place, "\n"),
         Shown::Lines | Shown::Matches | Shown::Json | Shown::Names | Shown::Nothing => {
             Ok(String::new(alloc))
         }

@@ -12,9 +12,10 @@ use Rattle.regex_options.specs.declared.given.Color.TheVariants.{Always, Never, 
 use Rattle.regex_options.specs.declared.given.Given as code
 use Rattle.regex_options.specs.declared.given.Options.{Options}
 use Rattle.regex_options.specs.declared.table.Switch.{Switch}
-use Rattle.regex_options.specs.declared.table.Switch.TheVariants.{Help, Version, IgnoreCase, Fixed, WholeLines, WholeWords, Multiline, LineBuffered, Binary, Invert, Numbers, Shown, Json, Stage, Small, Html}
+use Rattle.regex_options.specs.declared.table.Switch.TheVariants.{Help, Version, IgnoreCase, Fixed, WholeLines, WholeWords, Multiline, LineBuffered, Binary, Invert, FileNames, Null, Numbers, Shown, Json, Stage, Small, Html}
 use Rattle.regex_options.specs.declared.table.Value.{Value}
 use Rattle.regex_options.specs.declared.table.Value.TheVariants.{Pattern, File, Flags as FlagLetters, Dialect as DialectName, Count, Color as When, Text}
+use Rattle.regex_options.specs.declared.task.FileNames.TheVariants.{IfSeveral}
 use Rattle.regex_options.specs.declared.task.Shown.TheVariants.{Lines}
 
 -- the options, and the texts that they have: the pattern of the last option, and the text of a page
@@ -30,7 +31,7 @@ no_options = record {
   flags = no_flags;
   dialect = Regress;
   form = record { fixed = false; lines = false; words = false };
-  selection = record { invert = false; numbers = false; shown = Lines; max_count = None; paints = false };
+  selection = record { invert = false; file_names = IfSeveral; null = false; numbers = false; shown = Lines; max_count = None; paints = false };
   multiline = false;
   line_buffered = false;
   json = false;
@@ -63,6 +64,8 @@ switched Multiline o = record o { multiline = true }
 switched LineBuffered o = record o { line_buffered = true }
 switched Binary o = o
 switched Invert o = record o { selection = record o.selection { invert = true } }
+switched (FileNames names) o = record o { selection = record o.selection { file_names = names } }
+switched Null o = record o { selection = record o.selection { null = true } }
 switched Numbers o = record o { selection = record o.selection { numbers = true } }
 switched (Shown shown) o = record o { selection = record o.selection { shown = shown } }
 switched Json o = record o { json = true }

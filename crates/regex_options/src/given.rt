@@ -3,7 +3,7 @@ ghost use Rattle.std.specs.Prelude.{◌≡◌};
 ghost use Rattle.regex_options.specs.Given.{given_by, nothing_given};
 
 use crate::source::{PatternForm, PatternSource};
-use crate::task::{Selection, Shown};
+use crate::task::{FileNames, Selection, Shown};
 use regress_base::types::Flags;
 use regress_display::Stage;
 use regress_lexer::Dialect;
@@ -67,6 +67,8 @@ pub(crate) fn nothing_given() -> Given<'static>
             },
             selection: Selection {
                 invert: false,
+                file_names: FileNames::IfSeveral,
+                null: false,
                 numbers: false,
                 shown: Shown::Lines,
                 max_count: None,

@@ -83,6 +83,20 @@ pub(crate) fn switched(switch: Switch, options: Options) -> Options
             },
             ..options
         },
+        Switch::FileNames(file_names) => Options {
+            selection: Selection {
+                file_names,
+                ..selection
+            },
+            ..options
+        },
+        Switch::Null => Options {
+            selection: Selection {
+                null: true,
+                ..selection
+            },
+            ..options
+        },
         Switch::Numbers => Options {
             selection: Selection {
                 numbers: true,

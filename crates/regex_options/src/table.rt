@@ -1,7 +1,7 @@
 //! The table of options.
 
 use crate::command::{Command, Operation};
-use crate::task::Shown;
+use crate::task::{FileNames, Shown};
 use regress_display::Stage;
 
 /// An option.
@@ -51,6 +51,10 @@ pub enum Switch {
     Binary,
     /// The lines without a match are selected.
     Invert,
+    /// When the names of inputs are shown.
+    FileNames(FileNames),
+    /// Zero bytes are after the names of inputs.
+    Null,
     /// Lines are numbered.
     Numbers,
     /// What is shown of the selected lines.
@@ -248,7 +252,7 @@ const OF_EXPLAIN: Scope = Scope {
 };
 
 /// The options, in the order of the help.
-pub const OPTIONS: [OptionEntry; 28] = [
+pub const OPTIONS: [OptionEntry; 32] = [
     OptionEntry {
         short: Some("-e"),
         long: Some("regexp"),
@@ -371,6 +375,34 @@ pub const OPTIONS: [OptionEntry; 28] = [
         }),
         scope: OF_MATCH,
         line: "  -m, --max-count NUM       select at most NUM lines of each file, the first\n                            ones\n",
+    },
+    OptionEntry {
+        short: Some("-H"),
+        long: Some("with-filename"),
+        sets: Sets::Switch(Switch::FileNames(FileNames::Always)),
+        scope: OF_MATCH,
+        line: "  -H, --with-filename       write the name of the file before each line; by\n                            default if there are several\n",
+    },
+    OptionEntry {
+        short: Some("-I"),
+        long: Some("no-filename"),
+        sets: Sets::Switch(Switch::FileNames(FileNames::Never)),
+        scope: OF_MATCH,
+        line: "  -I, --no-filename         write no name of a file before lines\n",
+    },
+    OptionEntry {
+        short: Some("-Z"),
+        long: Some("null"),
+        sets: Sets::Switch(Switch::Null),
+        scope: OF_MATCH,
+        line: "  -Z, --null                write a zero byte after the name of a file, instead\n                            of a colon or line feed\n",
+    },
+    OptionEntry {
+        short: Some("-0"),
+        long: None,
+        sets: Sets::Switch(Switch::Null),
+        scope: OF_MATCH,
+        line: "  -0                        the same as --null\n",
     },
     OptionEntry {
         short: Some("-n"),

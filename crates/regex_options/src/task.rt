@@ -14,6 +14,10 @@ pub enum Task<'a> {
 pub struct Selection {
     /// Whether the lines without a match are selected.
     pub invert: bool,
+    /// Whether the name of an input is shown in front of each line.
+    pub file_names: FileNames,
+    /// Whether a zero byte is after the name of an input, in place of a colon or a line feed.
+    pub null: bool,
     /// Whether the number of a line is shown.
     pub numbers: bool,
     /// What is shown.
@@ -22,6 +26,17 @@ pub struct Selection {
     pub max_count: Option<u64>,
     /// Whether matches are in color.
     pub paints: bool,
+}
+
+/// When the names of inputs are shown in front of lines.
+#[derive(Clone, Copy)]
+pub enum FileNames {
+    /// If there are several files.
+    IfSeveral,
+    /// Always.
+    Always,
+    /// Never.
+    Never,
 }
 
 /// What is shown of the selected lines.

@@ -18,8 +18,8 @@ returns-then-is_empty-clause-first g c =
     let result = c.search_standard_input-result.result in
     let task = job c.args.search.task in
     let none : length files ≡ 0 = search rules in
-    subst (λ r. IfErr result (OrOutput (WritesSomeOf r task (inputs_of multiline (map string_bytes files) input) old new unread))) c.new-searcher.ensures
-    (subst (λ inputs. IfErr result (OrOutput (WritesSomeOf c.new-searcher.result.regex.now task inputs old new unread))) (sym (no_files multiline files input none))
+    subst (λ r. IfErr result (OrOutput (WritesSomeOf r task (inputs_of task multiline (map string_bytes files) input) old new unread))) c.new-searcher.ensures
+    (subst (λ inputs. IfErr result (OrOutput (WritesSomeOf c.new-searcher.result.regex.now task inputs old new unread))) (sym (no_files task multiline input files none))
     c.search_standard_input-result.ensures.first)
 
 pub returns-clause-first : goal.returns-clause-first
@@ -32,6 +32,6 @@ returns-clause-first g c =
     let unread = all_unread c.search_files-result.new.unread in
     let result = c.search_files-result.result in
     let task = job c.args.search.task in
-    subst (λ r. IfErr result (OrOutput (WritesSomeOf r task (inputs_of multiline (map string_bytes files) input) old new unread))) c.new-searcher.ensures
+    subst (λ r. IfErr result (OrOutput (WritesSomeOf r task (inputs_of task multiline (map string_bytes files) input) old new unread))) c.new-searcher.ensures
     (subst (λ inputs. IfErr result (OrOutput (WritesSomeOf c.new-searcher.result.regex.now task inputs old new unread)))
-    (sym (some_files multiline files input (sym c.is_empty.ensures ∙ c.if-is_empty.false))) c.search_files-result.ensures.first)
+    (sym (some_files task multiline input files (sym c.is_empty.ensures ∙ c.if-is_empty.false))) c.search_files-result.ensures.first)

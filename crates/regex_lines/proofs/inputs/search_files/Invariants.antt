@@ -1,7 +1,7 @@
 -- The files so far were searched.
 use Rattle.std.proofs.Common.{length}
-use Rattle.std.specs.Prelude.{nat_lt}
 use Rattle.regex_lines.specs.Left.{left_of}
+use Rattle.regex_lines.specs.Searched.{place_of}
 use Rattle.regex_lines.specs.Unread.{all_unread}
 use Rattle.regex_options.specs.Plain.{job}
 use Rattle.regex_lines.proofs.InputLemmas.{SoFar}
@@ -9,5 +9,5 @@ use Rattle.regex_lines.proofs.inputs.search_files.Given as goal
 
 abbrev pub invariant-loop-file : goal.invariant-loop-file
 invariant-loop-file g l =
-    SoFar l.fn.searcher.regex.now (job l.fn.search.task) (nat_lt 1 (length l.fn.search.files.now)) l.fn.search.multiline l.fn.search.files.now (g.I.Read.remaining l.fn.input)
+    SoFar l.fn.searcher.regex.now (job l.fn.search.task) (place_of (job l.fn.search.task) l.fn.search.multiline (length l.fn.search.files.now)) l.fn.search.files.now (g.I.Read.remaining l.fn.input)
     (g.W.Write.contents l.fn.out) l.file-index l.any (all_unread l.unread) (left_of g.I.Read.remaining l.left) (g.W.Write.contents l.out)
