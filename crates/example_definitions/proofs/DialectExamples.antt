@@ -155,29 +155,29 @@ IsClassInEcma t given = pattern_in Ecma plain t ≡ members given
 
 -- U+1F600 is the code units D83D and DE00. A range begins at the last one, and ends at the first.
 two_IsClassInEcma :
-    IsClassInEcma (codes "[\u{1F600}]") (run 0xD83D 0xD83D ∷ run 0xDE00 0xDE00 ∷ [])
+    IsClassInEcma (codes "[😀]") (run 0xD83D 0xD83D ∷ run 0xDE00 0xDE00 ∷ [])
     × IsClassInEcma (codes "[\\uD83D\\uDE00]") (run 0xD83D 0xD83D ∷ run 0xDE00 0xDE00 ∷ [])
-    × IsClassInEcma (codes "[a-\u{1F600}]") (run 0x61 0xD83D ∷ run 0xDE00 0xDE00 ∷ [])
-    × IsClassInEcma (codes "[\u{1F600}-\\uFFFF]") (run 0xD83D 0xD83D ∷ run 0xDE00 0xFFFF ∷ [])
+    × IsClassInEcma (codes "[a-😀]") (run 0x61 0xD83D ∷ run 0xDE00 0xDE00 ∷ [])
+    × IsClassInEcma (codes "[😀-\\uFFFF]") (run 0xD83D 0xD83D ∷ run 0xDE00 0xFFFF ∷ [])
 unfolding pattern_in
 two_IsClassInEcma = (refl, refl, refl, refl)
 
-a_reversed_range_in_ecma : (pattern_in Ecma plain (codes "[\u{1F600}-\u{1F60E}]") ≡ None) × (pattern_in Ecma plain (codes "[\\uDE00-\u{1F600}]") ≡ None)
+a_reversed_range_in_ecma : (pattern_in Ecma plain (codes "[😀-😎]") ≡ None) × (pattern_in Ecma plain (codes "[\\uDE00-😀]") ≡ None)
 unfolding pattern_in
 a_reversed_range_in_ecma = (refl, refl)
 
 -- The second code unit begins another range.
-two_ranges_in_ecma : IsClassInEcma (codes "[a-\u{1F600}-\\uFFFF]")
+two_ranges_in_ecma : IsClassInEcma (codes "[a-😀-\\uFFFF]")
     (run 0x61 0xD83D ∷ run 0xDE00 0xDE00 ∷ run 0xD83D 0xD83D ∷ run 0xDE00 0xFFFF ∷ [])
-    × (pattern_in Ecma plain (codes "[a-\u{1F600}-z]") ≡ None)
+    × (pattern_in Ecma plain (codes "[a-😀-z]") ≡ None)
 unfolding pattern_in
 two_ranges_in_ecma = (refl, refl)
 
-one_member_in_regress : pattern_in Regress plain (codes "[\u{1F600}-\u{1F60E}]") ≡ members (run 0x1F600 0x1F60E ∷ [])
+one_member_in_regress : pattern_in Regress plain (codes "[😀-😎]") ≡ members (run 0x1F600 0x1F60E ∷ [])
 unfolding pattern_in
 one_member_in_regress = refl
 
-one_member_with_u_in_ecma : pattern_in Ecma unicode (codes "[\u{1F600}-\u{1F60E}]") ≡ pattern_in Regress unicode (codes "[\u{1F600}-\u{1F60E}]")
+one_member_with_u_in_ecma : pattern_in Ecma unicode (codes "[😀-😎]") ≡ pattern_in Regress unicode (codes "[😀-😎]")
 unfolding pattern_in
 one_member_with_u_in_ecma = refl
 
