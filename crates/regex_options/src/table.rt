@@ -306,7 +306,7 @@ pub const OPTIONS: [OptionEntry; 32] = [
             kind: "NAME (regress or ecma)",
         }),
         scope: OF_LINES,
-        line: "      --dialect NAME        the dialect of PATTERN: regress, or ecma, in which less\n                            differs from JavaScript; regress by default\n",
+        line: "      --dialect NAME        the dialect of PATTERN: regress, or ecma, in which\n                            less differs from JavaScript; regress by default\n",
     },
     OptionEntry {
         short: Some("-F"),
