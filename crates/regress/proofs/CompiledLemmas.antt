@@ -5,26 +5,19 @@ use Rattle.std.proofs.lemmas.List.Sorted.{IsPermutation-trans, length_permutatio
 use Rattle.std.specs.List.Sorted.{IsNonDecreasingBy, IsPermutation}
 use Rattle.std.specs.Prelude.{Result, Ok, Err, IfErr, IfOk, IsErr, IsErrAnd, chars}
 use Rattle.std.specs.Str.{IsUtf8}
-use Rattle.regress_front.specs.Accepted.{Means}
-use Rattle.regress_front.specs.Reading.{forwards}
-use Rattle.regress_front.specs.Law.{MeansTheSame}
 use Rattle.regress_front.specs.Source.{Source}
-use Rattle.regress_front.specs.Steps.{byte_state, Setting}
-use Rattle.regress_front.specs.Syntax.{Pattern}
+use Rattle.regress_front.specs.Steps.{Setting}
 use Rattle.regress_front.specs.Tree.{Tree}
 use Rattle.regress_front.specs.WellFormed.{captures}
 use Rattle.regress_front.specs.declared.parse.Dialect.{Dialect}
-use Rattle.regress_front.specs.declared.parse.PlacedFault.{PlacedFault}
-use Rattle.regress_front.specs.declared.parse.PlacedFault.TheVariants as fault
 use Rattle.regress_front.specs.declared.unicode.Tables.{Tables}
-use Rattle.regress_front.specs.Settled.{IsFaultIn}
 use Rattle.regress_match.specs.Pattern.{capture_of}
 use Rattle.regress_match.specs.declared.names.Group.{Group}
 use Rattle.regress.specs.Compiled.{IsCompiledFromIn, IsCompiledIn, IsTreeOfIn, groups_of, source_of, tree_of}
 use Rattle.regress.specs.Unicode.{unicode_setting}
 use Rattle.regress.specs.Source.{text_of}
 use Rattle.regress.specs.Compiled as regex
-use Rattle.regress.specs.Failures.{IsDue, IsDueWithLetters, compile_error_of, error_of}
+use Rattle.regress.specs.Failures.{IsDue, IsDueWithLetters, compile_error_of}
 use Rattle.regress.specs.Letters.{AreFlags, flags_of}
 use Rattle.regress.specs.Limits.{default_options}
 use Rattle.regress.specs.declared.failure.Error.{Error}
@@ -36,28 +29,6 @@ use Rattle.regress_parse.proofs.lemmas.{length-pattern_groups}
 use Rattle.regress_program.specs.Size.{program_size}
 use Rattle.regress_program.specs.declared.fault.CompileFault.{CompileFault}
 use Rattle.regress_program.specs.declared.fault.CompileFault.TheVariants as compile_fault
-
--- An optimized tree means what the parsed one does.
-pub means_optimized : (setting : Setting) (old new : Tree) (p : Pattern) → Means setting old p → MeansTheSame forwards old new →
-    Means setting new p
-means_optimized setting old new p means same = λ text s is_text is_state.
-    sym ((same setting text is_text).same (byte_state text s)) ∙ means text s is_text is_state
-
--- An error of the parser is due.
-pub due : (setting : Setting) (source : Source) (options : Options) (f : PlacedFault) →
-    IsFaultIn options.dialect setting source f → IsDue setting source options (error_of f)
-due setting source options (fault.Syntax kind e position) is = is
-due setting source options (fault.Memory e) is = tt
-
--- An error of the parser that is converted is due.
-pub failed : (dialect : Dialect) (setting : Setting) (source : Source) {X Y : Type 0} (r : Result X PlacedFault) (f : PlacedFault) (out : Result Y Error) →
-    IsErr out × IsErrAnd out (λ error. error ≡ error_of f) → r ≡ Err f → IfErr r (IsFaultIn dialect setting source) →
-    (options : Options) → options.dialect ≡ dialect → IfErr out (IsDue setting source options)
-failed dialect setting source r f (Ok y) given is known options same = tt
-failed dialect setting source r f (Err error) given is known options same =
-    let fault = subst (λ r. IfErr r (IsFaultIn dialect setting source)) is known in
-    subst (IsDue setting source options) (sym given.1)
-    (due setting source options f (subst (λ d. IsFaultIn d setting source f) (sym same) fault))
 
 -- An error that is passed on has the property that it had.
 pub passed_on : (P : Error → Type 0) {X Y : Type 0} (r : Result X Error) (e : Error) (out : Result Y Error) →

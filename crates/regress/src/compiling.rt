@@ -10,8 +10,8 @@ ghost use Rattle.regress.specs.declared.limits.Options.{Options};
 
 use crate::failure::Error;
 use regress_front::ir::Regex;
-use regress_front::optimizer::optimize;
-use regress_front::parse::{Dialect, try_parse_in};
+use regress_front::optimizer::parse_and_optimize_in;
+use regress_front::parse::Dialect;
 use regress_front::types::Flags;
 use regress_front::unicode::Tables;
 use std::alloc::Global;
@@ -31,7 +31,7 @@ pub(crate) fn optimized(
     ensures failed { let setting = setting_of (flags_in_force dialect flags) tables.now in
         (options : Options) → options.dialect ≡ dialect → IfErr result (IsDue setting points.now options) }
 {
-    let mut regex = try_parse_in(alloc, points, flags, tables, dialect)?;
-    optimize(alloc, &mut regex)?;
+    let (regex, optimized) = parse_and_optimize_in(alloc, points, flags, tables, dialect)?;
+    optimized?;
     Ok(regex)
 }
