@@ -113,14 +113,14 @@ fn take_plain_part(cursor: &mut Cursor, parameters: &Parameters) -> Option<Inter
     match after.split_first() {
         Some((hyphen, rest)) if *hyphen == u32::from('-') => {
             let (last, rest) = split_plain(rest)?;
-            if first > last || splits_point(last, parameters) {
+            if first > last || parameters.splits_point(last) {
                 return None;
             }
             cursor.rest = rest;
             Some(Interval::new(first, last))
         }
         _ => {
-            if splits_point(first, parameters) {
+            if parameters.splits_point(first) {
                 return None;
             }
             cursor.rest = after;
@@ -144,13 +144,6 @@ fn is_literal(c: u32) -> bool
     c != u32::from(']') && c != u32::from('\\')
 }
 
-/// Returns whether the code point is two members.
-fn splits_point(c: u32, parameters: &Parameters) -> bool
-    ensures { result ≡ (splits parameters.now && is_pair (point c)) }
-{
-    c >= 0x10000 && parameters.splits()
-}
-
 /// Parses an atom or a range of any kind, and adds its members.
 fn read_any_part(
     cursor: &mut Cursor,
@@ -165,7 +158,7 @@ fn read_any_part(
     if try_consume_hyphen(cursor) {
         read_range(cursor, around, first, left, set)
     } else {
-        add_atom(set, cursor.alloc, around.parameters.splits(), first)?;
+        add_atom(set, cursor.alloc, around.parameters, first)?;
         Ok(())
     }
 }
@@ -226,7 +219,7 @@ fn split_point(atom: &ClassAtom, parameters: &Parameters) -> Option<u32>
     let ClassAtom::Point(c) = atom else {
         return None;
     };
-    splits_point(*c, parameters).then_some(*c)
+    parameters.splits_point(*c).then_some(*c)
 }
 
 /// Parses the last atom of a range after its hyphen, where it begins no other range, and adds the members of the range.
@@ -269,42 +262,41 @@ fn add_range(
     ensures kind { FailsByNoLimit result }
 {
     let ClassRange { first, last } = range;
-    let splits = parameters.splits();
     if let (ClassAtom::Point(a), ClassAtom::Point(b)) = (&first, &last) {
-        return add_points(set, splits, left, *a, *b);
+        return add_points(set, parameters, left, *a, *b);
     }
     if parameters.unicode {
         return Err(rejected(left, FaultKind::InvalidRange));
     }
-    add_atom(set, alloc, splits, first)?;
+    add_atom(set, alloc, parameters, first)?;
     let hyphen = u32::from('-');
     set.add(Interval::new(hyphen, hyphen))?;
-    add_atom(set, alloc, splits, last)?;
+    add_atom(set, alloc, parameters, last)?;
     Ok(())
 }
 
 /// Adds the members of a range of code points. `left` is the number of code points that remained at its first atom.
 fn add_points(
     set: &mut IntervalCollector,
-    splits: bool,
+    parameters: &Parameters,
     left: usize,
     a: u32,
     b: u32,
 ) -> Result<(), Fault>
     requires a_in_range { IsCodePoint a }
     requires b_in_range { IsCodePoint b }
-    ensures ok { OnOk result ((members : List Bounds) × (units_between splits a b ≡ Some members) × Adds members set.old set.new) }
-    ensures err { FailsOnlyIf result (units_between splits a b ≡ None) }
+    ensures ok { OnOk result ((members : List Bounds) × (units_between (splits parameters.now) a b ≡ Some members) × Adds members set.old set.new) }
+    ensures err { FailsOnlyIf result (units_between (splits parameters.now) a b ≡ None) }
     ensures kind { FailsByNoLimit result }
 {
-    let first = last_unit(splits, a);
-    let last = first_unit(splits, b);
+    let first = last_unit(parameters, a);
+    let last = first_unit(parameters, b);
     if first > last {
         return Err(rejected(left, FaultKind::ReversedRange));
     }
-    add_units_before(set, splits, a)?;
+    add_units_before(set, parameters, a)?;
     set.add(Interval::new(first, last))?;
-    add_units_after(set, splits, b)?;
+    add_units_after(set, parameters, b)?;
     Ok(())
 }
 
@@ -312,14 +304,14 @@ fn add_points(
 fn add_atom(
     set: &mut IntervalCollector,
     alloc: Global,
-    splits: bool,
+    parameters: &Parameters,
     atom: ClassAtom,
 ) -> Result<(), AllocError>
     requires { IsClassAtomInRange atom }
-    ensures { OnOk result (Adds (atom_members splits (class_atom_of atom)) set.old set.new) }
+    ensures { OnOk result (Adds (atom_members (splits parameters.now) (class_atom_of atom)) set.old set.new) }
 {
     match atom {
-        ClassAtom::Point(c) => add_point(set, splits, c),
+        ClassAtom::Point(c) => add_point(set, parameters, c),
         ClassAtom::Class { kind, negated } => {
             add_members(set, &class_escape_set(alloc, kind)?, negated)
         }

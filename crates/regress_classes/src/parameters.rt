@@ -17,8 +17,8 @@ pub struct Parameters {
 }
 
 impl Parameters {
-    ghost use Rattle.std.specs.Prelude.{◌≡◌};
-    ghost use Rattle.regress_classes.specs.ClassProductions.{closes, splits};
+    ghost use Rattle.std.specs.Prelude.{◌≡◌, ◌&&◌};
+    ghost use Rattle.regress_classes.specs.ClassProductions.{closes, is_pair, point, splits};
 
     /// Returns whether sets are closed under case folding before a complement is taken.
     pub(crate) fn closes(&self) -> bool
@@ -27,10 +27,10 @@ impl Parameters {
         self.icase && self.unicode && self.dialect.compiles_case()
     }
 
-    /// Returns whether code points above U+FFFF are two code units.
-    pub(crate) fn splits(&self) -> bool
-        ensures { result ≡ splits self.now }
+    /// Returns whether a code point is two code units.
+    pub(crate) fn splits_point(&self, c: u32) -> bool
+        ensures { result ≡ (splits self.now && is_pair (point c)) }
     {
-        self.dialect.splits_pairs(self.unicode)
+        c >= 0x10000 && self.dialect.splits_pairs(self.unicode)
     }
 }
