@@ -11,6 +11,7 @@ use Rattle.regress_unicode.specs.FoldEntries.{FoldEntry, moved, is_in_mapping, m
 use Rattle.regress_ucd.specs.UnicodeTable.{unicode_parts, unicode_table}
 use Rattle.regress_ucd.proofs.lemmas.ValidTable.{unicode_valid}
 use Rattle.regress_ecma.specs.Differences.{HasCaseDataOfUnicode, HasVariantsIn, unlike, cased_beyond_ascii, cased}
+use Rattle.regress_ecma.specs.Compared.{IsOfUnicode}
 use Rattle.regress_ecma.proofs.Outside.{is_outside, is_inside, inside, carried}
 use Rattle.regress_ecma.proofs.Sets.{same_truth}
 
@@ -206,4 +207,12 @@ unicode_case_data = record {
   folded_variants = variants cased unicode_parts.folds refl;
   upper_variants = variants cased unicode_parts.uppers refl;
   same_variants = unicode_same;
+}
+
+pub unicode_data : IsOfUnicode unicode_table
+unfolding unicode_table unicode_parts
+unicode_data = record {
+  maps = unicode_case_data;
+  upper_keeps_words = member_after word_characters unicode_parts.uppers refl;
+  strings = unicode_valid.strings;
 }

@@ -9,6 +9,7 @@ mod IgnoredCase
 mod Theorem
 mod BackReferences
 mod Strings
+mod PropertyStrings
 mod Derived
 mod CaseData
 mod Follows

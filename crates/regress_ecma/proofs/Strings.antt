@@ -27,7 +27,7 @@ Agrees-same text d f g m same agrees = record {
   reached = λ s in'. subst (All (IsReached text d s)) (same s) (agrees.reached s in');
 }
 
-descending-same : (n : ℕ) (strings : List (List ℕ)) → descending n strings ≡ shorter_than n strings
+pub descending-same : (n : ℕ) (strings : List (List ℕ)) → descending n strings ≡ shorter_than n strings
 descending-same zero strings = refl
 descending-same (suc n) strings = ap (λ (rest : List (List ℕ)). filter (λ s. length s == n) strings ++ rest) (descending-same n strings)
 
@@ -62,7 +62,7 @@ module _ (table : Table) (rer : Flags) (text : List ℕ) (is_text : IsText text)
       ∙ ap (λ (string : List ℕ). all_of backwards (of_characters text) same string s) (sym (reverse-append (c1 ∷ []) (c2 ∷ cs))))
       (Agrees-then text backwards _ _ _ _ (string_agrees backwards (c2 ∷ cs)) (character_agrees table rer text is_text backwards same literals c1))
 
-  any_agrees : (d : Direction) (strings : List (List ℕ)) (f : Steps.Matcher) (m : Matcher) → Agrees text d f m →
+  pub any_agrees : (d : Direction) (strings : List (List ℕ)) (f : Steps.Matcher) (m : Matcher) → Agrees text d f m →
       Agrees text d (any_string d (of_characters text) same strings or_ f) (alternatives (map (string_matcher table rer d) strings) m)
   unfolding any_string
   any_agrees d [] f m agrees = agrees

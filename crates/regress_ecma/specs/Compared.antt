@@ -1,5 +1,8 @@
 -- How the two are compared.
 use Rattle.std.specs.Prelude.{◌≡◌, true, false, List, ℕ}
+use Rattle.regress_base.specs.Classes.{word_characters}
+use Rattle.regress_base.specs.Intervals.{is_member}
+use Rattle.regress_base.specs.Table.{Table, HasStrings}
 use Rattle.regress_tree.specs.Steps.{Setting}
 use Rattle.regress_tree.specs.Steps as Steps
 use Rattle.regress_syntax.specs.Syntax.{Pattern, names}
@@ -17,3 +20,12 @@ pub record IsComparable (setting : Setting) (p : Pattern) : Type 0 where
   pub with_u : setting.flags.unicode_sets ≡ true → setting.flags.unicode ≡ true
   pub proper : IsProper setting.flags p
   pub same : differs (names p) setting.flags p ≡ false
+
+-- ---- the dialect `Ecma`
+
+-- Facts about Unicode that a table need not have: its case mappings, that the upper case of a word character is one, and
+-- that no property contains the empty string.
+pub record IsOfUnicode (table : Table) : Type 0 where
+  pub maps : HasCaseDataOfUnicode table
+  pub upper_keeps_words : (c : ℕ) → is_member word_characters c ≡ true → is_member word_characters (table.uppercase c) ≡ true
+  pub strings : HasStrings table.strings
