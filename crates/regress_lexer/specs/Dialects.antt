@@ -35,6 +35,12 @@ abbrev pub tries_references : Dialect → Bool
 tries_references Regress = true
 tries_references Ecma = false
 
+-- Whether the strings of a property outside of a class are tried in the order in which the table lists them. Otherwise the
+-- longest are tried first (ECMA-262, CompileAtom).
+abbrev pub keeps_listed_order : Dialect → Bool
+keeps_listed_order Regress = true
+keeps_listed_order Ecma = false
+
 -- ---- classes without the flag v
 
 -- Whether in a class a code point above U+FFFF is two members, its surrogates (ECMA-262, ParsePattern: without the flag u a

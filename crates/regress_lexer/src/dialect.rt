@@ -10,14 +10,14 @@ pub enum Dialect {
     Regress,
     /// These rules as in ECMA-262 with Annex B: the flag v implies the flag u, no quantifier may follow `\b` and `\B`,
     /// `\u{..}` is an escape only with the flag u, beside a group with a name `\k` is an error in a class, classes with the
-    /// flag v, references to several groups of one name, which characters a class has with the flag i, and without the flag
+    /// flag v, references to several groups of one name, the order of a property's strings, which characters a class has with the flag i, and without the flag
     /// u a code point above U+FFFF in a class is two code units. The other rules are still those of `Regress`.
     Ecma,
 }
 
 impl Dialect {
     ghost use Rattle.std.specs.Prelude.{◌≡◌};
-    ghost use Rattle.regress_lexer.specs.Dialects.{flags_in_force, quantifies_boundaries, has_braces, tries_references, reserves_k, splits_pairs, compiles_case, reserves_pairs, isolates_ampersand, judges_contents};
+    ghost use Rattle.regress_lexer.specs.Dialects.{flags_in_force, quantifies_boundaries, has_braces, tries_references, keeps_listed_order, reserves_k, splits_pairs, compiles_case, reserves_pairs, isolates_ampersand, judges_contents};
 
     /// Returns the flags in force for a pattern with the flags `given`.
     pub fn flags_in_force(self, given: Flags) -> Flags
@@ -56,6 +56,17 @@ impl Dialect {
     /// that is set has captured.
     pub fn tries_references(self) -> bool
         ensures { result ≡ tries_references self }
+    {
+        match self {
+            Dialect::Regress => true,
+            Dialect::Ecma => false,
+        }
+    }
+
+    /// Returns whether the strings of a property outside of a class are tried in the order in which the table lists them.
+    /// Otherwise the longest are tried first.
+    pub fn keeps_listed_order(self) -> bool
+        ensures { result ≡ keeps_listed_order self }
     {
         match self {
             Dialect::Regress => true,

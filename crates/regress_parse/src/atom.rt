@@ -354,7 +354,8 @@ fn read_property_atom(
     match parse_property(cursor, scope.flags.unicode_sets, scope.tables)? {
         Property::Points(set) => Ok(make_property(set, negated, scope)?),
         Property::Strings(_) if negated => Err(rejected(begin, FaultKind::InvalidEscape)),
-        Property::Strings(strings) => {
+        Property::Strings(mut strings) => {
+            order_strings(&mut strings, scope)?;
             Ok(make_strings(cursor.alloc, strings, scope.flags.icase)?)
         }
     }

@@ -11,7 +11,7 @@ ghost use Rattle.regress_lexer.specs.Dialects.{tries_references};
 ghost use Rattle.regress_lexer.specs.Source.{IsCodePoint};
 ghost use Rattle.regress_classes.specs.ClassProductions.{members_of};
 ghost use Rattle.regress_syntax.specs.Syntax.{dot, anchor, boundary};
-ghost use Rattle.regress_syntax.specs.Productions.{class_flags, compared_members, point_property};
+ghost use Rattle.regress_syntax.specs.Productions.{class_flags, compared_members, ordered_strings, point_property};
 ghost use Rattle.regress_syntax.specs.Views.{context_of, names_in, group_of};
 ghost use Rattle.regress_classes.specs.ClassViews.{IsValue, HasMembers, strings_of};
 ghost use Rattle.regress_parse.specs.ClassParts.{strings_part, bracket_part, empty_part};
@@ -251,6 +251,16 @@ pub(crate) fn make_class_set(
     push_bracket(&mut parts, contents, alone)?;
     push_empty(&mut parts, has_empty)?;
     make_alternation(alloc, parts)
+}
+
+/// Brings the strings of a property into the order in which they are tried.
+pub(crate) fn order_strings(strings: &mut Vec<Vec<u32>>, scope: &Scope) -> Result<(), AllocError>
+    ensures { OnOk result (strings_of strings.new.items ≡ ordered_strings (context_of scope.now) (strings_of strings.old.items)) }
+{
+    if !scope.dialect.keeps_listed_order() {
+        sort_longest_first(strings)?;
+    }
+    Ok(())
 }
 
 /// Sorts the strings by descending length. Strings of the same length keep their order.

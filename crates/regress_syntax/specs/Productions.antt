@@ -10,7 +10,7 @@ use Rattle.regress_tree.specs.Steps.{Setting}
 use Rattle.regress_tree.specs.Reading.{forwards, backwards}
 use Rattle.regress_base.specs.Table.{Table}
 use Rattle.regress_lexer.specs.declared.dialect.Dialect.{Dialect}
-use Rattle.regress_lexer.specs.Dialects.{quantifies_boundaries, tries_references, compiles_case}
+use Rattle.regress_lexer.specs.Dialects.{quantifies_boundaries, tries_references, keeps_listed_order, compiles_case}
 use Rattle.regress_lexer.specs.Source.{Source, Found, ◌>>=◌, found_map, Production, when, otherwise, first_production, char, is_one_of, opening, full_stop, colon, question_mark, is_at, is_plain}
 use Rattle.regress_lexer.specs.Digits.{is_between, is_decimal, number, front, after}
 use Rattle.regress_lexer.specs.Escapes.{begins_with_letter, character_escape_at}
@@ -21,6 +21,7 @@ use Rattle.regress_classes.specs.ClassProductions.{complement, class_letter, cla
 use Rattle.regress_classes.specs.ClassSets.{class_set_at}
 use Rattle.regress_unicode.specs.UppercaseClosure.{is_in_uppercase_closure}
 use Rattle.regress_lexer.specs.Modifiers.{changed, modifiers_at}
+use Rattle.regress_syntax.specs.Meaning.{longest_first}
 use Rattle.regress_syntax.specs.Names.{group_name_at}
 use Rattle.regress_syntax.specs.Syntax.{Name, is_named, Target, by_number, by_name, by_name_if_set, Atom, literal, dot, anchor, boundary, class_escape, class, class_set, string_property, back_reference, Group, grouping, modified, capture, look, Item, atom, group}
 
@@ -163,10 +164,14 @@ module _ (ctx : Context) where
       then class ctx.setting.flags false (complement members)
       else class ctx.setting.flags negated members
 
+  -- the strings of a property, in the order in which they are tried
+  abbrev pub ordered_strings : List (List ℕ) → List (List ℕ)
+  ordered_strings written = if keeps_listed_order ctx.dialect then written else longest_first written
+
   -- A property. A property of strings has no complement.
   abbrev pub property_atom : (negated : Bool) → Property × Source → Found Atom
   property_atom negated (of_points members, t) = Some (point_property negated members, t)
-  property_atom negated (of_strings written, t) = if negated then None else Some (string_property ctx.setting.flags written, t)
+  property_atom negated (of_strings written, t) = if negated then None else Some (string_property ctx.setting.flags (ordered_strings written), t)
 
   -- what follows `\p` or `\P`
   abbrev pub property_atom_at : (negated : Bool) → Source → Found Atom
