@@ -6,6 +6,8 @@ mod Members
 mod Outside
 mod Sets
 mod IgnoredCase
+mod FoldedSets
+mod FoldedElements
 mod Theorem
 mod BackReferences
 mod Strings
