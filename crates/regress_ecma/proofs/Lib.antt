@@ -16,4 +16,5 @@ mod CaseData
 mod Follows
 mod ClassMembers
 mod ClassSetMembers
+mod ClassSetAtoms
 mod FromSource
