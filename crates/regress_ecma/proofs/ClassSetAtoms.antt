@@ -1,6 +1,5 @@
 -- Classes with the flag v as atoms: what the CharSet of ECMA-262 matches, the class of the syntax tree matches.
-use Rattle.std.proofs.Common.{◌≡◌, ℕ, ◌≤◌, ◌==◌, Bool, true, false, not, ◌&&◌, List, [], Option, Some, None, if◌then◌else◌, refl, sym, ap, ap₂, subst, ◌∙◌}
-use Rattle.std.proofs.lemmas.Bool.{false≢true}
+use Rattle.std.proofs.Common.{◌≡◌, ℕ, ◌≤◌, Bool, true, false, not, ◌&&◌, List, [], Option, Some, None, if◌then◌else◌, refl, sym, ap, ap₂, subst, ◌∙◌}
 use Rattle.regress_base.specs.Intervals.{code_point_max, is_member}
 use Rattle.regress_base.specs.Table.{Table, is_in_closure, denotes}
 use Rattle.regress_base.specs.Table as Table
@@ -29,8 +28,7 @@ use Rattle.regress_ecma.specs.Differences.{HasCaseDataOfUnicode}
 use Rattle.regress_ecma.proofs.Bridge.{Agrees}
 use Rattle.regress_ecma.proofs.CharacterSets.{IsSetOf}
 use Rattle.regress_ecma.proofs.ClassSetMembers.{IsClassSet, nested_is, class_set_follows}
-use Rattle.regress_ecma.proofs.FoldedElements.{Represents}
-use Rattle.regress_ecma.proofs.FoldedSets.{IsFoldingOf, members_closed}
+use Rattle.regress_ecma.proofs.FoldedSets.{closed_if, IsFoldingOf, members_closed}
 use Rattle.regress_ecma.proofs.Sets.{same_truth, canonicalize-same, found_if, found_plain, found_gives, found_from, literal_set}
 use Rattle.regress_ecma.proofs.Strings.{Agrees-strings}
 
@@ -91,6 +89,25 @@ module _ (table : Table) (maps : HasCaseDataOfUnicode table) (rer : Flags) (with
       found_is whole (complement_if negated members) is_whole ch le
       ∙ complement_member negated members ch le
       ∙ sym (in_class_is set members is ch le negated)
+
+  -- The same where the members are not closed, as those of a property.
+  pub closure_is : (negated : Bool) (members whole : CharSet) → IsFoldingOf table folds whole (complement_if negated (closed_if table folds members)) →
+      IsSetOf table rer whole false (is_in_class table rer negated members)
+  closure_is negated members whole is_whole ch scalar' =
+      let le = scalar_in_range ch scalar' in
+      found_is whole (complement_if negated (closed_if table folds members)) is_whole ch le
+      ∙ complement_member negated (closed_if table folds members) ch le
+      ∙ ap (differ negated) (by_test le rer.icase refl)
+    where
+      by_test : ch ≤ code_point_max → (i : Bool) → rer.icase ≡ i →
+          is_member (closed_if table folds members) ch ≡ (if rer.icase then is_in_closure table members ch else is_member members ch)
+      by_test le true e =
+          ap (λ (b : Bool). is_member (closed_if table b members) ch) (folds_if true e)
+          ∙ intervals_of-member (is_in_closure table members) ch le
+          ∙ sym (ap (λ (b : Bool). if b then is_in_closure table members ch else is_member members ch) e)
+      by_test le false e =
+          ap (λ (b : Bool). is_member (closed_if table b members) ch) (folds_if false e)
+          ∙ sym (ap (λ (b : Bool). if b then is_in_closure table members ch else is_member members ch) e)
 
 -- ---- classes
 

@@ -1,7 +1,7 @@
 -- Classes with the flag v: the CharSet of ECMA-262 beside the contents that the syntax tree has. With the flag i the former has
 -- foldings, and the latter, where the dialect has it so, is closed under case folding.
-use Rattle.std.proofs.Common.{◌≡◌, ℕ, zero, suc, ◌+◌, ◌==◌, Bool, true, false, not, ◌&&◌, ◌||◌, List, [], ◌∷◌, ◌++◌, length, drop, map, filter, Option, Some, None, if◌then◌else◌, refl, sym, ap, ap₂, subst, ◌∙◌, append_assoc, append-nil, nat_le, arith}
-use Rattle.std.proofs.lemmas.Bool.{false≢true, ne_eqb, and_parts, or_parts}
+use Rattle.std.proofs.Common.{◌≡◌, ℕ, zero, suc, ◌+◌, ◌==◌, Bool, true, false, not, ◌&&◌, ◌||◌, List, [], ◌∷◌, length, drop, Option, Some, None, if◌then◌else◌, refl, sym, ap, ap₂, subst, ◌∙◌, nat_le}
+use Rattle.std.proofs.lemmas.Bool.{false≢true}
 use Rattle.regress_base.specs.Intervals.{Bounds}
 use Rattle.regress_base.specs.Limits.{max_nesting_depth}
 use Rattle.regress_base.specs.Table.{Table}
@@ -18,20 +18,18 @@ use Rattle.regress_classes.specs.Properties.{Property, of_points, of_strings, pr
 use Rattle.regress_classes.proofs.lemmas.ClassSets.{no_strings as none_if_negated}
 use Rattle.regress_ecma.specs.Notation.{CharSet}
 use Rattle.regress_ecma.specs.Characters.{word_characters, class_escape_set, character_class_escape}
-use Rattle.regress_ecma.specs.Atoms.{one_character}
 use Rattle.regress_ecma.specs.ClassNodes.{ClassAtom, character, class_escape, property, string_property, class_strings, nested_class, ClassContents, empty, atom_then, range_then, intersection, subtraction, CharacterClass}
-use Rattle.regress_ecma.specs.CharSets.{Elements, no_elements, only, union, one_string, each_string, in_both, in_first_only, character_range, complement, maybe_simple_case_folding, atom_to_char_set, compile_to_char_set}
+use Rattle.regress_ecma.specs.CharSets.{Elements, only, union, each_string, character_range, complement, maybe_simple_case_folding, atom_to_char_set, compile_to_char_set}
 use Rattle.regress_ecma.specs.ClassGrammar.{property_node, class_strings_at, operand_productions, escaped_operand_at, operand_at, part_after, class_union_by, operands_by, contents_after, contents_at, class_set_by, character_class_at}
 use Rattle.regress_ecma.specs.Differences.{HasCaseDataOfUnicode}
 use Rattle.regress_ecma.proofs.Follows.{Follows, follows_none, follows_some, follows_if, follows_unless, follows_then, follows_map, follows_mapped, follows_same}
-use Rattle.regress_ecma.proofs.FoldedSets.{closed_if, folded_if, strings_if, complement_if_folded, IsFoldingOf, folding_is, uncased_is, closed_again, complement_of, combined, union_of, strings-twice, strings-append, strings-filter}
+use Rattle.regress_ecma.proofs.FoldedSets.{closed_if, folded_if, strings_if, complement_if_folded, IsFoldingOf, folding_is, uncased_is, strings-twice}
 use Rattle.regress_ecma.proofs.IgnoredCase.{digits_uncased, spaces_uncased}
 use Rattle.regress_ecma.proofs.Sets.{escape_set-plain}
 use Rattle.regress_ecma.proofs.lemmas.ClassCharacters.{words_folded}
 use Rattle.regress_base.proofs.lemmas.Sets.{is_member-nil, intervals_of-agree}
 use Rattle.regress_base.specs.declared.charclasses.CharacterClassType.TheVariants.{Digits, Spaces, Words}
-
-use Rattle.regress_ecma.proofs.FoldedElements.{elements, union-none, union-assoc, each_string-same, Represents, closed, folded, folding, closing, complementing, joining, intersecting, subtracting}
+use Rattle.regress_ecma.proofs.FoldedElements.{elements, union-none, union-assoc, each_string-same, Represents, folded, folding, closing, complementing, joining, intersecting, subtracting}
 
 -- a class, as it is written
 pub record IsClassSet (table : Table) (rer : Flags) (folds : Bool) (node : CharacterClass) (read : Bool × Value) : Type 0 where

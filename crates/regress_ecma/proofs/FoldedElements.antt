@@ -1,35 +1,15 @@
 -- The elements of a CharSet beside the contents that the syntax tree has, and what operators make of both. With case folding
 -- the elements are foldings, and the contents are closed under it.
-use Rattle.std.proofs.Common.{◌≡◌, ℕ, zero, suc, ◌+◌, ◌==◌, Bool, true, false, not, ◌&&◌, ◌||◌, List, [], ◌∷◌, ◌++◌, length, drop, map, filter, Option, Some, None, if◌then◌else◌, refl, sym, ap, ap₂, subst, ◌∙◌, append_assoc, append-nil, nat_le, arith}
+use Rattle.std.proofs.Common.{◌≡◌, ℕ, suc, ◌==◌, Bool, true, false, not, ◌&&◌, ◌||◌, List, [], ◌∷◌, ◌++◌, length, map, filter, if◌then◌else◌, refl, sym, ap, ap₂, ◌∙◌, append_assoc, append-nil, arith}
 use Rattle.std.proofs.lemmas.Bool.{false≢true, ne_eqb, and_parts, or_parts}
-use Rattle.regress_base.specs.Intervals.{Bounds}
-use Rattle.regress_base.specs.Limits.{max_nesting_depth}
 use Rattle.regress_base.specs.Table.{Table}
-use Rattle.regress_base.specs.declared.charclasses.CharacterClassType.{CharacterClassType}
-use Rattle.regress_base.specs.declared.types.Flags.{Flags}
-use Rattle.regress_lexer.specs.Dialects.{isolates_ampersand, judges_contents}
-use Rattle.regress_lexer.specs.Source.{Source, Found, found_map, first_production, char, is_one_of, is_at}
-use Rattle.regress_classes.specs.declared.parameters.Parameters.{Parameters}
 use Rattle.regress_classes.specs.ClassProductions.{members_of, class_letter, complement_if, closes, closed_members, class_members, one_point, points_between}
 use Rattle.regress_classes.specs.ClassProductions as ClassProductions
-use Rattle.regress_classes.specs.ClassSets.{Value, nothing, has_strings, is_not_negatable, joined, folded_left, is_among, common, without, closed_value, closed_value_of, value_of_string, value_of_strings, nested, unless_negated_strings, Operand, value_of, range_of, escaped_character_at, set_character_at, strings_by, quoted_at, property_operand, are_at, class_set_at}
-use Rattle.regress_classes.specs.ClassSets as ClassSets
-use Rattle.regress_classes.specs.Properties.{Property, of_points, of_strings, property_at}
-use Rattle.regress_classes.proofs.lemmas.ClassSets.{no_strings as none_if_negated}
+use Rattle.regress_classes.specs.ClassSets.{Value, has_strings, joined, is_among, common, without, value_of_string, value_of_strings}
 use Rattle.regress_ecma.specs.Notation.{CharSet}
-use Rattle.regress_ecma.specs.Characters.{word_characters, class_escape_set, character_class_escape}
-use Rattle.regress_ecma.specs.Atoms.{one_character}
-use Rattle.regress_ecma.specs.ClassNodes.{ClassAtom, character, class_escape, property, string_property, class_strings, nested_class, ClassContents, empty, atom_then, range_then, intersection, subtraction, CharacterClass}
-use Rattle.regress_ecma.specs.CharSets.{Elements, no_elements, only, union, one_string, each_string, in_both, in_first_only, character_range, complement, maybe_simple_case_folding, atom_to_char_set, compile_to_char_set}
-use Rattle.regress_ecma.specs.ClassGrammar.{property_node, class_strings_at, operand_productions, escaped_operand_at, operand_at, part_after, class_union_by, operands_by, contents_after, contents_at, class_set_by, character_class_at}
+use Rattle.regress_ecma.specs.CharSets.{Elements, no_elements, only, union, one_string, each_string, in_both, in_first_only}
 use Rattle.regress_ecma.specs.Differences.{HasCaseDataOfUnicode}
-use Rattle.regress_ecma.proofs.Follows.{Follows, follows_none, follows_some, follows_if, follows_unless, follows_then, follows_map, follows_mapped, follows_same}
-use Rattle.regress_ecma.proofs.FoldedSets.{closed_if, folded_if, strings_if, complement_if_folded, IsFoldingOf, folding_is, uncased_is, closed_again, complement_of, combined, union_of, strings-twice, strings-append, strings-filter}
-use Rattle.regress_ecma.proofs.IgnoredCase.{digits_uncased, spaces_uncased}
-use Rattle.regress_ecma.proofs.Sets.{escape_set-plain}
-use Rattle.regress_ecma.proofs.lemmas.ClassCharacters.{words_folded}
-use Rattle.regress_base.proofs.lemmas.Sets.{intervals_of-agree}
-use Rattle.regress_base.specs.declared.charclasses.CharacterClassType.TheVariants.{Digits, Spaces, Words}
+use Rattle.regress_ecma.proofs.FoldedSets.{closed_if, folded_if, strings_if, complement_if_folded, IsFoldingOf, folding_is, closed_again, complement_of, combined, union_of, strings-twice, strings-append, strings-filter}
 
 -- the elements of a value
 abbrev pub elements : Value → Elements
@@ -147,4 +127,3 @@ module _ (table : Table) (maps : HasCaseDataOfUnicode table) where
         folded_strings = strings-filter table maps folds (λ s. not (is_among w.strings s)) v.strings first.folded_strings;
         has_empty = ap₂ (λ (x y : Bool). x && not y) first.has_empty second.has_empty;
       }
-

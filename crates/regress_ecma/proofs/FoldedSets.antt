@@ -92,7 +92,7 @@ module _ (table : Table) (maps : HasCaseDataOfUnicode table) where
   }
 
   -- A set in which each character is its own folding.
-  pub folded_already : (folds : Bool) (set : CharSet) → ((c : ℕ) → is_member set c ≡ true → table.fold c ≡ c) →
+  folded_already : (folds : Bool) (set : CharSet) → ((c : ℕ) → is_member set c ≡ true → table.fold c ≡ c) →
       IsFoldingOf table folds set (closed_if table folds set)
   folded_already true set own = record {
     has = λ c le.

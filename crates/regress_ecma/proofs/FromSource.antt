@@ -31,13 +31,13 @@ use Rattle.regress_ecma.specs.Assertions.{accept}
 use Rattle.regress_ecma.specs.Atoms.{compile_atom}
 use Rattle.regress_ecma.specs.CharacterMatchers.{is_found}
 use Rattle.regress_ecma.specs.Characters.{character_complement}
-use Rattle.regress_ecma.specs.CharSets.{Elements, only, complement, atom_to_char_set, compile_to_char_set, class_of, compile_character_class}
+use Rattle.regress_ecma.specs.CharSets.{complement, atom_to_char_set, compile_to_char_set, class_of, compile_character_class}
 use Rattle.regress_ecma.specs.ClassGrammar.{property_node, character_class_at}
 use Rattle.regress_ecma.specs.ClassNodes.{property, CharacterClass}
 use Rattle.regress_ecma.specs.CompiledClasses.{class_compiled, property_compiled, compiled, atom_of, with_char_sets, terms_with_char_sets, item_with_char_sets}
 use Rattle.regress_ecma.specs.Compile.{compile_disjunction, compile_pattern}
 use Rattle.regress_ecma.specs.Compared.{state_on, IsComparable}
-use Rattle.regress_ecma.specs.Differences.{HasCaseDataOfUnicode, has_ends, has_unlike, differs_in_case, differs_at_atom}
+use Rattle.regress_ecma.specs.Differences.{HasCaseDataOfUnicode, has_ends, has_unlike, differs_in_case}
 use Rattle.regress_ecma.specs.Exec.{match_at, or_later, first_match, builtin_exec}
 use Rattle.regress_ecma.proofs.Bridge.{Agrees}
 use Rattle.regress_ecma.proofs.CharacterSets.{Agrees-character}

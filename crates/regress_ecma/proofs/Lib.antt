@@ -17,4 +17,5 @@ mod Follows
 mod ClassMembers
 mod ClassSetMembers
 mod ClassSetAtoms
+mod EcmaClassSets
 mod FromSource
