@@ -129,7 +129,8 @@ module _ (setting : Setting) (maps : HasCaseDataOfUnicode setting.table) (all : 
       Agrees-strings setting.table rer text is_text d (denotes setting.table rer.icase setting.flags.unicode)
       (λ c ch h. literal_set setting.table maps rer with_u c ch h ∙ ap (λ (u : Bool). denotes setting.table rer.icase u c ch) unicode)
       value.strings (of_class node).characters (is_in_class setting.table rer negated value.members)
-      (class_is setting.table maps rer with_u sets (closes parameters) same negated (compile_to_char_set setting.table rer node.contents).characters value.members
+      (class_is setting.table maps rer with_u sets (closes parameters) same negated
+      (compile_to_char_set setting.table rer node.contents).characters value.members
       (of_class node).characters is.contents.characters whole.characters)
       value.has_empty in
       subst
@@ -169,6 +170,7 @@ module _ (setting : Setting) (maps : HasCaseDataOfUnicode setting.table) (all : 
       ap (λ (b : Bool). by_node (character_class_at context.setting.table (class_parameters context) b t)) sets
       ∙ ap by_node read.found
       ∙ ap (λ (table : Table). compile_character_class table rer read.value) same in
-      subst (λ (a : Atom). Agrees text d (atom_steps setting all text d (class_set rer negated value)) (compile_atom setting.table all rer d a)) (sym compiled_is)
+      subst (λ (a : Atom). Agrees text d (atom_steps setting all text d (class_set rer negated value)) (compile_atom setting.table all rer d a))
+      (sym compiled_is)
       (class_set_agrees setting maps all text is_text rer with_u unicode sets (class_parameters context) folds read.value negated value
       (subst (λ (table : Table). IsClassSet table rer (closes (class_parameters context)) read.value (negated, value)) same read.related) d)

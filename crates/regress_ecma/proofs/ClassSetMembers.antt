@@ -45,7 +45,7 @@ module _ (table : Table) (maps : HasCaseDataOfUnicode table) (rer : Flags) (with
   abbrev Is : Elements → Value → Type 0
   Is a v = Represents table folds a v
 
-  -- of contents that are not closed yet
+  -- the same, once the value is closed
   abbrev IsClosed : Elements → Value → Type 0
   IsClosed a v = Represents table folds a (closed_value table parameters v)
 
@@ -68,9 +68,11 @@ module _ (table : Table) (maps : HasCaseDataOfUnicode table) (rer : Flags) (with
   abbrev compile_atom : ClassAtom → Elements
   compile_atom node = atom_to_char_set table rer node
 
-  -- the complement, if it is negated
+  abbrev complement_if_negated : Bool → Elements → Elements
+  complement_if_negated negated a = if negated then complement table rer a else a
+
   complement_if_is : (negated : Bool) (a : Elements) (v : Value) → Is a v → (negated && has_strings v) ≡ false →
-      Is (if negated then complement table rer a else a) (record v { members = complement_if negated v.members })
+      Is (complement_if_negated negated a) (record v { members = complement_if negated v.members })
   complement_if_is true a v is none = complement_is a v is none
   complement_if_is false a v is none = is
 
@@ -92,7 +94,8 @@ module _ (table : Table) (maps : HasCaseDataOfUnicode table) (rer : Flags) (with
       ap (λ (b : Bool). folded_if table b (word_characters table rer)) both
       ∙ intervals_of-agree _ _ (λ c le. words_folded table rer maps.idempotent both c) in
       subst (λ (b : Bool). IsFoldingOf table b (class_escape_set table rer Words) (closed_if table b (members_of Words))) (sym both ∙ same)
-      (subst (λ (set : CharSet). IsFoldingOf table true set (closed_if table true (members_of Words))) (sym words) (folding_is table maps true (members_of Words)))
+      (subst (λ (set : CharSet). IsFoldingOf table true set (closed_if table true (members_of Words))) (sym words)
+      (folding_is table maps true (members_of Words)))
   words_are false i =
       let none : (rer.unicode_sets && rer.icase) ≡ false = ap₂ (λ (x y : Bool). x && y) sets i in
       subst (λ (b : Bool). IsFoldingOf table b (class_escape_set table rer Words) (closed_if table b (members_of Words))) (sym none ∙ same)
@@ -157,13 +160,10 @@ module _ (table : Table) (maps : HasCaseDataOfUnicode table) (rer : Flags) (with
 
   pub nested_is : (node : CharacterClass) (read : Bool × Value) → IsClass node read → Is (compile_atom (nested_class node.invert node.contents)) (nested read)
   nested_is node (negated, v) is =
-      let whole : Is (if negated then complement table rer (compile node.contents) else compile node.contents) (record v { members = complement_if negated v.members }) =
-      complement_if_is negated (compile node.contents) v is.contents is.no_strings in
-      let here : Is (if node.invert then complement table rer (compile node.contents) else compile node.contents) (record v { members = complement_if negated v.members }) =
-      subst
-      (λ (b : Bool). Is (if b then complement table rer (compile node.contents) else compile node.contents) (record v { members = complement_if negated v.members }))
-      (sym is.invert) whole in
-      record { characters = here.characters; strings = here.strings; folded_strings = here.folded_strings; has_empty = here.has_empty }
+      let whole : Is (complement_if_negated node.invert (compile node.contents)) (record v { members = complement_if negated v.members }) =
+      subst (λ (b : Bool). Is (complement_if_negated b (compile node.contents)) (record v { members = complement_if negated v.members })) (sym is.invert)
+      (complement_if_is negated (compile node.contents) v is.contents is.no_strings) in
+      record { characters = whole.characters; strings = whole.strings; folded_strings = whole.folded_strings; has_empty = whole.has_empty }
 
   module _ (in_negated : Bool) where
     strings_follow : (t : Source) → Follows IsOperand (quoted_at parameters t) (class_strings_at table parameters t)
@@ -175,13 +175,17 @@ module _ (table : Table) (maps : HasCaseDataOfUnicode table) (rer : Flags) (with
         (λ _. follows_none IsOperand None)
 
     productions_follow : (c : ℕ) (t : Source) →
-        Follows IsOperand (first_production (ClassSets.operand_productions table parameters in_negated c t)) (first_production (operand_productions table parameters c t))
+        Follows IsOperand (first_production (ClassSets.operand_productions table parameters in_negated c t))
+        (first_production (operand_productions table parameters c t))
     productions_follow c t =
         follows_if IsOperand (c == char "q") _ _ _ _ (λ _. strings_follow t)
         (λ _. follows_if IsOperand (is_one_of "pP" c) _ _ _ _
         (λ _.
         follows_then (λ (y x : Property). y ≡ x) IsOperand (property_at true table t) (property_at true table t) _ _ (follows_same _)
-        (λ p q u same. subst (λ (r : Property). Follows IsOperand (property_operand table parameters in_negated (c == char "P") (p, u)) (Some (property_node (c == char "P") r, u))) (sym same)
+        (λ p q u same.
+        subst
+        (λ (r : Property). Follows IsOperand (property_operand table parameters in_negated (c == char "P") (p, u)) (Some (property_node (c == char "P") r, u)))
+        (sym same)
         (property_follows in_negated (c == char "P") p u)))
         (λ _.
         follows_map (λ (y x : ℕ). y ≡ x) IsOperand ClassSets.character character _ _ (follows_same (escaped_character_at parameters.unicode (c ∷ t)))
@@ -288,7 +292,8 @@ module _ (table : Table) (maps : HasCaseDataOfUnicode table) (rer : Flags) (with
       operand_alone : (first : ClassAtom) (operand : Operand) → IsOperand first operand → IsClosed (compile (atom_then first empty)) (value_of operand)
       operand_alone first operand is = first_part (atom_then first) (value_of operand) (operand_part first operand is) empty [] no_parts
 
-      union_follows : (n : ℕ) (t : Source) → Follows AreParts (ClassSets.parts_by table parameters inner in_negated n t) (class_union_by table parameters inner' n t)
+      union_follows : (n : ℕ) (t : Source) →
+          Follows AreParts (ClassSets.parts_by table parameters inner in_negated n t) (class_union_by table parameters inner' n t)
       unfolding ClassSets.parts_by class_union_by
       union_follows zero t = follows_none AreParts None
       union_follows (suc n) t =
@@ -303,7 +308,8 @@ module _ (table : Table) (maps : HasCaseDataOfUnicode table) (rer : Flags) (with
 
       -- ---- operators
 
-      next_follows : (c : ℕ) (t : Source) → Follows IsOperand (ClassSets.next_operand_at table parameters inner in_negated c t) (operand_at table parameters inner' t)
+      next_follows : (c : ℕ) (t : Source) →
+          Follows IsOperand (ClassSets.next_operand_at table parameters inner in_negated c t) (operand_at table parameters inner' t)
       next_follows c t = follows_unless IsOperand (not (isolates_ampersand parameters.dialect) && is_at c t) _ _ (λ _. operand_follows t)
 
       -- the contents, which are closed once they are all read
@@ -313,7 +319,8 @@ module _ (table : Table) (maps : HasCaseDataOfUnicode table) (rer : Flags) (with
       -- the contents that an operator makes of two
       abbrev IsOperator : (ClassContents → ClassAtom → ClassContents) → (Value → Value → Value) → Type 0
       IsOperator operator f =
-          (left : ClassContents) (right : ClassAtom) (a b : Value) → Is (compile left) a → Is (compile_atom right) b → Is (compile (operator left right)) (f a b)
+          (left : ClassContents) (right : ClassAtom) (a b : Value) → Is (compile left) a → Is (compile_atom right) b →
+          Is (compile (operator left right)) (f a b)
 
       is_intersection : IsOperator intersection common
       is_intersection left right a b = intersecting table maps folds (compile left) a (compile_atom right) b
@@ -423,7 +430,8 @@ module _ (table : Table) (maps : HasCaseDataOfUnicode table) (rer : Flags) (with
       let negated : Bool = is_at (char "^") t in
       follows_then HasContents IsClass _ _ _ _
       (follows_mapped WillHaveContents HasContents (closed_value table parameters) _ _
-      (contents_follow (negated && judges_contents parameters.dialect) (ClassSets.class_set_by table parameters n) (class_set_by table parameters n) (set_follows n)
+      (contents_follow (negated && judges_contents parameters.dialect) (ClassSets.class_set_by table parameters n) (class_set_by table parameters n)
+      (set_follows n)
       (if negated then drop 1 t else t))
       (λ value contents is. is))
       (λ value contents rest is. unless_strings negated value contents rest is)

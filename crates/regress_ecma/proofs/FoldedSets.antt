@@ -194,7 +194,8 @@ module _ (table : Table) (maps : HasCaseDataOfUnicode table) where
       by_test true e h = inl e
       by_test false e h = inr h
 
-  pub union_of : (folds : Bool) (a b m n : CharSet) → IsFoldingOf table folds a (closed_if table folds m) → IsFoldingOf table folds b (closed_if table folds n) →
+  pub union_of : (folds : Bool) (a b m n : CharSet) → IsFoldingOf table folds a (closed_if table folds m) →
+      IsFoldingOf table folds b (closed_if table folds n) →
       IsFoldingOf table folds (a ++ b) (closed_if table folds (m ++ n))
   union_of folds a b m n first second = record {
     has = λ c le.
