@@ -56,11 +56,11 @@ like_of set none c member = by_test (is_member unlike c) refl
     by_test true e = absurd (false≢true (sym none ∙ has_some_from (is_member unlike) set c member e))
     by_test false e = e
 
-digits_uncased : IsUncased digits
+pub digits_uncased : IsUncased digits
 unfolding cased_beyond_ascii
 digits_uncased c member = apart cased digits refl c member
 
-spaces_uncased : IsUncased (white_space ++ line_terminators)
+pub spaces_uncased : IsUncased (white_space ++ line_terminators)
 unfolding cased_beyond_ascii
 spaces_uncased c member = apart cased (white_space ++ line_terminators) refl c member
 

@@ -6,6 +6,8 @@ mod Members
 mod Outside
 mod Sets
 mod IgnoredCase
+mod FoldedSets
+mod FoldedElements
 mod Theorem
 mod BackReferences
 mod Strings
@@ -15,4 +17,6 @@ mod CaseData
 mod Follows
 mod ClassMembers
 mod ClassSetMembers
+mod ClassSetAtoms
+mod EcmaClassSets
 mod FromSource
