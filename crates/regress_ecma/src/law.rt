@@ -3,17 +3,18 @@ ghost use Rattle.std.specs.Prelude.{◌≡◌, ◌<◌, ◌≤◌, ℕ, true, Li
 ghost use Rattle.regress_tree.specs.Reading.{Direction, forwards, IsText};
 ghost use Rattle.regress_tree.specs.Steps.{MatchState, IsStateOf, Setting};
 ghost use Rattle.regress_lexer.specs.Source.{Source, char};
-ghost use Rattle.regress_lexer.specs.declared.dialect.Dialect.TheVariants.{Regress};
+ghost use Rattle.regress_lexer.specs.declared.dialect.Dialect.TheVariants.{Regress, Ecma};
 ghost use Rattle.regress_syntax.specs.Grammar.{IsPattern};
 ghost use Rattle.regress_syntax.specs.Meaning.{meaning};
 ghost use Rattle.regress_syntax.specs.Productions.{class_parameters, Context, head_at, single};
+ghost use Rattle.regress_syntax.specs.SameNames.{NoneConflict};
 ghost use Rattle.regress_syntax.specs.Syntax.{Atom, Pattern, names};
 ghost use Rattle.regress_ucd.specs.UnicodeTable.{unicode_table};
 ghost use Rattle.regress_ecma.specs.Assertions.{accept};
 ghost use Rattle.regress_ecma.specs.ClassGrammar.{character_class_at};
 ghost use Rattle.regress_ecma.specs.ClassNodes.{CharacterClass};
 ghost use Rattle.regress_ecma.specs.CompiledClasses.{with_char_sets};
-ghost use Rattle.regress_ecma.specs.Compared.{IsComparable, state_on};
+ghost use Rattle.regress_ecma.specs.Compared.{IsComparable, IsOfUnicode, state_on};
 ghost use Rattle.regress_ecma.specs.Compile.{compile_disjunction, compile_pattern};
 ghost use Rattle.regress_ecma.specs.Differences.{HasCaseDataOfUnicode, IsProper};
 ghost use Rattle.regress_ecma.specs.Exec.{builtin_exec};
@@ -22,8 +23,9 @@ ghost use Rattle.regress_ecma.specs.Notation.{failure};
 /// States the theorem that the matcher of ECMA-262 (section 22.2.2) returns the first outcome of a pattern, and fails if
 /// there is none.
 ///
-/// It is about syntax trees without a differing construct, tables with the case data of Unicode, such as that of all of
-/// Unicode, and texts of characters. Fuel greater than the length of the text is enough.
+/// In the dialect `Ecma` it is about every pattern that the grammar derives, in `Regress` about syntax trees without a
+/// differing construct. Tables have the case data of Unicode, such as that of all of Unicode, and texts are code points.
+/// Fuel greater than the length of the text is enough.
 ///
 /// The function does nothing at run time; call it where a proof needs the theorem.
 pub fn first_outcome_is_the_match()
@@ -38,7 +40,7 @@ pub fn first_outcome_is_the_match()
         meaning setting text d p s ≡ [] }
 
     // The same with the CharSets of ECMA-262 for classes: those that CompileCharacterClass and CompileToCharSet return for the
-    // source of each. They take the place of what the syntax tree has. This and the next three are about the dialect
+    // source of each. They take the place of what the syntax tree has. This and the next one are about the dialect
     // `Regress`.
     ensures source { (ctx : Context) → ctx.dialect ≡ Regress → (p : Pattern) (t rest : Source) (derived : IsPattern ctx p t rest) → IsComparable ctx.setting p →
         (text : List ℕ) → IsText text → (fuel : ℕ) → length text < fuel → (index : ℕ) → index ≤ length text →
@@ -51,17 +53,26 @@ pub fn first_outcome_is_the_match()
         (text : List ℕ) → IsText text → (index : ℕ) → index ≤ length text →
         builtin_exec ctx.setting (with_char_sets ctx p t rest derived) text index ≡ builtin_exec ctx.setting p text index }
 
-    // A class ends where its parse node does.
-    ensures ends { (ctx : Context) → ctx.dialect ≡ Regress → HasCaseDataOfUnicode ctx.setting.table →
+    // In the dialect `Ecma`, without exception: with these CharSets, from an index, as RegExpBuiltinExec begins.
+    ensures in_ecma { (ctx : Context) → ctx.dialect ≡ Ecma → IsOfUnicode ctx.setting.table →
+        (ctx.setting.flags.unicode_sets ≡ true → ctx.setting.flags.unicode ≡ true) →
+        (p : Pattern) (t rest : Source) (derived : IsPattern ctx p t rest) → NoneConflict p → (text : List ℕ) → IsText text →
+        (fuel : ℕ) → length text < fuel → (index : ℕ) → index ≤ length text →
+        compile_pattern fuel ctx.setting.table ctx.setting.flags (with_char_sets ctx p t rest derived) text index
+        ≡ option_map (state_on text) (slice_get
+        (meaning ctx.setting text forwards p (record { position = index; captures = replicate (length (names p)) None })) 0) }
+
+    // A class ends where its parse node does, in both dialects.
+    ensures ends { (ctx : Context) → HasCaseDataOfUnicode ctx.setting.table →
         (ctx.setting.flags.unicode_sets ≡ true → ctx.setting.flags.unicode ≡ true) →
         (t rest : Source) (a : Atom) → head_at ctx (char "[" ∷ t) ≡ Some (single a, rest) → (node : CharacterClass)
         × (character_class_at ctx.setting.table (class_parameters ctx) ctx.setting.flags.unicode_sets t ≡ Some (node, rest)) }
 
-    // Each syntax tree of the grammar has the flags in force, and quantifiers in order.
+    // Each syntax tree of the grammar of `Regress` has the flags in force, and quantifiers in order.
     ensures proper { (ctx : Context) → ctx.dialect ≡ Regress → (p : Pattern) (t rest : Source) → IsPattern ctx p t rest → IsProper ctx.setting.flags p }
 
-    // The table of `unicode_tables` can be compared.
-    ensures unicode { HasCaseDataOfUnicode unicode_table }
+    // The table of `unicode_tables` is such a table.
+    ensures unicode { IsOfUnicode unicode_table }
 
     // From an index, with all groups unset, as RegExpBuiltinExec begins.
     ensures pattern { (setting : Setting) (p : Pattern) → IsComparable setting p → (text : List ℕ) → IsText text →

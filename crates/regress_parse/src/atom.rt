@@ -15,7 +15,7 @@ ghost use Rattle.regress_parse.specs.Reader.{term_at};
 
 use crate::build::{
     make_anchor, make_boundary, make_class, make_class_escape, make_class_set, make_dot,
-    make_literal, make_property, make_references, make_strings, push_literal,
+    make_literal, make_property, make_references, make_strings, order_strings, push_literal,
 };
 use regress_base::types::MAX_NESTING_DEPTH;
 use regress_classes::class::parse_class;
