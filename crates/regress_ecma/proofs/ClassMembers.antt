@@ -146,7 +146,7 @@ module _ (table : Table) (maps : HasCaseDataOfUnicode table) (rer : Flags) (with
         intervals_of-agree (λ c. is_member (all_characters table rer) c && not (is_member members c)) (λ c. not (is_member members c))
         (λ c le. ap (λ (b : Bool). b && not (is_member members c)) (all_are c le))
 
-    folded_words : class_escape_set table rer Words ≡ word_characters table rer
+    pub folded_words : class_escape_set table rer Words ≡ word_characters table rer
     folded_words =
         ap (λ (b : Bool). if b then intervals_of (λ c. has_some (λ ch. table.fold ch == c) (word_characters table rer)) else word_characters table rer) no_fold
 
@@ -165,7 +165,7 @@ module _ (table : Table) (maps : HasCaseDataOfUnicode table) (rer : Flags) (with
         by_test false e false f = ap₂ (λ (a b : Bool). not a && b) e f
         by_test false e true f = absurd (false≢true (sym e ∙ maps.upper_words c (sym (ap is_basic upper) ∙ f)))
 
-    words_plain : (rer.unicode && rer.icase) ≡ false → word_characters table rer ≡ basic_word_characters
+    pub words_plain : (rer.unicode && rer.icase) ≡ false → word_characters table rer ≡ basic_word_characters
     words_plain none = by_test rer.icase refl rer.unicode refl none
       where
         by_test : (i : Bool) → rer.icase ≡ i → (u : Bool) → rer.unicode ≡ u → (u && i) ≡ false → word_characters table rer ≡ basic_word_characters

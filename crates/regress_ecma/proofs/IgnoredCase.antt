@@ -42,7 +42,7 @@ member_passes p c member =
     record { le = le; passes = sym (intervals_of-member p c le) ∙ member }
 
 -- No member has case variants.
-abbrev IsUncased : CharSet → Type 0
+abbrev pub IsUncased : CharSet → Type 0
 IsUncased set = (c : ℕ) → is_member set c ≡ true → is_member cased c ≡ false
 
 -- The case variants of each member are the same with and without the flag u.
@@ -56,11 +56,11 @@ like_of set none c member = by_test (is_member unlike c) refl
     by_test true e = absurd (false≢true (sym none ∙ has_some_from (is_member unlike) set c member e))
     by_test false e = e
 
-digits_uncased : IsUncased digits
+pub digits_uncased : IsUncased digits
 unfolding cased_beyond_ascii
 digits_uncased c member = apart cased digits refl c member
 
-spaces_uncased : IsUncased (white_space ++ line_terminators)
+pub spaces_uncased : IsUncased (white_space ++ line_terminators)
 unfolding cased_beyond_ascii
 spaces_uncased c member = apart cased (white_space ++ line_terminators) refl c member
 
@@ -134,7 +134,7 @@ module _ (table : Table) (maps : HasCaseDataOfUnicode table) (rer : Flags) (with
       ap (is_member set) same ∙ found.1)
       (λ h. found_from table maps rer with_u set ch ch h refl)
 
-  closure_uncased : (set : CharSet) → IsUncased set → (ch : ℕ) → ch ≤ code_point_max → is_in_closure table set ch ≡ is_member set ch
+  pub closure_uncased : (set : CharSet) → IsUncased set → (ch : ℕ) → ch ≤ code_point_max → is_in_closure table set ch ≡ is_member set ch
   closure_uncased set none ch le =
       closure-if table maps rer with_u set ch le
       ∙ same_truth _ (is_member set ch)

@@ -12,6 +12,8 @@ mod Strings
 mod Derived
 mod CaseData
 mod Follows
+mod ClassAtoms
 mod ClassMembers
 mod ClassSetMembers
 mod FromSource
+mod EcmaClasses
