@@ -17,3 +17,4 @@ mod ClassMembers
 mod ClassSetMembers
 mod FromSource
 mod EcmaClasses
+mod EcmaSets
