@@ -18,3 +18,5 @@ mod ClassSetMembers
 mod FromSource
 mod EcmaClasses
 mod EcmaSets
+mod Heads
+mod EcmaHeads
