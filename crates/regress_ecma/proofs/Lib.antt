@@ -19,4 +19,5 @@ mod FromSource
 mod EcmaClasses
 mod EcmaSets
 mod Heads
+mod EcmaAtoms
 mod EcmaHeads
