@@ -14,8 +14,9 @@ use Rattle.regress_classes.specs.ClassProductions as ClassProductions
 use Rattle.regress_classes.specs.Properties.{Property, of_points, of_strings, property_at}
 use Rattle.regress_ecma.specs.Notation.{CharSet}
 use Rattle.regress_ecma.specs.Characters.{character_class_escape}
+use Rattle.regress_ecma.specs.Atoms.{one_character}
 use Rattle.regress_ecma.specs.ClassNodes.{ClassAtom, character, class_escape, property}
-use Rattle.regress_ecma.specs.CharSets.{character_of, atom_to_char_set}
+use Rattle.regress_ecma.specs.CharSets.{Elements, only, union, character_of, range_or_union, atom_to_char_set}
 use Rattle.regress_ecma.specs.ClassGrammar.{property_node, control_at, escape_productions, class_escape_at, class_atom_at}
 use Rattle.regress_ecma.proofs.Follows.{Follows, follows_none, follows_some, follows_if, follows_then, follows_map, follows_same}
 
@@ -90,3 +91,17 @@ module _ (table : Table) (rer : Flags) (parameters : Parameters) (R : CharSet �
       (λ _.
       follows_if Is (c == char "\\") _ _ _ _ (λ _. class_escape_follows t)
       (λ _. follows_some Is (character c) (point c) t refl))
+
+-- ---- atoms with a hyphen between them
+
+abbrev pub with_hyphen : Elements → Elements → Elements
+with_hyphen a b = union a (union (only (one_character (char "-"))) b)
+
+pub first_none : (a b : Elements) (first last : Option ℕ) → first ≡ None → range_or_union a b first last ≡ with_hyphen a b
+first_none a b None last e = refl
+first_none a b (Some c) last e = absurd (cc)
+
+pub last_none : (a b : Elements) (first last : Option ℕ) → last ≡ None → range_or_union a b first last ≡ with_hyphen a b
+last_none a b None None e = refl
+last_none a b (Some c) None e = refl
+last_none a b first (Some c) e = absurd (cc)

@@ -34,9 +34,10 @@ use Rattle.regress_ecma.proofs.Bridge.{Agrees}
 use Rattle.regress_ecma.proofs.BackReferences.{Agrees-back_reference}
 use Rattle.regress_ecma.proofs.CharacterSets.{IsSetOf, Agrees-character}
 use Rattle.regress_ecma.proofs.Derived.{Holds, holds_none, holds_some, holds_if, holds_then, holds_map, holds_found}
-use Rattle.regress_ecma.proofs.EcmaClasses.{IsSame, class_follows}
+use Rattle.regress_ecma.proofs.EcmaClasses.{class_follows}
 use Rattle.regress_ecma.proofs.EcmaSets.{KeepsWords, class_finds, escape_finds, property_finds, first_finds, last_finds}
 use Rattle.regress_ecma.proofs.Heads.{OfAtom, head_holds}
+use Rattle.regress_ecma.proofs.SameSets.{IsSame}
 use Rattle.regress_ecma.proofs.Sets.{same-literal, literal_set, dot_is_set, word_member}
 use Rattle.regress_ecma.proofs.Theorem.{Agrees-anchor, Agrees-boundary}
 

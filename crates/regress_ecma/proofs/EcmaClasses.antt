@@ -24,59 +24,12 @@ use Rattle.regress_ecma.specs.CharSets.{Elements, only, union, character_of, ran
 use Rattle.regress_ecma.specs.ClassGrammar.{is_pair, lead, trail, class_atom_at, is_split, first_of, last_of, with_before, with_after, with_atom, with_range, with_ranges, range_at, class_part_at, class_ranges_by, character_class_at}
 use Rattle.regress_ecma.specs.Differences.{HasCaseDataOfUnicode}
 use Rattle.regress_ecma.proofs.Follows.{Follows, follows_none, follows_some, follows_if, follows_then, follows_map}
-use Rattle.regress_ecma.proofs.ClassAtoms.{IsAtomOf, HasRelatedSets, atom_follows}
+use Rattle.regress_ecma.proofs.ClassAtoms.{IsAtomOf, HasRelatedSets, atom_follows, with_hyphen, first_none, last_none}
 use Rattle.regress_ecma.proofs.ClassMembers.{no_folding, complement-same, folded_words, words_plain, property_is}
 use Rattle.regress_ecma.proofs.IgnoredCase.{digits_uncased, spaces_uncased, closure_uncased}
-use Rattle.regress_ecma.proofs.Members.{or-right}
+use Rattle.regress_ecma.proofs.EcmaEscapes.{in_ecma, and_false, related}
+use Rattle.regress_ecma.proofs.SameSets.{IsSame, same_lists, same_then, same_append, in_left, in_right, only_one, one_is, ends_within, absorbed}
 use Rattle.regress_ecma.proofs.Sets.{word_member}
-
--- ---- sets with the same members
-
--- Both have the same members.
-pub record IsSame (set' members : CharSet) : Type 0 where
-  pub same : (c : ℕ) → is_member set' c ≡ is_member members c
-
-pub same_lists : (set' members : CharSet) → set' ≡ members → IsSame set' members
-same_lists set' members e = record { same = λ c. ap (λ (s : CharSet). is_member s c) e }
-
-same_then : (a b c : CharSet) → IsSame a b → IsSame b c → IsSame a c
-same_then a b c first second = record { same = λ x. first.same x ∙ second.same x }
-
-same_append : (a b m n : CharSet) → IsSame a m → IsSame b n → IsSame (a ++ b) (m ++ n)
-same_append a b m n first second = record {
-  same = λ c. is_member-append a b c ∙ ap₂ (λ (x y : Bool). x || y) (first.same c) (second.same c) ∙ sym (is_member-append m n c);
-}
-
--- a set of code points, and the intervals of a test that passes for its members
-same_intervals : (set' : CharSet) (test : ℕ → Bool) → ((c : ℕ) → code_point_max < c → is_member set' c ≡ false) →
-    ((c : ℕ) → c ≤ code_point_max → is_member set' c ≡ test c) → IsSame set' (intervals_of test)
-same_intervals set' test none within = record {
-  same = λ c.
-      ⊎_elim
-      (λ (past : code_point_max < c). none c past ∙ sym (no_member_past_end (intervals_of test) c (intervals_of-canonical test) past))
-      (λ (le : c ≤ code_point_max). within c le ∙ sym (intervals_of-member test c le))
-      (cases_lt code_point_max c);
-}
-
-in_left : (a b : CharSet) (c : ℕ) → is_member a c ≡ true → is_member (a ++ b) c ≡ true
-in_left a b c member = is_member-append a b c ∙ ap (λ (x : Bool). x || is_member b c) member
-
-in_right : (a b : CharSet) (c : ℕ) → is_member b c ≡ true → is_member (a ++ b) c ≡ true
-in_right a b c member = is_member-append a b c ∙ ap (λ (x : Bool). is_member a c || x) member ∙ or-right (is_member a c)
-
-only_one : (b c : ℕ) → is_member (one_point b) c ≡ true → c ≡ b
-unfolding is_member is_within
-only_one b c h = grind (arith, nat_tests, h)
-
-one_is : (b c : ℕ) → c ≡ b → is_member (one_point b) c ≡ true
-unfolding is_member is_within
-one_is b c e = grind (arith, nat_tests, e)
-
--- both ends of an interval are members
-ends_within : (a b c : ℕ) → nat_le a b ≡ true → (c ≡ a) ⊎ (c ≡ b) → is_member (record { first = a; last = b } ∷ []) c ≡ true
-unfolding is_member is_within
-ends_within a b c ordered (inl e) = grind (arith, nat_tests, ordered, e)
-ends_within a b c ordered (inr e) = grind (arith, nat_tests, ordered, e)
 
 found_if : (b : Bool) (x y : List Bounds) → (if b then Some x else None) ≡ Some y → (b ≡ true) × (x ≡ y)
 found_if true x y e = (refl, same_Some x y e)
@@ -89,121 +42,13 @@ found_unless false x y e = same_Some x y e
 four_parts : (x y z w : List Bounds) → (x ++ (y ++ z)) ++ w ≡ x ++ (y ++ (z ++ w))
 four_parts x y z w = append_assoc x (y ++ z) w ∙ ap (λ (l : List Bounds). x ++ l) (append_assoc y z w)
 
-or_absorbed : (x r p q s z w : Bool) → (p ≡ true → s ≡ true) → (q ≡ true → r ≡ true) →
-    (x || (r || (s || (z || w)))) ≡ (((x || (r || p)) || (q || (s || z))) || w)
-or_absorbed true r p q s z w h k = refl
-or_absorbed false true p q s z w h k = refl
-or_absorbed false false true q true z w h k = refl
-or_absorbed false false true q false z w h k = absurd (false≢true (h refl))
-or_absorbed false false false true s z w h k = absurd (false≢true (k refl))
-or_absorbed false false false false true z w h k = refl
-or_absorbed false false false false false z w h k = refl
-
--- Parts whose members others have do not count.
-absorbed : (x r p q s z w : List Bounds) → ((c : ℕ) → is_member p c ≡ true → is_member s c ≡ true) →
-    ((c : ℕ) → is_member q c ≡ true → is_member r c ≡ true) →
-    IsSame (x ++ (r ++ (s ++ (z ++ w)))) (((x ++ (r ++ p)) ++ (q ++ (s ++ z))) ++ w)
-absorbed x r p q s z w h k = record {
-  same = λ c.
-      simp is_member-append
-      (or_absorbed (is_member x c) (is_member r c) (is_member p c) (is_member q c) (is_member s c) (is_member z c) (is_member w c) (h c) (k c));
-}
-
--- ---- atoms with a hyphen between them
-
-abbrev with_hyphen : Elements → Elements → Elements
-with_hyphen a b = union a (union (only (one_character (char "-"))) b)
-
-first_none : (a b : Elements) (first last : Option ℕ) → first ≡ None → range_or_union a b first last ≡ with_hyphen a b
-first_none a b None last e = refl
-first_none a b (Some c) last e = absurd (cc)
-
-last_none : (a b : Elements) (first last : Option ℕ) → last ≡ None → range_or_union a b first last ≡ with_hyphen a b
-last_none a b None None e = refl
-last_none a b (Some c) None e = refl
-last_none a b first (Some c) e = absurd (cc)
-
--- ---- parameters
-
--- the parameters of a class in the dialect
-abbrev pub in_ecma : Flags → (named : Bool) → Parameters
-in_ecma rer named = record { dialect = Ecma; icase = rer.icase; unicode = rer.unicode; named = named }
-
-and_false : (b : Bool) → (b && false) ≡ false
-and_false true = refl
-and_false false = refl
-
 module _ (table : Table) (maps : HasCaseDataOfUnicode table) (rer : Flags) (with_u : rer.unicode_sets ≡ true → rer.unicode ≡ true)
     (no_fold : (rer.unicode_sets && rer.icase) ≡ false) (named : Bool) where
   abbrev parameters : Parameters
   parameters = in_ecma rer named
 
-  -- ---- class escapes
-
-  -- Without the flags u and i no set is closed.
-  plain_escape : (rer.unicode && rer.icase) ≡ false → (kind : CharacterClassType) → IsSame (class_escape_set table rer kind) (members_of kind)
-  plain_escape none Digits = same_lists _ _ refl
-  plain_escape none Spaces = same_lists _ _ refl
-  plain_escape none Words =
-      same_lists _ _ (folded_words table maps rer with_u no_fold ∙ words_plain table maps rer with_u no_fold none)
-
-  module _ (icase : rer.icase ≡ true) (u : rer.unicode ≡ true) where
-    extra : CharSet
-    extra = intervals_of (is_extra_word_character table rer)
-
-    words_past : (c : ℕ) → code_point_max < c → is_member (word_characters table rer) c ≡ false
-    words_past c past =
-        ap (λ (b : Bool). is_member (if b then basic_word_characters ++ intervals_of (is_extra_word_character table rer) else basic_word_characters) c) icase
-        ∙ is_member-append basic_word_characters (intervals_of (is_extra_word_character table rer)) c
-        ∙ ap₂ (λ (a b : Bool). a || b) (no_member_past_end basic_word_characters c refl past)
-        (no_member_past_end (intervals_of (is_extra_word_character table rer)) c (intervals_of-canonical (is_extra_word_character table rer)) past)
-
-    words_within : (c : ℕ) → c ≤ code_point_max → is_member (word_characters table rer) c ≡ is_in_closure table basic_word_characters c
-    words_within c le =
-        word_member table maps rer with_u c le
-        ∙ ap₂ (λ (a b : Bool). if a && b then is_in_closure table basic_word_characters c else is_member basic_word_characters c) u icase
-
-    spaces_past : (c : ℕ) → code_point_max < c → is_member (white_space ++ line_terminators) c ≡ false
-    spaces_past c past =
-        is_member-append white_space line_terminators c
-        ∙ ap₂ (λ (a b : Bool). a || b) (no_member_past_end white_space c refl past) (no_member_past_end line_terminators c refl past)
-
-    closed_escape : (kind : CharacterClassType) → IsSame (class_escape_set table rer kind) (intervals_of (is_in_closure table (members_of kind)))
-    closed_escape Digits =
-        same_intervals digits (is_in_closure table digits) (λ c past. no_member_past_end digits c refl past)
-        (λ c le. sym (closure_uncased table maps rer with_u icase digits digits_uncased c le))
-    closed_escape Spaces =
-        same_intervals (white_space ++ line_terminators) (is_in_closure table (white_space ++ line_terminators)) spaces_past
-        (λ c le. sym (closure_uncased table maps rer with_u icase (white_space ++ line_terminators) spaces_uncased c le))
-    closed_escape Words =
-        same_then _ _ _ (same_lists _ _ (folded_words table maps rer with_u no_fold))
-        (same_intervals (word_characters table rer) (is_in_closure table basic_word_characters) words_past words_within)
-
-  abbrev closed_if : Bool → CharSet → CharSet
-  closed_if b members = if b then intervals_of (is_in_closure table members) else members
-
-  letter_same : (kind : CharacterClassType) → IsSame (class_escape_set table rer kind) (closed_members table parameters (members_of kind))
-  letter_same kind = by_tests rer.icase refl rer.unicode refl
-    where
-      by_tests : (i : Bool) → rer.icase ≡ i → (u : Bool) → rer.unicode ≡ u → IsSame (class_escape_set table rer kind) (closed_if (i && u) (members_of kind))
-      by_tests true e true f = closed_escape e f kind
-      by_tests true e false f = plain_escape (ap (λ (b : Bool). b && rer.icase) f) kind
-      by_tests false e u f = plain_escape (ap (λ (b : Bool). rer.unicode && b) e ∙ and_false rer.unicode) kind
-
-  escape_same : (kind : CharacterClassType) (capital : Bool) →
-      IsSame (character_class_escape table rer kind capital) (class_members table parameters (kind, capital))
-  escape_same kind false = letter_same kind
-  escape_same kind true =
-      same_lists _ _
-      (complement-same table maps rer with_u no_fold (class_escape_set table rer kind)
-      ∙ intervals_of-agree (λ c. not (is_member (class_escape_set table rer kind) c)) (λ c. not (is_member (closed_members table parameters (members_of kind)) c))
-      (λ c le. ap not ((letter_same kind).same c)))
-
-  related : HasRelatedSets table rer parameters IsSame
-  related = record {
-    escape = escape_same;
-    property = λ capital members. same_lists _ _ (property_is table maps rer with_u no_fold capital members);
-  }
+  own_sets : HasRelatedSets table rer parameters IsSame
+  own_sets = related table maps rer with_u no_fold named
 
   -- ---- atoms
 
@@ -516,12 +361,12 @@ module _ (table : Table) (maps : HasCaseDataOfUnicode table) (rer : Flags) (with
           >>= λ (members, after). (range_end_at table parameters (point b) after >>= λ (others, rest). Some (members ++ others, rest)))
           (found_map (λ next contents. with_ranges table parameters first last next contents) (class_atom_at table parameters (drop 1 t)))
       by None e = follows_none IsPart _
-      by (Some members) e = next_follows first last a b members is_first is_last e _ _ (atom_follows table rer parameters IsSame related (drop 1 t))
+      by (Some members) e = next_follows first last a b members is_first is_last e _ _ (atom_follows table rer parameters IsSame own_sets (drop 1 t))
 
   range_at_follows : (first : ClassAtom) (a : ClassProductions.ClassAtom) (t : Source) → Is first a →
       Follows IsPart (ClassProductions.range_at table parameters a t) (range_at table parameters first t)
   range_at_follows first a t is_first =
-      follows_then Is IsPart _ _ _ _ (atom_follows table rer parameters IsSame related t)
+      follows_then Is IsPart _ _ _ _ (atom_follows table rer parameters IsSame own_sets t)
       (λ b last rest is_last.
       subst
       (λ (p : Bool). Follows IsPart
@@ -541,7 +386,7 @@ module _ (table : Table) (maps : HasCaseDataOfUnicode table) (rer : Flags) (with
 
   part_follows : (t : Source) → Follows IsPart (ClassProductions.class_part_at table parameters t) (class_part_at table parameters t)
   part_follows t =
-      follows_then Is IsPart _ _ _ _ (atom_follows table rer parameters IsSame related t)
+      follows_then Is IsPart _ _ _ _ (atom_follows table rer parameters IsSame own_sets t)
       (λ a first rest is_first.
       follows_if IsPart (begins_range rest) _ _ _ _ (λ _. range_at_follows first a (drop 1 rest) is_first)
       (λ _. follows_some IsPart (with_atom table parameters first) (atom_members (splits parameters) a) rest (atom_part first a is_first)))

@@ -23,9 +23,9 @@ use Rattle.regress_ecma.specs.ClassNodes.{property}
 use Rattle.regress_ecma.specs.Differences.{HasCaseDataOfUnicode, is_words}
 use Rattle.regress_ecma.proofs.CharacterSets.{IsSetOf}
 use Rattle.regress_ecma.proofs.ClassMembers.{covers-found, complement-same, folded_words, words_plain, property_is}
-use Rattle.regress_ecma.proofs.EcmaClasses.{IsSame}
 use Rattle.regress_ecma.proofs.IgnoredCase.{digits_uncased, spaces_uncased, class_with_u, uppers, found_complement, uncased_same, escape_in_case}
 use Rattle.regress_ecma.proofs.Members.{has_some_from, has_some_gives}
+use Rattle.regress_ecma.proofs.SameSets.{IsSame}
 use Rattle.regress_ecma.proofs.Sets.{same_truth, found_if, found_gives, found_from, complement_is_set, class_is_set, escape_is_set}
 
 -- The upper case of a word character is a word character.

@@ -12,10 +12,12 @@ mod Strings
 mod Derived
 mod CaseData
 mod Follows
+mod SameSets
 mod ClassAtoms
 mod ClassMembers
 mod ClassSetMembers
 mod FromSource
+mod EcmaEscapes
 mod EcmaClasses
 mod EcmaSets
 mod Heads
