@@ -9,25 +9,21 @@ use Rattle.regress_base.specs.declared.charclasses.CharacterClassType.{Character
 use Rattle.regress_base.specs.declared.charclasses.CharacterClassType.TheVariants.{Digits, Spaces, Words}
 use Rattle.regress_base.specs.declared.types.Flags.{Flags}
 use Rattle.regress_base.proofs.lemmas.Sets.{is_member-nil, is_member-append, canonical_is, intervals_of-agree, intervals_of-member}
-use Rattle.regress_lexer.specs.Digits.{is_decimal, is_letter}
-use Rattle.regress_lexer.specs.Dialects.{reserves_k}
-use Rattle.regress_lexer.specs.Escapes.{character_escape_at}
-use Rattle.regress_lexer.specs.Source.{Source, Found, first_production, char, is_one_of, is_at}
+use Rattle.regress_lexer.specs.Source.{Source, Found, char, is_at}
 use Rattle.regress_lexer.specs.declared.dialect.Dialect.TheVariants.{Regress}
 use Rattle.regress_classes.specs.declared.parameters.Parameters.{Parameters}
 use Rattle.regress_classes.specs.ClassProductions.{members_of, class_letter, complement_if, class_members, point, set, one_point, atom_members, class_control_at, class_property, class_property_at, class_escape_productions, begins_range, members_with_hyphen, points_between, range_of, class_parts_by, class_at}
 use Rattle.regress_classes.specs.ClassProductions as ClassProductions
-use Rattle.regress_classes.specs.Properties.{Property, of_points, of_strings, property_at}
 use Rattle.regress_ecma.specs.Notation.{CharSet}
 use Rattle.regress_ecma.specs.Characters.{canonicalize, has_some, all_characters, character_complement, word_characters, is_extra_word_character, class_escape_set, character_class_escape, maybe_simple_case_folding as fold_characters}
 use Rattle.regress_ecma.specs.Atoms.{one_character}
-use Rattle.regress_ecma.specs.ClassNodes.{ClassAtom, character, class_escape, property, ClassContents, empty, atom_then, range_then, CharacterClass}
-use Rattle.regress_ecma.specs.CharSets.{Elements, only, union, character_of, range_or_union, maybe_simple_case_folding, atom_to_char_set, compile_to_char_set}
-use Rattle.regress_ecma.specs.ClassGrammar.{property_node, control_at, escape_productions, class_escape_at, class_atom_at, class_part_at, class_ranges_by, character_class_at}
+use Rattle.regress_ecma.specs.ClassNodes.{ClassAtom, character, property, ClassContents, empty, atom_then, range_then, CharacterClass}
+use Rattle.regress_ecma.specs.CharSets.{Elements, only, character_of, range_or_union, maybe_simple_case_folding, atom_to_char_set, compile_to_char_set}
+use Rattle.regress_ecma.specs.ClassGrammar.{class_atom_at, class_part_at, class_ranges_by, character_class_at}
 use Rattle.regress_ecma.specs.CharacterMatchers.{is_found}
 use Rattle.regress_ecma.specs.Differences.{HasCaseDataOfUnicode, has_ends}
 use Rattle.regress_ecma.proofs.ClassAtoms.{IsAtomOf as AtomOf, HasRelatedSets, atom_follows as each_atom_follows, with_hyphen, first_none, last_none}
-use Rattle.regress_ecma.proofs.Follows.{Follows, follows_none, follows_some, follows_if, follows_then, follows_map, follows_same}
+use Rattle.regress_ecma.proofs.Follows.{Follows, follows_none, follows_some, follows_if, follows_then, follows_map}
 use Rattle.regress_ecma.proofs.IgnoredCase.{member_passes}
 use Rattle.regress_ecma.proofs.SameSets.{in_left, in_right}
 use Rattle.regress_ecma.proofs.Sets.{same_truth, canonicalize-same, canonicalize-none, found_if, found_plain, found_gives, found_from, member_all}

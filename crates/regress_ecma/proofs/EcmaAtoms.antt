@@ -1,27 +1,21 @@
 -- Atoms as they are written in the dialect `Ecma`: the matcher of ECMA-262, with the CharSets of what is written, matches
 -- what the atom of the syntax tree does.
-use Rattle.std.proofs.Common.{◌≡◌, ℕ, ◌-◌, nat_le, ◌==◌, Bool, true, false, not, ◌&&◌, ◌||◌, List, [], ◌∷◌, Option, Some, None, if◌then◌else◌, refl, sym, ap, subst, ◌∙◌}
-use Rattle.std.proofs.lemmas.Bool.{eqb-true, false≢true, and_parts}
+use Rattle.std.proofs.Common.{◌≡◌, ℕ, ◌==◌, Bool, true, false, not, ◌&&◌, List, [], ◌∷◌, Option, Some, None, if◌then◌else◌, refl, sym, ap, subst, ◌∙◌}
+use Rattle.std.proofs.lemmas.Bool.{false≢true}
 use Rattle.regress_base.specs.Table.{Table, denotes}
 use Rattle.regress_base.specs.declared.charclasses.CharacterClassType.{CharacterClassType}
 use Rattle.regress_base.specs.declared.types.AnchorType.{AnchorType}
-use Rattle.regress_base.specs.declared.types.AnchorType.TheVariants.{StartOfLine, EndOfLine}
 use Rattle.regress_base.specs.declared.types.Flags.{Flags}
 use Rattle.regress_base.proofs.lemmas.Literals.{scalar_in_range}
 use Rattle.regress_tree.specs.Reading.{Direction, IsText}
 use Rattle.regress_tree.specs.Steps.{Setting}
 use Rattle.regress_lexer.specs.declared.dialect.Dialect.TheVariants.{Ecma}
-use Rattle.regress_lexer.specs.Digits.{is_decimal, number, front}
-use Rattle.regress_lexer.specs.Escapes.{character_escape_at}
-use Rattle.regress_lexer.specs.Source.{Source, Found, ◌>>=◌, found_map, first_production, char, is_one_of}
-use Rattle.regress_lexer.proofs.lemmas.Sources.{EachProduction, no_more, ◌also◌, first_production-has}
-use Rattle.regress_classes.specs.ClassProductions.{class_letter, complement, class_at}
-use Rattle.regress_classes.specs.ClassSets.{Value, class_set_at}
-use Rattle.regress_classes.specs.Properties.{Property, of_points, of_strings, property_at}
+use Rattle.regress_lexer.specs.Source.{Source, Found, char}
+use Rattle.regress_classes.specs.ClassProductions.{complement, class_at}
+use Rattle.regress_classes.specs.Properties.{Property, of_points, property_at}
 use Rattle.regress_syntax.specs.Meaning.{is_literal, is_any, is_in_class, is_in_word, atom_steps}
-use Rattle.regress_syntax.specs.Names.{group_name_at}
-use Rattle.regress_syntax.specs.Productions.{class_parameters, class_flags, compared_members, complements_first, Context, single, head_at, character_at, point_property, property_atom, number_reference_at, name_reference_at, has_name, has_names, escape_productions, escaped_by, escaped_at, brackets_at, atom_productions, atom_by}
-use Rattle.regress_syntax.specs.Syntax.{Name, Atom, literal, dot, anchor, boundary, class_escape, class, class_set, string_property, back_reference, by_number, by_name_if_set}
+use Rattle.regress_syntax.specs.Productions.{class_parameters, class_flags, compared_members, complements_first, Context, point_property, has_names}
+use Rattle.regress_syntax.specs.Syntax.{Name, Atom, literal, dot, anchor, boundary, class_escape, class, back_reference, by_number}
 use Rattle.regress_ecma.specs.Notation.{CharSet}
 use Rattle.regress_ecma.specs.Atoms.{compile_atom}
 use Rattle.regress_ecma.specs.CharacterMatchers.{is_same}
@@ -33,10 +27,8 @@ use Rattle.regress_ecma.specs.Differences.{HasCaseDataOfUnicode}
 use Rattle.regress_ecma.proofs.Bridge.{Agrees}
 use Rattle.regress_ecma.proofs.BackReferences.{Agrees-back_reference}
 use Rattle.regress_ecma.proofs.CharacterSets.{IsSetOf, Agrees-character}
-use Rattle.regress_ecma.proofs.Derived.{Holds, holds_none, holds_some, holds_if, holds_then, holds_map, holds_found}
 use Rattle.regress_ecma.proofs.EcmaClasses.{class_follows}
 use Rattle.regress_ecma.proofs.EcmaSets.{KeepsWords, class_finds, escape_finds, property_finds, first_finds, last_finds}
-use Rattle.regress_ecma.proofs.Heads.{OfAtom, head_holds}
 use Rattle.regress_ecma.proofs.SameSets.{IsSame}
 use Rattle.regress_ecma.proofs.Sets.{same-literal, literal_set, dot_is_set, word_member}
 use Rattle.regress_ecma.proofs.Theorem.{Agrees-anchor, Agrees-boundary}
@@ -46,7 +38,8 @@ abbrev pub AtomMatches : Setting → (all : List (Option Name)) → (text : List
 AtomMatches setting all text ctx a t =
     (d : Direction) → Agrees text d (atom_steps setting all text d a) (compile_atom setting.table all ctx.setting.flags d (atom_of ctx a t))
 
-module _ (setting : Setting) (maps : HasCaseDataOfUnicode setting.table) (keeps : KeepsWords setting.table) (all : List (Option Name)) (text : List ℕ) (is_text : IsText text)
+module _ (setting : Setting) (maps : HasCaseDataOfUnicode setting.table) (keeps : KeepsWords setting.table)
+    (all : List (Option Name)) (text : List ℕ) (is_text : IsText text)
     (given : Context) (same : given.setting.table ≡ setting.table) (unicode : given.setting.flags.unicode ≡ setting.flags.unicode)
     (with_u : given.setting.flags.unicode_sets ≡ true → given.setting.flags.unicode ≡ true) where
   abbrev context : Context
@@ -89,7 +82,9 @@ module _ (setting : Setting) (maps : HasCaseDataOfUnicode setting.table) (keeps 
   pub boundary_matches : (inverted : Bool) (t : Source) → Matches (boundary rer inverted) t
   boundary_matches inverted t =
       on_table (boundary rer inverted) t
-      (λ d. Agrees-boundary text is_text d table rer (is_in_word table rer) (λ ch scalar'. word_member table here rer with_u ch (scalar_in_range ch scalar')) inverted)
+      (λ d.
+      Agrees-boundary text is_text d table rer (is_in_word table rer) (λ ch scalar'. word_member table here rer with_u ch (scalar_in_range ch scalar'))
+      inverted)
 
   compared : (a b : ℕ) → is_same table rer a b ≡ denotes table rer.icase setting.flags.unicode a b
   compared a b = same-literal table here rer with_u a b ∙ ap (λ (u : Bool). denotes table rer.icase u a b) unicode
@@ -130,7 +125,8 @@ module _ (setting : Setting) (maps : HasCaseDataOfUnicode setting.table) (keeps 
           ap (λ (b : Bool). by_class (character_class_at table (class_parameters context) b t)) no_sets ∙ ap by_class found
           ∙ ap (λ (b : Bool).
           if b
-          then class_of table rer (if node.invert then complement_of table rer (compile_to_char_set table rer node.contents) else compile_to_char_set table rer node.contents)
+          then class_of table rer
+          (if node.invert then complement_of table rer (compile_to_char_set table rer node.contents) else compile_to_char_set table rer node.contents)
           else class rer node.invert set') no_sets
           ∙ ap (λ (b : Bool). class rer b set') invert
 
@@ -160,7 +156,8 @@ module _ (setting : Setting) (maps : HasCaseDataOfUnicode setting.table) (keeps 
       on_table (class rer inverted members) s
       (λ d.
       subst
-      (λ (b : Atom). Agrees text d (atom_steps (record { flags = setting.flags; table = table }) all text d (class rer inverted members)) (compile_atom table all rer d b))
+      (λ (b : Atom). Agrees text d (atom_steps (record { flags = setting.flags; table = table }) all text d (class rer inverted members))
+      (compile_atom table all rer d b))
       (sym is) (Agrees-character table rer set' false _ text is_text set d))
 
   no_icase : (rer.unicode_sets && rer.icase) ≡ false → complements_first context ≡ false → rer.icase ≡ false

@@ -1,35 +1,27 @@
 -- Classes without the flag v in the dialect `Ecma`: the CharSet of ECMA-262 has the members of the syntax tree.
-use Rattle.std.proofs.Common.{◌≡◌, ℕ, zero, suc, ◌+◌, ◌<◌, ◌≤◌, ◌==◌, Bool, true, false, not, ◌&&◌, ◌||◌, nat_le, List, [], ◌∷◌, ◌++◌, length, drop, Option, Some, None, if◌then◌else◌, refl, sym, ap, ap₂, subst, ◌∙◌, arith, append_assoc, append-nil, ◌⊎◌, inl, inr, ⊎_elim}
-use Rattle.std.proofs.lemmas.Bool.{cases_lt, false≢true, and_parts, eqb-true}
-use Rattle.std.proofs.lemmas.Bool.Decides.{nat_tests}
+use Rattle.std.proofs.Common.{◌≡◌, ℕ, zero, suc, ◌+◌, Bool, true, false, ◌&&◌, nat_le, List, [], ◌∷◌, ◌++◌, length, drop, Option, Some, None, if◌then◌else◌, refl, sym, ap, ap₂, subst, ◌∙◌, append_assoc, append-nil, inl, inr}
+use Rattle.std.proofs.lemmas.Bool.{false≢true, and_parts}
 use Rattle.std.proofs.lemmas.Option.{none-some, same_Some}
-use Rattle.regress_base.specs.Classes.{digits, white_space, line_terminators, word_characters as basic_word_characters}
-use Rattle.regress_base.specs.Intervals.{Bounds, code_point_max, is_member, is_within, intervals_of, IsCanonical}
-use Rattle.regress_base.specs.Table.{Table, is_in_closure}
-use Rattle.regress_base.specs.declared.charclasses.CharacterClassType.{CharacterClassType}
-use Rattle.regress_base.specs.declared.charclasses.CharacterClassType.TheVariants.{Digits, Spaces, Words}
+use Rattle.regress_base.specs.Intervals.{Bounds, is_member}
+use Rattle.regress_base.specs.Table.{Table}
 use Rattle.regress_base.specs.declared.types.Flags.{Flags}
-use Rattle.regress_base.proofs.lemmas.Sets.{is_member-nil, is_member-append, intervals_of-agree, intervals_of-canonical, intervals_of-member, no_member_past_end}
+use Rattle.regress_base.proofs.lemmas.Sets.{is_member-nil}
 use Rattle.regress_lexer.specs.Escapes.{lead_surrogate, trail_surrogate}
 use Rattle.regress_lexer.specs.Source.{Source, Found, ◌>>=◌, found_map, char, is_at}
-use Rattle.regress_lexer.specs.declared.dialect.Dialect.TheVariants.{Ecma}
 use Rattle.regress_classes.specs.declared.parameters.Parameters.{Parameters}
 use Rattle.regress_classes.specs.ClassProductions.{members_of, closed_members, class_members, point, set, one_point, splits, first_unit, last_unit, units_before, units_after, atom_members, members_with_hyphen, range_of, begins_range, begins_next, range_to, range_end_at, ranges_to, class_parts_by, class_at}
 use Rattle.regress_classes.specs.ClassProductions as ClassProductions
 use Rattle.regress_ecma.specs.Notation.{CharSet}
-use Rattle.regress_ecma.specs.Characters.{is_extra_word_character, word_characters, class_escape_set, character_class_escape}
 use Rattle.regress_ecma.specs.Atoms.{one_character}
 use Rattle.regress_ecma.specs.ClassNodes.{ClassAtom, character, class_escape, property, string_property, class_strings, nested_class, ClassContents, empty, atom_then, range_then, CharacterClass}
-use Rattle.regress_ecma.specs.CharSets.{Elements, only, union, character_of, range_or_union, maybe_simple_case_folding, atom_to_char_set, compile_to_char_set}
+use Rattle.regress_ecma.specs.CharSets.{Elements, only, character_of, range_or_union, atom_to_char_set, compile_to_char_set}
 use Rattle.regress_ecma.specs.ClassGrammar.{is_pair, lead, trail, class_atom_at, is_split, first_of, last_of, with_before, with_after, with_atom, with_range, with_ranges, range_at, class_part_at, class_ranges_by, character_class_at}
 use Rattle.regress_ecma.specs.Differences.{HasCaseDataOfUnicode}
 use Rattle.regress_ecma.proofs.Follows.{Follows, follows_none, follows_some, follows_if, follows_then, follows_map}
 use Rattle.regress_ecma.proofs.ClassAtoms.{IsAtomOf, HasRelatedSets, atom_follows, with_hyphen, first_none, last_none}
-use Rattle.regress_ecma.proofs.ClassMembers.{no_folding, complement-same, folded_words, words_plain, property_is}
-use Rattle.regress_ecma.proofs.IgnoredCase.{digits_uncased, spaces_uncased, closure_uncased}
+use Rattle.regress_ecma.proofs.ClassMembers.{no_folding}
 use Rattle.regress_ecma.proofs.EcmaEscapes.{in_ecma, and_false, related}
 use Rattle.regress_ecma.proofs.SameSets.{IsSame, same_lists, same_then, same_append, in_left, in_right, only_one, one_is, ends_within, absorbed}
-use Rattle.regress_ecma.proofs.Sets.{word_member}
 
 found_if : (b : Bool) (x y : List Bounds) → (if b then Some x else None) ≡ Some y → (b ≡ true) × (x ≡ y)
 found_if true x y e = (refl, same_Some x y e)
@@ -135,7 +127,8 @@ module _ (table : Table) (maps : HasCaseDataOfUnicode table) (rer : Flags) (with
   before_is : (node : ClassAtom) (a : ClassProductions.ClassAtom) → Is node a → (contents : ClassContents) (others : List Bounds) →
       IsContents contents others → IsContents (with_before table parameters node contents) (before a ++ others)
   before_is node (point c) is contents others h =
-      subst (λ (n : ClassAtom). IsContents (with_before table parameters n contents) (units_before (splits parameters) c ++ others)) (sym is) (by_test (is_two c))
+      subst (λ (n : ClassAtom). IsContents (with_before table parameters n contents) (units_before (splits parameters) c ++ others)) (sym is)
+      (by_test (is_two c))
     where
       by_test : (b : Bool) →
           IsContents (if b then atom_then (lead (character c)) contents else contents) ((if b then one_point (lead_surrogate c) else []) ++ others)
@@ -148,7 +141,8 @@ module _ (table : Table) (maps : HasCaseDataOfUnicode table) (rer : Flags) (with
   after_is : (node : ClassAtom) (a : ClassProductions.ClassAtom) → Is node a → (contents : ClassContents) (others : List Bounds) →
       IsContents contents others → IsContents (with_after table parameters node contents) (after a ++ others)
   after_is node (point c) is contents others h =
-      subst (λ (n : ClassAtom). IsContents (with_after table parameters n contents) (units_after (splits parameters) c ++ others)) (sym is) (by_test (is_two c))
+      subst (λ (n : ClassAtom). IsContents (with_after table parameters n contents) (units_after (splits parameters) c ++ others)) (sym is)
+      (by_test (is_two c))
     where
       by_test : (b : Bool) →
           IsContents (if b then atom_then (trail (character c)) contents else contents) ((if b then one_point (trail_surrogate c) else []) ++ others)
@@ -186,11 +180,14 @@ module _ (table : Table) (maps : HasCaseDataOfUnicode table) (rer : Flags) (with
       (ap₂ (λ (o p : Option ℕ). (range_or_union (atom_to_char_set table rer first) (atom_to_char_set table rer last) o p).characters)
       (ap character_of is_first) (ap character_of is_last))
   between_same first last (point a) (set others) is_first is_last =
-      hyphen_same first last (point a) (set others) is_first is_last (last_none (atom_to_char_set table rer first) (atom_to_char_set table rer last) (character_of first) (character_of last) is_last.0)
+      hyphen_same first last (point a) (set others) is_first is_last
+      (last_none (atom_to_char_set table rer first) (atom_to_char_set table rer last) (character_of first) (character_of last) is_last.0)
   between_same first last (set members) (point b) is_first is_last =
-      hyphen_same first last (set members) (point b) is_first is_last (first_none (atom_to_char_set table rer first) (atom_to_char_set table rer last) (character_of first) (character_of last) is_first.0)
+      hyphen_same first last (set members) (point b) is_first is_last
+      (first_none (atom_to_char_set table rer first) (atom_to_char_set table rer last) (character_of first) (character_of last) is_first.0)
   between_same first last (set members) (set others) is_first is_last =
-      hyphen_same first last (set members) (set others) is_first is_last (first_none (atom_to_char_set table rer first) (atom_to_char_set table rer last) (character_of first) (character_of last) is_first.0)
+      hyphen_same first last (set members) (set others) is_first is_last
+      (first_none (atom_to_char_set table rer first) (atom_to_char_set table rer last) (character_of first) (character_of last) is_first.0)
 
   range_is : (first last : ClassAtom) (a b : ClassProductions.ClassAtom) → Is first a → Is last b → (contents : ClassContents) (others : List Bounds) →
       IsContents contents others → IsContents (range_then first last contents) (range_members a b ++ others)
@@ -205,8 +202,8 @@ module _ (table : Table) (maps : HasCaseDataOfUnicode table) (rer : Flags) (with
       IsContents contents others →
       IsContents (range_then (last_of table parameters first) (first_of table parameters last) contents) (range_members (last_atom a) (first_atom b) ++ others)
   units_are first last a b is_first is_last contents others h =
-      range_is (last_of table parameters first) (first_of table parameters last) (last_atom a) (first_atom b) (last_is first a is_first) (first_is last b is_last)
-      contents others h
+      range_is (last_of table parameters first) (first_of table parameters last) (last_atom a) (first_atom b)
+      (last_is first a is_first) (first_is last b is_last) contents others h
 
   -- the members of a range, by code units
   abbrev range_list : (a b : ClassProductions.ClassAtom) → List Bounds
@@ -263,7 +260,9 @@ module _ (table : Table) (maps : HasCaseDataOfUnicode table) (rer : Flags) (with
       range_found a b ≡ Some members → IsPart (with_range table parameters first last) members
   range_part first last a b is_first is_last members e contents others h =
       subst (IsContents (with_range table parameters first last contents))
-      (sym (ap (λ (l : List Bounds). l ++ others) (range_list_is a b members e) ∙ four_parts (before a) (range_members (last_atom a) (first_atom b)) (after b) others))
+      (sym
+      (ap (λ (l : List Bounds). l ++ others) (range_list_is a b members e)
+      ∙ four_parts (before a) (range_members (last_atom a) (first_atom b)) (after b) others))
       (before_is first a is_first _ _
       (units_are first last a b is_first is_last (with_after table parameters last contents) _ (after_is last b is_last contents others h)))
 
@@ -299,7 +298,8 @@ module _ (table : Table) (maps : HasCaseDataOfUnicode table) (rer : Flags) (with
   has_start b (set others) members e c h =
       in_left (one_point (last_unit (splits parameters) b)) (one_point (char "-") ++ others) c (one_is (last_unit (splits parameters) b) c (after_last b c h))
 
-  ranges_part : (first last next : ClassAtom) (a : ClassProductions.ClassAtom) (b : ℕ) (n : ClassProductions.ClassAtom) → Is first a → Is last (point b) → Is next n →
+  ranges_part : (first last next : ClassAtom) (a : ClassProductions.ClassAtom) (b : ℕ) (n : ClassProductions.ClassAtom) →
+      Is first a → Is last (point b) → Is next n →
       (members more : List Bounds) → range_found a (point b) ≡ Some members → range_found (point b) n ≡ Some more →
       IsPart (with_ranges table parameters first last next) (members ++ more)
   ranges_part first last next a b n is_first is_last is_next members more e f contents others h =
@@ -315,15 +315,13 @@ module _ (table : Table) (maps : HasCaseDataOfUnicode table) (rer : Flags) (with
 
   -- ---- what is found
 
-  abbrev range_here : ClassProductions.ClassAtom → Option (List Bounds) → Source → Found (List Bounds)
-  range_here a found t = elim found as (λ _. Found (List Bounds)) [ None ↦ None | Some members ↦ Some (members, t) ]
-
   range_follows : (first last : ClassAtom) (a b : ClassProductions.ClassAtom) (t : Source) → Is first a → Is last b →
       Follows IsPart (range_to table parameters a (b, t)) (Some (with_range table parameters first last, t))
   range_follows first last a b t is_first is_last = by (range_found a b) refl
     where
       by : (found : Option (List Bounds)) → range_found a b ≡ found →
-          Follows IsPart (elim found as (λ _. Found (List Bounds)) [ None ↦ None | Some members ↦ Some (members, t) ]) (Some (with_range table parameters first last, t))
+          Follows IsPart (elim found as (λ _. Found (List Bounds)) [ None ↦ None | Some members ↦ Some (members, t) ])
+          (Some (with_range table parameters first last, t))
       by None e = follows_none IsPart _
       by (Some members) e = follows_some IsPart (with_range table parameters first last) members t (range_part first last a b is_first is_last members e)
 

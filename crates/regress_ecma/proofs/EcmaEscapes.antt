@@ -1,31 +1,20 @@
 -- Class escapes in a class of the dialect `Ecma`: the CharSet of ECMA-262 has the members of the syntax tree.
-use Rattle.std.proofs.Common.{◌≡◌, ℕ, zero, suc, ◌+◌, ◌<◌, ◌≤◌, ◌==◌, Bool, true, false, not, ◌&&◌, ◌||◌, nat_le, List, [], ◌∷◌, ◌++◌, length, drop, Option, Some, None, if◌then◌else◌, refl, sym, ap, ap₂, subst, ◌∙◌, arith, append_assoc, append-nil, ◌⊎◌, inl, inr, ⊎_elim}
-use Rattle.std.proofs.lemmas.Bool.{cases_lt, false≢true, and_parts, eqb-true}
-use Rattle.std.proofs.lemmas.Bool.Decides.{nat_tests}
-use Rattle.std.proofs.lemmas.Option.{none-some, same_Some}
+use Rattle.std.proofs.Common.{◌≡◌, ℕ, ◌<◌, ◌≤◌, Bool, true, false, not, ◌&&◌, ◌||◌, ◌++◌, if◌then◌else◌, refl, sym, ap, ap₂, ◌∙◌}
 use Rattle.regress_base.specs.Classes.{digits, white_space, line_terminators, word_characters as basic_word_characters}
-use Rattle.regress_base.specs.Intervals.{Bounds, code_point_max, is_member, is_within, intervals_of, IsCanonical}
+use Rattle.regress_base.specs.Intervals.{code_point_max, is_member, intervals_of}
 use Rattle.regress_base.specs.Table.{Table, is_in_closure}
 use Rattle.regress_base.specs.declared.charclasses.CharacterClassType.{CharacterClassType}
 use Rattle.regress_base.specs.declared.charclasses.CharacterClassType.TheVariants.{Digits, Spaces, Words}
 use Rattle.regress_base.specs.declared.types.Flags.{Flags}
-use Rattle.regress_base.proofs.lemmas.Sets.{is_member-nil, is_member-append, intervals_of-agree, intervals_of-canonical, intervals_of-member, no_member_past_end}
-use Rattle.regress_lexer.specs.Escapes.{lead_surrogate, trail_surrogate}
-use Rattle.regress_lexer.specs.Source.{Source, Found, ◌>>=◌, found_map, char, is_at}
+use Rattle.regress_base.proofs.lemmas.Sets.{is_member-append, intervals_of-agree, intervals_of-canonical, no_member_past_end}
 use Rattle.regress_lexer.specs.declared.dialect.Dialect.TheVariants.{Ecma}
 use Rattle.regress_classes.specs.declared.parameters.Parameters.{Parameters}
-use Rattle.regress_classes.specs.ClassProductions.{members_of, closed_members, class_members, point, set, one_point, splits, first_unit, last_unit, units_before, units_after, atom_members, members_with_hyphen, range_of, begins_range, begins_next, range_to, range_end_at, ranges_to, class_parts_by, class_at}
-use Rattle.regress_classes.specs.ClassProductions as ClassProductions
+use Rattle.regress_classes.specs.ClassProductions.{members_of, closed_members, class_members}
 use Rattle.regress_ecma.specs.Notation.{CharSet}
 use Rattle.regress_ecma.specs.Characters.{is_extra_word_character, word_characters, class_escape_set, character_class_escape}
-use Rattle.regress_ecma.specs.Atoms.{one_character}
-use Rattle.regress_ecma.specs.ClassNodes.{ClassAtom, character, class_escape, property, string_property, class_strings, nested_class, ClassContents, empty, atom_then, range_then, CharacterClass}
-use Rattle.regress_ecma.specs.CharSets.{Elements, only, union, character_of, range_or_union, maybe_simple_case_folding, atom_to_char_set, compile_to_char_set}
-use Rattle.regress_ecma.specs.ClassGrammar.{is_pair, lead, trail, class_atom_at, is_split, first_of, last_of, with_before, with_after, with_atom, with_range, with_ranges, range_at, class_part_at, class_ranges_by, character_class_at}
 use Rattle.regress_ecma.specs.Differences.{HasCaseDataOfUnicode}
-use Rattle.regress_ecma.proofs.Follows.{Follows, follows_none, follows_some, follows_if, follows_then, follows_map}
 use Rattle.regress_ecma.proofs.ClassAtoms.{HasRelatedSets}
-use Rattle.regress_ecma.proofs.ClassMembers.{no_folding, complement-same, folded_words, words_plain, property_is}
+use Rattle.regress_ecma.proofs.ClassMembers.{complement-same, folded_words, words_plain, property_is}
 use Rattle.regress_ecma.proofs.IgnoredCase.{digits_uncased, spaces_uncased, closure_uncased}
 use Rattle.regress_ecma.proofs.SameSets.{IsSame, same_lists, same_then, same_intervals}
 use Rattle.regress_ecma.proofs.Sets.{word_member}
@@ -43,7 +32,7 @@ module _ (table : Table) (maps : HasCaseDataOfUnicode table) (rer : Flags) (with
   abbrev parameters : Parameters
   parameters = in_ecma rer named
 
-  -- Without the flags u and i no set is closed.
+  -- Unless both u and i are set, no set is closed.
   plain_escape : (rer.unicode && rer.icase) ≡ false → (kind : CharacterClassType) → IsSame (class_escape_set table rer kind) (members_of kind)
   plain_escape none Digits = same_lists _ _ refl
   plain_escape none Spaces = same_lists _ _ refl
@@ -96,7 +85,8 @@ module _ (table : Table) (maps : HasCaseDataOfUnicode table) (rer : Flags) (with
   escape_same kind true =
       same_lists _ _
       (complement-same table maps rer with_u no_fold (class_escape_set table rer kind)
-      ∙ intervals_of-agree (λ c. not (is_member (class_escape_set table rer kind) c)) (λ c. not (is_member (closed_members table parameters (members_of kind)) c))
+      ∙ intervals_of-agree (λ c. not (is_member (class_escape_set table rer kind) c))
+      (λ c. not (is_member (closed_members table parameters (members_of kind)) c))
       (λ c le. ap not ((letter_same kind).same c)))
 
   pub related : HasRelatedSets table rer parameters IsSame

@@ -1,6 +1,6 @@
 -- The start of an item in the dialect `Ecma`: an atom that is found there is matched as in ECMA-262.
 use Rattle.std.proofs.Common.{◌≡◌, ℕ, ◌==◌, nat_le, Bool, true, false, ◌&&◌, ◌||◌, List, [], ◌∷◌, Option, Some, None, if◌then◌else◌, refl, sym, ap, subst, ◌∙◌}
-use Rattle.std.proofs.lemmas.Bool.{eqb-true, false≢true, and_parts}
+use Rattle.std.proofs.lemmas.Bool.{eqb-true, and_parts}
 use Rattle.regress_base.specs.declared.charclasses.CharacterClassType.{CharacterClassType}
 use Rattle.regress_base.specs.declared.types.AnchorType.{AnchorType}
 use Rattle.regress_base.specs.declared.types.AnchorType.TheVariants.{StartOfLine, EndOfLine}
@@ -16,16 +16,17 @@ use Rattle.regress_classes.specs.ClassProductions.{class_letter, class_at}
 use Rattle.regress_classes.specs.ClassSets.{Value, class_set_at}
 use Rattle.regress_classes.specs.Properties.{Property, of_points, of_strings, property_at}
 use Rattle.regress_syntax.specs.Names.{group_name_at}
-use Rattle.regress_syntax.specs.Productions.{class_parameters, class_flags, compared_members, Context, single, head_at, character_at, point_property, property_atom, number_reference_at, name_reference_at, has_name, escape_productions, escaped_by, escaped_at, brackets_at, atom_productions, atom_by}
+use Rattle.regress_syntax.specs.Productions.{class_parameters, class_flags, compared_members, Context, single, head_at, character_at, point_property, property_atom, number_reference_at, name_reference_at, has_name, escape_productions, escaped_by, escaped_at, brackets_at, atom_productions}
 use Rattle.regress_syntax.specs.Syntax.{Name, Atom, literal, dot, anchor, boundary, class_escape, class, class_set, string_property, back_reference, by_number, by_name_if_set}
 use Rattle.regress_ecma.specs.Notation.{CharSet}
 use Rattle.regress_ecma.specs.Differences.{HasCaseDataOfUnicode}
 use Rattle.regress_ecma.proofs.Derived.{Holds, holds_none, holds_some, holds_if, holds_then, holds_map, holds_found}
 use Rattle.regress_ecma.proofs.EcmaAtoms.{AtomMatches, literal_matches, dot_matches, anchor_matches, boundary_matches, number_matches, escape_matches, class_matches, property_matches}
 use Rattle.regress_ecma.proofs.EcmaSets.{KeepsWords}
-use Rattle.regress_ecma.proofs.Heads.{OfAtom, head_holds}
+use Rattle.regress_ecma.proofs.Heads.{head_holds}
 
-module _ (setting : Setting) (maps : HasCaseDataOfUnicode setting.table) (keeps : KeepsWords setting.table) (all : List (Option Name)) (text : List ℕ) (is_text : IsText text)
+module _ (setting : Setting) (maps : HasCaseDataOfUnicode setting.table) (keeps : KeepsWords setting.table)
+    (all : List (Option Name)) (text : List ℕ) (is_text : IsText text)
     (given : Context) (same : given.setting.table ≡ setting.table) (unicode : given.setting.flags.unicode ≡ setting.flags.unicode)
     (with_u : given.setting.flags.unicode_sets ≡ true → given.setting.flags.unicode ≡ true) where
   abbrev pub context : Context

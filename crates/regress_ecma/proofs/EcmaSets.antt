@@ -1,6 +1,6 @@
 -- Classes, class escapes and properties in the dialect `Ecma`: what the CharSet of ECMA-262 finds, and what the syntax tree
 -- matches.
-use Rattle.std.proofs.Common.{◌≡◌, ℕ, ◌≤◌, ◌==◌, Bool, true, false, not, ◌&&◌, ◌++◌, if◌then◌else◌, nat_le, refl, sym, ap, ap₂, subst, ◌∙◌, arith}
+use Rattle.std.proofs.Common.{◌≡◌, ℕ, ◌≤◌, ◌==◌, Bool, true, false, not, ◌&&◌, ◌++◌, if◌then◌else◌, nat_le, refl, sym, ap, subst, ◌∙◌, arith}
 use Rattle.std.proofs.lemmas.Bool.{eq-eqb, eqb-true, false≢true}
 use Rattle.std.proofs.lemmas.Bool.Decides.{nat_tests}
 use Rattle.regress_base.specs.Classes.{digits, white_space, line_terminators, word_characters as basic_word_characters}
@@ -16,7 +16,7 @@ use Rattle.regress_classes.specs.ClassProductions.{members_of, complement}
 use Rattle.regress_tree.specs.Assertions.{differ}
 use Rattle.regress_syntax.specs.Meaning.{is_in_class}
 use Rattle.regress_ecma.specs.Notation.{CharSet}
-use Rattle.regress_ecma.specs.Characters.{canonicalize, has_some, character_complement, class_escape_set, character_class_escape}
+use Rattle.regress_ecma.specs.Characters.{canonicalize, has_some, character_complement, character_class_escape}
 use Rattle.regress_ecma.specs.CharacterMatchers.{is_found}
 use Rattle.regress_ecma.specs.CharSets.{atom_to_char_set}
 use Rattle.regress_ecma.specs.ClassNodes.{property}

@@ -1,5 +1,5 @@
 -- The start of an item: a property of all groups, and of an atom that is found.
-use Rattle.std.proofs.Common.{◌≡◌, ℕ, ◌==◌, Bool, true, false, [], ◌∷◌, drop, Some, None, if◌then◌else◌, refl}
+use Rattle.std.proofs.Common.{ℕ, ◌==◌, true, false, [], ◌∷◌, drop, Some, None, refl}
 use Rattle.regress_base.specs.Table.{Table}
 use Rattle.regress_lexer.specs.Modifiers.{modifiers_at}
 use Rattle.regress_lexer.specs.Source.{Source, Found, found_map, char, is_at, opening, colon, question_mark}
