@@ -22,25 +22,28 @@ use Rattle.regress_classes.specs.ClassProductions as ClassProductions
 use Rattle.regress_classes.specs.ClassSets.{Value, has_strings, class_set_at}
 use Rattle.regress_classes.specs.Properties.{Property, of_points, of_strings, property_at}
 use Rattle.regress_syntax.specs.Grammar.{IsPattern, AreTerms, IsItem}
-use Rattle.regress_syntax.specs.Meaning.{is_in_class, meaning}
+use Rattle.regress_syntax.specs.Meaning.{is_in_class, atom_steps, meaning}
 use Rattle.regress_syntax.specs.Names.{group_name_at}
 use Rattle.regress_syntax.specs.Productions.{named_target, class_parameters, Context, context_inside, Head, single, opens, head_at, character_at, point_property, property_atom, number_reference_at, name_reference_at, has_name, escape_productions, escaped_by, escaped_at, brackets_at, atom_productions, atom_by, angle_at, after_question_mark_at}
 use Rattle.regress_syntax.specs.Syntax.{Name, names, Atom, literal, dot, anchor, boundary, class_escape, class, class_set, string_property, back_reference, by_number, Group, grouping, modified, capture, look, Pattern, Terms, Item, one, either, no_terms, more_terms, atom, group}
 use Rattle.regress_ecma.specs.Notation.{CharSet}
 use Rattle.regress_ecma.specs.Assertions.{accept}
+use Rattle.regress_ecma.specs.Atoms.{compile_atom}
 use Rattle.regress_ecma.specs.CharacterMatchers.{is_found}
 use Rattle.regress_ecma.specs.Characters.{character_complement}
-use Rattle.regress_ecma.specs.CharSets.{Elements, only, complement, atom_to_char_set, compile_to_char_set, class_of, compile_character_class}
+use Rattle.regress_ecma.specs.CharSets.{complement, atom_to_char_set, compile_to_char_set, class_of, compile_character_class}
 use Rattle.regress_ecma.specs.ClassGrammar.{property_node, character_class_at}
 use Rattle.regress_ecma.specs.ClassNodes.{property, CharacterClass}
 use Rattle.regress_ecma.specs.CompiledClasses.{class_compiled, property_compiled, compiled, atom_of, with_char_sets, terms_with_char_sets, item_with_char_sets}
 use Rattle.regress_ecma.specs.Compile.{compile_disjunction, compile_pattern}
 use Rattle.regress_ecma.specs.Compared.{state_on, IsComparable}
-use Rattle.regress_ecma.specs.Differences.{HasCaseDataOfUnicode, has_ends, has_unlike, differs_in_case, differs_at_atom}
+use Rattle.regress_ecma.specs.Differences.{HasCaseDataOfUnicode, has_ends, has_unlike, differs_in_case}
 use Rattle.regress_ecma.specs.Exec.{match_at, or_later, first_match, builtin_exec}
+use Rattle.regress_ecma.proofs.Bridge.{Agrees}
 use Rattle.regress_ecma.proofs.CharacterSets.{Agrees-character}
 use Rattle.regress_ecma.proofs.ClassMembers.{IsCharSetOf, HasNoEnds, covers-same, covers-found, complement-same, property_is, class_follows}
-use Rattle.regress_ecma.proofs.ClassSetMembers.{elements, class_set_follows}
+use Rattle.regress_ecma.proofs.ClassSetAtoms.{class_set_matches}
+use Rattle.regress_ecma.proofs.ClassSetMembers.{class_set_ends}
 use Rattle.regress_ecma.proofs.Derived.{dialect_inside, Holds, holds_none, holds_some, holds_if, holds_then, holds_map, holds_found}
 use Rattle.regress_ecma.proofs.Sets.{complement_is_set}
 use Rattle.regress_ecma.proofs.Theorem.{HasFlagsOf, AtomAgrees, with_u_in, members_set, atom_agrees, IsLikeAtom, IsLike, like_one, like_either, AreLike, like_none, like_more, IsLikeItem, like_atom, like_group, names_like, like_outcome, unset_everywhere, pattern_outcome}
@@ -142,20 +145,11 @@ module _ (setting : Setting) (maps : HasCaseDataOfUnicode setting.table) (with_u
         IsGood (c ∷ t) (class_set flags' negated value)
     class_set_good c t negated value rest first sets found d flags none =
         let plain : flags'.icase ≡ false = (or_parts flags'.icase (negated && has_strings value) none).0 in
-        let read = (class_set_follows context.setting.table here flags' (with_u_of flags' flags) plain (class_parameters context) t).each (negated, value) rest found in
-        let is : compiled context (c ∷ t) ≡ class_of context.setting.table flags' (if negated then complement context.setting.table flags' (elements value) else elements value) =
-        compiled_is c t true read.value rest first sets read.found
-        ∙ ap (λ (b : Bool). if b then class_of context.setting.table flags' (if read.value.invert then complement context.setting.table flags' (compile_to_char_set context.setting.table flags' read.value.contents) else compile_to_char_set context.setting.table flags' read.value.contents) else class flags' read.value.invert (compile_to_char_set context.setting.table flags' read.value.contents).characters) sets
-        ∙ ap₂ (λ (b : Bool) (e : Elements). class_of context.setting.table flags' (if b then complement context.setting.table flags' e else e)) read.related.invert read.related.contents in
-        subst (λ (b : Atom). Matches d (class_set flags' negated value) b) (sym is) (by_sign negated none) flags none
-      where
-        by_sign : (b : Bool) → differs_at_atom all flags' (class_set flags' b value) ≡ false →
-            Matches d (class_set flags' b value) (class_of context.setting.table flags' (if b then complement context.setting.table flags' (elements value) else elements value))
-        by_sign true h =
-            subst
-            (λ (table : Table). Matches d (class_set flags' true value) (class_of context.setting.table flags' (only (character_complement table flags' value.members))))
-            (sym same) (alike (class_set flags' true value) d)
-        by_sign false h = alike (class_set flags' false value) d
+        let is : compiled context (c ∷ t) ≡ class_compiled context t =
+        ap (λ (b : Bool). if b then class_compiled context t else property_compiled context t) first in
+        subst (λ (a : Atom). Agrees text d (atom_steps setting all text d (class_set flags' negated value)) (compile_atom setting.table all flags' d a)) (sym is)
+        (class_set_matches setting maps all text is_text context (with_u_of flags' flags) same flags.unicode sets
+        (ap₂ (λ (x y : Bool). x && y) sets plain) t negated value rest found d)
 
     brackets_good : (c : ℕ) (t : Source) → (c == char "[") ≡ true → Holds (IsGood (c ∷ t)) (brackets_at context t)
     brackets_good c t first = by_test flags'.unicode_sets refl
@@ -441,11 +435,6 @@ module _ (given : Context) (maps : HasCaseDataOfUnicode given.setting.table)
       and_false true = refl
       and_false false = refl
 
-  class_set_ends : (t : Source) (x : (Bool × Value) × Source) → class_set_at around.setting.table (class_parameters around) t ≡ Some x → EndsAt t true x.1
-  class_set_ends t (read, rest) e =
-      let found = (class_set_follows around.setting.table maps without_i with_u refl (class_parameters around) t).each read rest e in
-      (found.value, found.found)
-
   mapped_end : {A B : Type 0} (f : A → B) (found : Found A) (y : B) (rest : Source) → found_map f found ≡ Some (y, rest) →
       (x : A) × (found ≡ Some (x, rest))
   mapped_end f None y rest e = absurd (none-some (y, rest) e)
@@ -463,7 +452,7 @@ module _ (given : Context) (maps : HasCaseDataOfUnicode given.setting.table)
           ≡ Some (a, rest) → EndsAt t v rest
       by_test true h =
           let found = mapped_end (λ (negated, value). class_set around.setting.flags negated value) (class_set_at around.setting.table (class_parameters around) t) a rest h in
-          class_set_ends t (found.0, rest) found.1
+          class_set_ends around.setting.table maps around.setting.flags (class_parameters around) t rest found.0 found.1
       by_test false h =
           let found = mapped_end (λ (inverted, members). class around.setting.flags inverted members) (class_at around.setting.table (class_parameters around) t) a rest h in
           class_ends t (found.0, rest) found.1

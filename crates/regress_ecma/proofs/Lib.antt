@@ -6,6 +6,8 @@ mod Members
 mod Outside
 mod Sets
 mod IgnoredCase
+mod FoldedSets
+mod FoldedElements
 mod Theorem
 mod BackReferences
 mod Strings
@@ -16,6 +18,8 @@ mod SameSets
 mod ClassAtoms
 mod ClassMembers
 mod ClassSetMembers
+mod ClassSetAtoms
+mod EcmaClassSets
 mod FromSource
 mod EcmaEscapes
 mod EcmaClasses

@@ -148,7 +148,7 @@ module _ (table : Table) (rer : Flags) where
   in_order p c member = (member_above 0 (intervals_of p) c (intervals_of-canonical p) member).1
 
   module _ (idempotent : IsIdempotent table.fold) where
-    words_folded : folds ≡ true → (c : ℕ) →
+    pub words_folded : folds ≡ true → (c : ℕ) →
         has_some (λ ch. table.fold ch == c) (word_characters table rer) ≡ has_some (λ ch. table.fold ch == c) basic_word_characters
     words_folded e c = ap (has_some folds_to) split ∙ same_truth _ _ to from
       where
