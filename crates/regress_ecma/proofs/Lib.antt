@@ -1,6 +1,8 @@
 pub mod lemmas
 mod Bridge
 mod Groups
+mod SetGroups
+mod Untouched
 mod CharacterSets
 mod Members
 mod Outside
@@ -8,6 +10,7 @@ mod Sets
 mod IgnoredCase
 mod Theorem
 mod BackReferences
+mod NamedReferences
 mod Strings
 mod Derived
 mod CaseData
