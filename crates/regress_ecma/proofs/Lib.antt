@@ -18,3 +18,4 @@ mod Follows
 mod ClassMembers
 mod ClassSetMembers
 mod FromSource
+mod InEcma

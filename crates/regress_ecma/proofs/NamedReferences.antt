@@ -15,7 +15,7 @@ use Rattle.regress_ecma.specs.CharacterMatchers.{is_same, range_of_any, match_ra
 use Rattle.regress_ecma.specs.Compared.{state_on}
 use Rattle.regress_ecma.proofs.Bridge.{first_result, AgreesOn, Agrees, or_failure, reached_itself, reached_by_both, flat_map-all}
 use Rattle.regress_ecma.proofs.BackReferences.{Agrees-back_reference}
-use Rattle.regress_ecma.proofs.SetGroups.{is_set, same_name-both, HaveSameName, IsApart, HasNames}
+use Rattle.regress_ecma.proofs.SetGroups.{is_set, same_name-both, HaveSameName, IsApart, HasNames, all_names}
 use Rattle.regress_ecma.proofs.Untouched.{IsUntouched, back_reference-leaves}
 
 -- ---- lists of groups, by their numbers from 1
@@ -168,4 +168,4 @@ module _ (all : List (Option Name)) (text : List ℕ) (name : Name) where
             )
 
     pub at_most_one : AtMostOne s.captures (groups_named name 1 all)
-    at_most_one = one_named 0 all (record { at = λ i within. let there : 0 + i ≡ i = omega arith in ap (λ (j : ℕ). get_or all j None) there })
+    at_most_one = one_named 0 all (all_names all text)

@@ -285,6 +285,9 @@ module _ (all : List (Option Name)) (text : List ℕ) where
   pub record HasNames (n : ℕ) (names : List (Option Name)) : Type 0 where
     pub at : (i : ℕ) → i < length names → get_or all (n + i) None ≡ get_or names i None
 
+  pub all_names : HasNames 0 all
+  all_names = record { at = λ i within. let there : 0 + i ≡ i = omega arith in ap (λ (j : ℕ). get_or all j None) there }
+
   pub names_left : (n : ℕ) (xs ys : List (Option Name)) → HasNames n (xs ++ ys) → HasNames n xs
   names_left n xs ys names = record {
     at = λ i within. names.at i (omega (arith, length-append xs ys)) ∙ get_or_append_left xs ys None i within;
