@@ -1,14 +1,13 @@
 -- In the dialect `Ecma` the first outcome of a pattern is the match of ECMA-262, for the syntax tree with the CharSets of
 -- classes, if each atom matches the same in both.
-use Rattle.std.proofs.Common.{◌≡◌, ℕ, zero, suc, ◌+◌, ◌-◌, ◌<◌, ◌≤◌, Bool, true, false, not, ◌&&◌, List, [], ◌∷◌, ◌++◌, length, slice_get, get_or, Option, Some, None, option_map, All, refl, sym, ap, ap₂, subst, ◌∙◌, arith}
+use Rattle.std.proofs.Common.{◌≡◌, ℕ, ◌+◌, ◌-◌, ◌<◌, ◌≤◌, Bool, true, false, not, ◌&&◌, List, [], ◌∷◌, ◌++◌, length, slice_get, Option, Some, None, option_map, refl, sym, ap, ap₂, subst, ◌∙◌, arith}
 use Rattle.std.proofs.Math.ListN.{replicate}
 use Rattle.std.proofs.lemmas.Bool.{and_parts}
 use Rattle.std.proofs.lemmas.List.{length-append}
-use Rattle.std.proofs.lemmas.List.Elements.{All-weaker}
-use Rattle.regress_base.specs.Table.{Table, denotes}
+use Rattle.regress_base.specs.Table.{denotes}
 use Rattle.regress_base.specs.declared.types.Flags.{Flags}
 use Rattle.regress_base.specs.declared.types.Quantifier.{Quantifier}
-use Rattle.regress_tree.specs.Reading.{Direction, forwards, backwards, IsText, of_characters}
+use Rattle.regress_tree.specs.Reading.{Direction, forwards, backwards, IsText}
 use Rattle.regress_tree.specs.Steps as Steps
 use Rattle.regress_tree.specs.Steps.{CaptureSpan, IsStateOf, Setting, ◌then_◌}
 use Rattle.regress_tree.proofs.lemmas.Simulation.{IsReached}
@@ -29,15 +28,16 @@ use Rattle.regress_ecma.specs.Compile.{compile_pattern, quantified, compile_grou
 use Rattle.regress_ecma.specs.CompiledClasses.{atom_of, with_char_sets, terms_with_char_sets, item_with_char_sets}
 use Rattle.regress_ecma.specs.Compared.{state_on}
 use Rattle.regress_ecma.specs.Differences.{HasCaseDataOfUnicode, IsInOrder}
-use Rattle.regress_ecma.specs.Exec.{match_at, or_later, first_match, builtin_exec}
+use Rattle.regress_ecma.specs.Exec.{first_match, builtin_exec}
 use Rattle.regress_ecma.proofs.Bridge.{AgreesOn, Agrees, AgreesOn-empty, AgreesOn-fewer, AgreesOn-or, AgreesOn-then, AgreesOn-repeat}
-use Rattle.regress_ecma.proofs.Derived.{dialect_inside, in_order, inside_same, reference_proper}
+use Rattle.regress_ecma.proofs.Derived.{in_order, inside_same, reference_proper}
 use Rattle.regress_ecma.proofs.Groups.{AgreesOn-capture, AgreesOn-look}
 use Rattle.regress_ecma.proofs.NamedReferences.{AgreesOn-each_reference, at_most_one}
 use Rattle.regress_ecma.proofs.SetGroups.{is_set, replicate-is_set, all_names, IsBefore, IsAfter, IsBetween, AreClear, clear-sym, before_part, after_part, after_both, next_part, after_untouched, after_nothing, after_returned, after_captured, between_before, between_kept, before_iteration, after_iteration, before_all, HasNames, names_left, names_right, clear_parts}
 use Rattle.regress_ecma.proofs.Sets.{same-literal}
 use Rattle.regress_ecma.proofs.Theorem.{first_accepted, unset_everywhere}
-use Rattle.regress_ecma.proofs.Untouched.{LeavesCaptures, IsUntouched, atom-leaves}
+use Rattle.regress_ecma.proofs.lemmas.Searches.{outcome_at, exec_by_outcomes}
+use Rattle.regress_ecma.proofs.Untouched.{LeavesCaptures, atom-leaves}
 
 -- ---- the groups of a syntax tree
 
@@ -209,6 +209,22 @@ module _ (setting : Setting) (all : List (Option Name)) (text : List ℕ) where
   AtomsMatch =
       (ctx : Context) → IsUnder ctx → (a : Atom) (t rest : Source) → head_at ctx t ≡ Some (single a, rest) → refers_if_set a ≡ false → AtomMatches ctx a t
 
+  with_u_under : (setting.flags.unicode_sets ≡ true → setting.flags.unicode ≡ true) → (ctx : Context) → IsUnder ctx →
+      ctx.setting.flags.unicode_sets ≡ true → ctx.setting.flags.unicode ≡ true
+  with_u_under with_u ctx under v = under.unicode ∙ with_u (sym under.unicode_sets ∙ v)
+
+  -- It is enough to have this for contexts of which the dialect is replaced.
+  pub match_in_dialect : (setting.flags.unicode_sets ≡ true → setting.flags.unicode ≡ true) → (
+        (given : Context) → given.setting.table ≡ setting.table → given.setting.flags.unicode ≡ setting.flags.unicode →
+        (given.setting.flags.unicode_sets ≡ true → given.setting.flags.unicode ≡ true) → (a : Atom) (t rest : Source) →
+        head_at (record given { dialect = Ecma }) t ≡ Some (single a, rest) → refers_if_set a ≡ false → AtomMatches (record given { dialect = Ecma }) a t
+      ) → AtomsMatch
+  match_in_dialect with_u matching ctx under a t rest =
+      let Is : Dialect → Type 0 =
+      λ dialect.
+      head_at (record ctx { dialect = dialect }) t ≡ Some (single a, rest) → refers_if_set a ≡ false → AtomMatches (record ctx { dialect = dialect }) a t in
+      subst Is (sym under.dialect) (matching ctx under.table under.unicode (with_u_under with_u ctx under) a t rest)
+
   under_inside : (kind : Group) (ctx : Context) → IsUnder ctx → IsUnder (context_inside kind ctx)
   under_inside grouping ctx under = under
   under_inside (modified change) ctx under = record {
@@ -232,7 +248,7 @@ module _ (setting : Setting) (maps : HasCaseDataOfUnicode setting.table) (with_u
       let rer : Flags = ctx.setting.flags in
       let equal : (a b : ℕ) → is_same setting.table rer a b ≡ denotes setting.table flags.icase setting.flags.unicode a b =
       λ a b.
-      same-literal setting.table maps rer (λ v. under.unicode ∙ with_u (sym under.unicode_sets ∙ v)) a b
+      same-literal setting.table maps rer (with_u_under setting all text with_u ctx under) a b
       ∙ ap₂ (λ (i u : Bool). denotes setting.table i u a b) (ap (λ (f : Flags). f.icase) (sym is)) under.unicode in
       within_untouched all text d n 0 _ _
       (AgreesOn-each_reference setting.table rer text is_text (denotes setting.table flags.icase setting.flags.unicode) equal d
@@ -348,15 +364,17 @@ module _ (ctx : Context) (ecma : ctx.dialect ≡ Ecma) (maps : HasCaseDataOfUnic
       within.same s (before_all (names p) text s in' unset 0 (counts p).groups) accept ∙ first_accepted text (pattern_steps ctx.setting (names p) text d 0 p s)
 
   -- from an index, with all groups unset
-  abbrev pub start_at : ℕ → Steps.MatchState
-  start_at index = record { position = index; captures = replicate (length (names p)) None }
-
   pub pattern_in_ecma : (fuel : ℕ) → length text < fuel → (index : ℕ) → index ≤ length text →
       compile_pattern fuel ctx.setting.table ctx.setting.flags standard text index
-      ≡ option_map (state_on text) (slice_get (meaning ctx.setting text forwards p (start_at index)) 0)
+      ≡ outcome_at ctx.setting p text index
   pattern_in_ecma fuel enough index within =
       ap (λ (ns : List (Option Name)). compile_disjunction ctx.setting.table ns fuel ctx.setting.flags forwards 0 standard
       (record { input = text; end_index = index; captures = replicate (length ns) None }) accept)
       (names_same ctx p t rest derived)
-      ∙ first_outcome_in_ecma fuel enough forwards (start_at index)
+      ∙ first_outcome_in_ecma fuel enough forwards (record { position = index; captures = replicate (length (names p)) None })
       (record { position = within; captures = unset_everywhere text (length (names p)) }) (replicate-is_set (length (names p)))
+
+  -- RegExpBuiltinExec
+  pub search_in_ecma : (index : ℕ) → index ≤ length text →
+      builtin_exec ctx.setting standard text index ≡ first_match (outcome_at ctx.setting p text) (length text + 1 - index) index
+  search_in_ecma = exec_by_outcomes ctx.setting p standard text (pattern_in_ecma (length text + 1) (omega arith))

@@ -1,5 +1,5 @@
 -- References by name to several groups, of which at most one is set.
-use Rattle.std.proofs.Common.{◌≡◌, ℕ, zero, suc, ◌+◌, ◌-◌, ◌<◌, ◌≤◌, Bool, true, false, List, [], ◌∷◌, ◌++◌, flat_map, get_or, Option, Some, None, is_some, All, if◌then◌else◌, refl, sym, ap, ap₂, subst, ◌∙◌, arith, append-nil}
+use Rattle.std.proofs.Common.{◌≡◌, ℕ, suc, ◌+◌, ◌-◌, ◌≤◌, Bool, true, false, List, [], ◌∷◌, ◌++◌, flat_map, get_or, Option, Some, None, is_some, All, if◌then◌else◌, refl, sym, ap, ap₂, subst, ◌∙◌, arith, append-nil}
 use Rattle.std.proofs.lemmas.List.Elements.{All-nil, All-cons, All-head, All-tail, All-weaker}
 use Rattle.regress_base.specs.Table.{Table}
 use Rattle.regress_base.specs.declared.types.Flags.{Flags}
@@ -10,12 +10,12 @@ use Rattle.regress_tree.specs.Steps.{CaptureSpan, IsStateOf, stay}
 use Rattle.regress_tree.proofs.lemmas.Simulation.{IsReached}
 use Rattle.regress_syntax.specs.Meaning.{each_reference}
 use Rattle.regress_syntax.specs.Syntax.{Name, is_named, groups_named}
-use Rattle.regress_ecma.specs.Notation.{CaptureRange, MatchResult, failure, Continuation}
+use Rattle.regress_ecma.specs.Notation.{CaptureRange, MatchResult, Continuation}
 use Rattle.regress_ecma.specs.CharacterMatchers.{is_same, range_of_any, match_range, backreference_matcher}
 use Rattle.regress_ecma.specs.Compared.{state_on}
-use Rattle.regress_ecma.proofs.Bridge.{first_result, AgreesOn, Agrees, or_failure, reached_itself, reached_by_both, flat_map-all}
+use Rattle.regress_ecma.proofs.Bridge.{first_result, AgreesOn, or_failure, reached_itself, reached_by_both, flat_map-all}
 use Rattle.regress_ecma.proofs.BackReferences.{Agrees-back_reference}
-use Rattle.regress_ecma.proofs.SetGroups.{is_set, same_name-both, HaveSameName, IsApart, HasNames, all_names}
+use Rattle.regress_ecma.proofs.SetGroups.{is_set, same_name-both, IsApart, HasNames, all_names}
 use Rattle.regress_ecma.proofs.Untouched.{IsUntouched, back_reference-leaves}
 
 -- ---- lists of groups, by their numbers from 1

@@ -1,8 +1,7 @@
 -- Atoms leave the captures as they are.
-use Rattle.std.proofs.Common.{◌≡◌, ℕ, ◌-◌, Bool, true, false, List, [], ◌∷◌, length, flat_map, get_or, Option, Some, None, All, if◌then◌else◌, refl, subst}
+use Rattle.std.proofs.Common.{◌≡◌, ℕ, ◌-◌, Bool, true, false, List, [], ◌∷◌, flat_map, get_or, Option, Some, None, All, if◌then◌else◌, refl, subst}
 use Rattle.std.proofs.lemmas.List.Elements.{All-nil, All-cons, All-head, All-tail, All-append}
 use Rattle.regress_base.specs.Table.{denotes}
-use Rattle.regress_classes.specs.ClassSets.{has_strings}
 use Rattle.regress_tree.specs.Reading.{Direction, Reading, Read, next_character, of_characters}
 use Rattle.regress_tree.specs.References.{all_of, any_string, back_reference, in_order, match_again}
 use Rattle.regress_tree.specs.Steps.{CaptureSpan, MatchState, Matcher, moved, one_character, hold_at, stay, fail, ◌then_◌, ◌or_◌, Setting}
