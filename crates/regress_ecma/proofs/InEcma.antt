@@ -215,9 +215,9 @@ module _ (setting : Setting) (all : List (Option Name)) (text : List ℕ) where
 
   -- It is enough to have this for contexts of which the dialect is replaced.
   pub match_in_dialect : (setting.flags.unicode_sets ≡ true → setting.flags.unicode ≡ true) → (
-        (given : Context) → given.setting.table ≡ setting.table → given.setting.flags.unicode ≡ setting.flags.unicode →
-        (given.setting.flags.unicode_sets ≡ true → given.setting.flags.unicode ≡ true) → (a : Atom) (t rest : Source) →
-        head_at (record given { dialect = Ecma }) t ≡ Some (single a, rest) → refers_if_set a ≡ false → AtomMatches (record given { dialect = Ecma }) a t
+      (given : Context) → given.setting.table ≡ setting.table → given.setting.flags.unicode ≡ setting.flags.unicode →
+      (given.setting.flags.unicode_sets ≡ true → given.setting.flags.unicode ≡ true) → (a : Atom) (t rest : Source) →
+      head_at (record given { dialect = Ecma }) t ≡ Some (single a, rest) → refers_if_set a ≡ false → AtomMatches (record given { dialect = Ecma }) a t
       ) → AtomsMatch
   match_in_dialect with_u matching ctx under a t rest =
       let Is : Dialect → Type 0 =
