@@ -25,7 +25,8 @@ first_result text c (s ∷ states) = option_or (c (state_on text s)) (first_resu
 
 -- In the states of P, the matcher of ECMA-262 returns the first result of its continuation on the outcomes, and each
 -- outcome is related by Q to the state.
-pub record AgreesOn (text : List ℕ) (P : Steps.MatchState → Type 0) (Q : Steps.MatchState → Steps.MatchState → Type 0) (f : Steps.Matcher) (m : Matcher) : Type 0 where
+pub record AgreesOn (text : List ℕ) (P : Steps.MatchState → Type 0) (Q : Steps.MatchState → Steps.MatchState → Type 0) (f : Steps.Matcher) (m : Matcher)
+    : Type 0 where
   pub same : (s : Steps.MatchState) → P s → (c : Continuation) → m (state_on text s) c ≡ first_result text c (f s)
   pub reached : (s : Steps.MatchState) → P s → All (Q s) (f s)
 
@@ -393,8 +394,8 @@ extra_bound text q is =
 
 -- A quantified part: RepeatMatcher with enough fuel, and a loop of the dialect. Each iteration enters a state of the body
 -- and leaves it in one of the loop.
-pub AgreesOn-repeat : (text : List ℕ) (d : Direction) (P P' : Steps.MatchState → Type 0) (Q Q' : Steps.MatchState → Steps.MatchState → Type 0) → IsKept text d P Q →
-    (f : Steps.Matcher) (m : Matcher) → AgreesOn text P' Q' f m → (start count : ℕ) →
+pub AgreesOn-repeat : (text : List ℕ) (d : Direction) (P P' : Steps.MatchState → Type 0) (Q Q' : Steps.MatchState → Steps.MatchState → Type 0) →
+    IsKept text d P Q → (f : Steps.Matcher) (m : Matcher) → AgreesOn text P' Q' f m → (start count : ℕ) →
     ((s : Steps.MatchState) → P s → P' (unset start (start + count) s)) →
     ((s t : Steps.MatchState) → P s → Q' (unset start (start + count) s) t → Q s t) → (q : Quantifier) →
     IsQuantifier q → (fuel : ℕ) → length text < fuel →

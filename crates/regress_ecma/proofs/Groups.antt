@@ -53,7 +53,9 @@ AgreesOn-capture text d P Q Q' n onward leave f m agrees = record {
       c (record y { captures = slice_set y.captures n (Some (range_between d s.position y.end_index)) }) in
       agrees.same s h set_range
       ∙ first_result-map text (Q s) set_range c (captured n s.position)
-      (λ t k. ap (λ (r : Option CaptureSpan). c (record (state_on text t) { captures = slice_set t.captures n r })) (range_same d s.position t.position (onward s t k)))
+      (λ t k.
+      ap (λ (r : Option CaptureSpan). c (record (state_on text t) { captures = slice_set t.captures n r }))
+      (range_same d s.position t.position (onward s t k)))
       (f s) (agrees.reached s h);
   reached = λ s h.
       All-map (Q' s) (captured n s.position) (f s)

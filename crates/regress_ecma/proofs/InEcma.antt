@@ -147,7 +147,8 @@ module _ (all : List (Option Name)) (text : List ℕ) where
   within_sequence : (d : Direction) (n a b : ℕ) → AreClear all text n a (n + a) b → (f g : Steps.Matcher) (m l : Matcher) →
       Within d n a f m → Within d (n + a) b g l → Within d n (a + b) (along d f g) (match_sequence m l d)
   within_sequence forwards n a b clear f g m l first second =
-      within_then forwards n (a + b) n a (n + a) b (omega arith) (omega arith) (omega arith) (omega arith) (clear-sym all text n a (n + a) b clear) f g m l first second
+      within_then forwards n (a + b) n a (n + a) b (omega arith) (omega arith) (omega arith) (omega arith) (clear-sym all text n a (n + a) b clear)
+      f g m l first second
   within_sequence backwards n a b clear f g m l first second =
       within_then backwards n (a + b) (n + a) b n a (omega arith) (omega arith) (omega arith) (omega arith) clear g f l m second first
 
@@ -242,8 +243,8 @@ module _ (setting : Setting) (maps : HasCaseDataOfUnicode setting.table) (with_u
   AtomWithin ctx d n a t =
       Within all text d n 0 (atom_steps setting all text d a) (compile_atom setting.table all ctx.setting.flags d (atom_of ctx a t))
 
-  reference_within : (ctx : Context) → IsUnder setting all text ctx → (d : Direction) (n : ℕ) (flags : Flags) (name : Name) (t : Source) → flags ≡ ctx.setting.flags →
-      AtomWithin ctx d n (back_reference flags (by_name_if_set name)) t
+  reference_within : (ctx : Context) → IsUnder setting all text ctx → (d : Direction) (n : ℕ) (flags : Flags) (name : Name) (t : Source) →
+      flags ≡ ctx.setting.flags → AtomWithin ctx d n (back_reference flags (by_name_if_set name)) t
   reference_within ctx under d n flags name t is =
       let rer : Flags = ctx.setting.flags in
       let equal : (a b : ℕ) → is_same setting.table rer a b ≡ denotes setting.table flags.icase setting.flags.unicode a b =
@@ -273,8 +274,8 @@ module _ (setting : Setting) (maps : HasCaseDataOfUnicode setting.table) (with_u
 
   module _ (fuel : ℕ) (enough : length text < fuel) where
     mutual
-      pattern_within : (ctx : Context) → IsUnder setting all text ctx → (d : Direction) (n : ℕ) (p : Pattern) (t rest : Source) (derived : IsPattern ctx p t rest) →
-          HasNames all text n (names p) → are_names_apart p ≡ true →
+      pattern_within : (ctx : Context) → IsUnder setting all text ctx → (d : Direction) (n : ℕ) (p : Pattern) (t rest : Source)
+          (derived : IsPattern ctx p t rest) → HasNames all text n (names p) → are_names_apart p ≡ true →
           Within all text d n (counts p).groups (pattern_steps setting all text d n p)
           (compile_disjunction setting.table all fuel ctx.setting.flags d n (with_char_sets ctx p t rest derived))
       pattern_within ctx under d n (one ts) t rest derived named apart = terms_within ctx under d n ts t rest derived.0 named apart
@@ -294,8 +295,8 @@ module _ (setting : Setting) (maps : HasCaseDataOfUnicode setting.table) (with_u
           (pattern_within ctx under d (n + a) p derived.0 rest derived.2
           (names_right all text n a (names_of_terms ts) (names p) (length-names_of_terms ts) named) both.1)))
 
-      terms_within : (ctx : Context) → IsUnder setting all text ctx → (d : Direction) (n : ℕ) (ts : Terms) (t rest : Source) (derived : AreTerms ctx ts t rest) →
-          HasNames all text n (names_of_terms ts) → are_names_apart_in_terms ts ≡ true →
+      terms_within : (ctx : Context) → IsUnder setting all text ctx → (d : Direction) (n : ℕ) (ts : Terms) (t rest : Source)
+          (derived : AreTerms ctx ts t rest) → HasNames all text n (names_of_terms ts) → are_names_apart_in_terms ts ≡ true →
           Within all text d n (counts_of_terms ts).groups (terms_steps setting all text d n ts)
           (compile_alternative setting.table all fuel ctx.setting.flags d n (terms_with_char_sets ctx ts t rest derived))
       terms_within ctx under d n no_terms t rest derived named apart =
@@ -342,8 +343,8 @@ module _ (setting : Setting) (maps : HasCaseDataOfUnicode setting.table) (with_u
           (compile_disjunction setting.table all fuel rer (direction_of_group kind d) (n + opened_by kind)
           (with_char_sets (context_inside kind ctx) p derived.0 _ derived.2)))
           (inside_same kind ctx)
-          (pattern_within (context_inside kind ctx) (under_inside setting all text kind ctx under) (direction_of_group kind d) (n + opened_by kind) p derived.0 _
-          derived.2 inside both.1))
+          (pattern_within (context_inside kind ctx) (under_inside setting all text kind ctx under) (direction_of_group kind d) (n + opened_by kind)
+          p derived.0 _ derived.2 inside both.1))
 
 -- ---- the theorem
 

@@ -48,8 +48,8 @@ module _ (table : Table) (rer : Flags) (text : List ℕ) (is_text : IsText text)
       ap (λ (o : Option CaptureSpan). flat_map (each_reference refer ks) (again o s)) unset.0
       ∙ append-nil (each_reference refer ks s) ∙ all_stay ks s unset.1
 
-  each_stays : (ks : List ℕ) (captures : List (Option CaptureSpan)) → AllUnset captures ks → (states : List Steps.MatchState) → All (IsUntouched captures) states →
-      flat_map (each_reference refer ks) states ≡ states
+  each_stays : (ks : List ℕ) (captures : List (Option CaptureSpan)) → AllUnset captures ks → (states : List Steps.MatchState) →
+      All (IsUntouched captures) states → flat_map (each_reference refer ks) states ≡ states
   each_stays ks captures unset [] all = refl
   each_stays ks captures unset (t ∷ states) all =
       ap₂ (λ (xs ys : List Steps.MatchState). xs ++ ys)
@@ -88,7 +88,9 @@ module _ (table : Table) (rer : Flags) (text : List ℕ) (is_text : IsText text)
   each_reached [] s in' = reached_itself text d s in'
   each_reached (k ∷ ks) s in' =
       flat_map-all (IsReached text d s) (IsReached text d s) (each_reference refer ks)
-      (λ t first. All-weaker (IsReached text d t) (IsReached text d s) (λ u. reached_by_both text d s t u first) (each_reference refer ks t) (each_reached ks t first.state))
+      (λ t first.
+      All-weaker (IsReached text d t) (IsReached text d s) (λ u. reached_by_both text d s t u first) (each_reference refer ks t)
+      (each_reached ks t first.state))
       (refer k s) ((Agrees-back_reference table rer text is_text same equal d k).reached s in')
 
   -- In states in which at most one of the groups is set, the references one after the other match what that one has captured.

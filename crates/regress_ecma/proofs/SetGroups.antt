@@ -189,7 +189,8 @@ module _ (all : List (Option Name)) (text : List ℕ) where
   }
 
   -- the position of the state, and the captures of another one
-  pub after_returned : (d e : Direction) (n k : ℕ) (s t : MatchState) → IsStateOf text s → IsAfter e n k s t → IsAfter d n k s (record t { position = s.position })
+  pub after_returned : (d e : Direction) (n k : ℕ) (s t : MatchState) → IsStateOf text s → IsAfter e n k s t →
+      IsAfter d n k s (record t { position = s.position })
   after_returned d e n k s t in' after = record {
     reached = returned text d e s t in' after.reached;
     apart = record { one = after.apart.one };
