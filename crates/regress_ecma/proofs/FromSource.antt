@@ -1,5 +1,5 @@
 -- Classes as they are written: their CharSets in ECMA-262 match what the classes of the syntax tree match.
-use Rattle.std.proofs.Common.{◌≡◌, ℕ, zero, suc, ◌+◌, ◌-◌, ◌<◌, ◌≤◌, nat_le, ◌==◌, Bool, true, false, ◌&&◌, ◌||◌, List, [], ◌∷◌, length, drop, slice_get, Option, Some, None, option_map, if◌then◌else◌, refl, sym, ap, ap₂, subst, ◌∙◌, arith}
+use Rattle.std.proofs.Common.{◌≡◌, ℕ, ◌+◌, ◌-◌, ◌<◌, ◌≤◌, nat_le, ◌==◌, Bool, true, false, ◌&&◌, ◌||◌, List, [], ◌∷◌, length, drop, slice_get, Option, Some, None, option_map, if◌then◌else◌, refl, sym, ap, ap₂, subst, ◌∙◌, arith}
 use Rattle.std.proofs.Math.ListN.{replicate}
 use Rattle.std.proofs.lemmas.Bool.{eqb-true, false≢true, or_parts}
 use Rattle.std.proofs.lemmas.Option.{none-some, same_Some}
@@ -38,7 +38,7 @@ use Rattle.regress_ecma.specs.CompiledClasses.{class_compiled, property_compiled
 use Rattle.regress_ecma.specs.Compile.{compile_disjunction, compile_pattern}
 use Rattle.regress_ecma.specs.Compared.{state_on, IsComparable}
 use Rattle.regress_ecma.specs.Differences.{HasCaseDataOfUnicode, has_ends, has_unlike, differs_in_case}
-use Rattle.regress_ecma.specs.Exec.{match_at, or_later, first_match, builtin_exec}
+use Rattle.regress_ecma.specs.Exec.{match_at, builtin_exec}
 use Rattle.regress_ecma.proofs.Bridge.{Agrees}
 use Rattle.regress_ecma.proofs.CharacterSets.{Agrees-character}
 use Rattle.regress_ecma.proofs.ClassMembers.{IsCharSetOf, HasNoEnds, covers-same, covers-found, complement-same, property_is, class_follows}
@@ -46,6 +46,7 @@ use Rattle.regress_ecma.proofs.ClassSetAtoms.{class_set_matches}
 use Rattle.regress_ecma.proofs.ClassSetMembers.{class_set_ends}
 use Rattle.regress_ecma.proofs.Derived.{dialect_inside, Holds, holds_none, holds_some, holds_if, holds_then, holds_map, holds_found}
 use Rattle.regress_ecma.proofs.Sets.{complement_is_set}
+use Rattle.regress_ecma.proofs.lemmas.Searches.{first_same}
 use Rattle.regress_ecma.proofs.Theorem.{HasFlagsOf, AtomAgrees, with_u_in, members_set, atom_agrees, IsLikeAtom, IsLike, like_one, like_either, AreLike, like_none, like_more, IsLikeItem, like_atom, like_group, names_like, like_outcome, unset_everywhere, pattern_outcome}
 
 and_true : (b : Bool) → (b && true) ≡ b
@@ -402,15 +403,10 @@ module _ (ctx : Context) (regress : ctx.dialect ≡ Regress) (p : Pattern) (t re
       source_outcome (length text + 1) (omega arith) index within
       ∙ sym (pattern_outcome ctx.setting p comparable text is_text (length text + 1) (omega arith) index within)
 
-  first_same : (n index : ℕ) → n + index ≤ length text + 1 →
-      first_match (match_at ctx.setting standard text) n index ≡ first_match (match_at ctx.setting p text) n index
-  unfolding first_match
-  first_same zero index within = refl
-  first_same (suc n) index within =
-      ap₂ (or_later index) (same_at index (omega arith)) (first_same n (index + 1) (omega arith))
-
   pub source_search : (index : ℕ) → index ≤ length text → builtin_exec ctx.setting standard text index ≡ builtin_exec ctx.setting p text index
-  source_search index within = first_same (length text + 1 - index) index (omega arith)
+  source_search index within =
+      first_same (match_at ctx.setting standard text) (match_at ctx.setting p text) (length text + 1 - index) index
+      (λ k above below. same_at k (omega (arith, below, within)))
 
 -- ---- the end of a class
 

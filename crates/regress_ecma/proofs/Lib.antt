@@ -1,6 +1,8 @@
 pub mod lemmas
 mod Bridge
 mod Groups
+mod SetGroups
+mod Untouched
 mod CharacterSets
 mod Members
 mod Outside
@@ -10,6 +12,7 @@ mod FoldedSets
 mod FoldedElements
 mod Theorem
 mod BackReferences
+mod NamedReferences
 mod Strings
 mod Derived
 mod CaseData
@@ -27,3 +30,5 @@ mod EcmaSets
 mod Heads
 mod EcmaAtoms
 mod EcmaHeads
+mod InEcma
+mod EcmaMatching

@@ -25,6 +25,14 @@ use Rattle.regress_ecma.proofs.Theorem.{pattern_outcome}
 
 -- ---- the first match
 
+pub first_same : (at at' : ℕ → MatchResult) (n index : ℕ) → ((k : ℕ) → index ≤ k → k < index + n → at k ≡ at' k) →
+    first_match at n index ≡ first_match at' n index
+unfolding first_match
+first_same at at' zero index same = refl
+first_same at at' (suc n) index same =
+    ap₂ (or_later index) (same index (omega arith) (omega arith))
+    (first_same at at' n (index + 1) (λ k above below. same k (omega arith) (omega arith)))
+
 module _ (at : ℕ → MatchResult) where
   none_found : (n index : ℕ) → ((k : ℕ) → index ≤ k → k < index + n → at k ≡ None) → first_match at n index ≡ None
   unfolding first_match
@@ -118,13 +126,29 @@ pub record HasMeaning (setting : Setting) (t : Tree) (p : Pattern) : Type 0 wher
       matches setting (encode_utf8_all text) forwards t (byte_state text s) ≡ map (byte_state text) (meaning setting text forwards p s)
   pub groups : length (captures t) ≡ length (names p)
 
+-- the first outcome of the pattern from an index, with all groups unset, as a state of ECMA-262
+abbrev pub outcome_at : Setting → Pattern → (text : List ℕ) → (index : ℕ) → MatchResult
+outcome_at setting p text index =
+    option_map (state_on text) (slice_get (meaning setting text forwards p (record { position = index; captures = replicate (length (names p)) None })) 0)
+
+-- From each index of the text, the matcher of ECMA-262 for the second syntax tree returns the first outcome of the first one.
+abbrev pub Returns : Setting → (p q : Pattern) → (text : List ℕ) → Type 0
+Returns setting p q text = (index : ℕ) → index ≤ length text → match_at setting q text index ≡ outcome_at setting p text index
+
+-- RegExpBuiltinExec finds the first of these outcomes.
+pub exec_by_outcomes : (setting : Setting) (p q : Pattern) (text : List ℕ) → Returns setting p q text → (index : ℕ) → index ≤ length text →
+    builtin_exec setting q text index ≡ first_match (outcome_at setting p text) (length text + 1 - index) index
+exec_by_outcomes setting p q text returns index within =
+    first_same (match_at setting q text) (outcome_at setting p text) (length text + 1 - index) index
+    (λ k above below. returns k (omega (arith, below, within)))
+
 -- the outcomes of a tree at a byte offset, with all groups unset
 abbrev pub outcomes_from : Setting → (bytes : List ℕ) → Tree → (offset : ℕ) → List Steps.MatchState
 outcomes_from setting bytes t offset =
     matches setting bytes forwards t (record { position = offset; captures = replicate (length (captures t)) None })
 
-module _ (setting : Setting) (p : Pattern) (comparable : IsComparable setting p) (t : Tree) (means : HasMeaning setting t p)
-    (text : List ℕ) (is_text : IsText text) where
+module _ (setting : Setting) (p q : Pattern) (t : Tree) (means : HasMeaning setting t p) (text : List ℕ) (is_text : IsText text)
+    (returns : Returns setting p q text) where
   abbrev pub outcomes : (offset : ℕ) → List Steps.MatchState
   outcomes = outcomes_from setting (encode_utf8_all text) t
 
@@ -135,7 +159,7 @@ module _ (setting : Setting) (p : Pattern) (comparable : IsComparable setting p)
   both_ways None = refl
   both_ways (Some s) = refl
 
-  first_is : (k : ℕ) → k ≤ length text → slice_get (outcomes (byte_position text k)) 0 ≡ option_map in_bytes (match_at setting p text k)
+  first_is : (k : ℕ) → k ≤ length text → slice_get (outcomes (byte_position text k)) 0 ≡ option_map in_bytes (match_at setting q text k)
   first_is k within =
       let n = length (captures t) in
       let state : IsStateOf text (start n k) = record {
@@ -146,64 +170,82 @@ module _ (setting : Setting) (p : Pattern) (comparable : IsComparable setting p)
       ap (λ spans. matches setting (encode_utf8_all text) forwards t (record { position = byte_position text k; captures = spans }))
       (sym (unset_in_bytes text n))
       ∙ means.outcomes text (start n k) is_text state in
-      let to : match_at setting p text k ≡ option_map (state_on text) (slice_get (meaning setting text forwards p (start n k)) 0) =
-      pattern_outcome setting p comparable text is_text (length text + 1) (omega arith) k within
+      let to : match_at setting q text k ≡ option_map (state_on text) (slice_get (meaning setting text forwards p (start n k)) 0) =
+      returns k within
       ∙ ap (λ m. option_map (state_on text) (slice_get (meaning setting text forwards p (start m k)) 0)) (sym means.groups) in
       ap (λ xs. slice_get xs 0) from
       ∙ slice_get-map (byte_state text) (meaning setting text forwards p (start n k)) 0
       ∙ sym (both_ways (slice_get (meaning setting text forwards p (start n k)) 0))
       ∙ ap (option_map in_bytes) (sym to)
 
-  no_match : (k : ℕ) → k ≤ length text → outcomes (byte_position text k) ≡ [] → match_at setting p text k ≡ None
-  no_match k within none = is_none (match_at setting p text k) (sym (first_is k within) ∙ ap (λ xs. slice_get xs 0) none)
+  no_match : (k : ℕ) → k ≤ length text → outcomes (byte_position text k) ≡ [] → match_at setting q text k ≡ None
+  no_match k within none = is_none (match_at setting q text k) (sym (first_is k within) ∙ ap (λ xs. slice_get xs 0) none)
     where
       is_none : (r : MatchResult) → option_map in_bytes r ≡ None → r ≡ None
       is_none None e = refl
       is_none (Some x) e = absurd (cc)
 
-  input_of_match : (k : ℕ) → k ≤ length text → (x : MatchState) → match_at setting p text k ≡ Some x → x.input ≡ text
+  input_of_match : (k : ℕ) → k ≤ length text → (x : MatchState) → match_at setting q text k ≡ Some x → x.input ≡ text
   input_of_match k within x e =
       of_state (slice_get (meaning setting text forwards p (start (length (names p)) k)) 0)
-      (sym (pattern_outcome setting p comparable text is_text (length text + 1) (omega arith) k within) ∙ e)
+      (sym (returns k within) ∙ e)
     where
       of_state : (r : Option Steps.MatchState) → option_map (state_on text) r ≡ Some x → x.input ≡ text
       of_state None e = absurd (cc)
       of_state (Some s) e = let same : state_on text s ≡ x = cc in ap (λ y. y.input) (sym same)
 
   -- the leftmost match in bytes,
-  pub leftmost : (index offset : ℕ) → index ≤ length text → byte_position text index ≤ offset → IsCharBoundary (encode_utf8_all text) offset →
+  pub leftmost_returned : (index offset : ℕ) → index ≤ length text → byte_position text index ≤ offset → IsCharBoundary (encode_utf8_all text) offset →
       (s : Steps.MatchState) (rest : List Steps.MatchState) → outcomes offset ≡ s ∷ rest →
       ((o : ℕ) → byte_position text index ≤ o → o < offset → IsCharBoundary (encode_utf8_all text) o → outcomes o ≡ []) →
-      option_map found_in_bytes (builtin_exec setting p text index) ≡ Some (offset, s)
-  leftmost index offset within from on s rest first least =
+      option_map found_in_bytes (builtin_exec setting q text index) ≡ Some (offset, s)
+  leftmost_returned index offset within from on s rest first least =
       let k = index_at text is_text offset on in
-      let here : option_map in_bytes (match_at setting p text k.0) ≡ Some s =
+      let here : option_map in_bytes (match_at setting q text k.0) ≡ Some s =
       sym (first_is k.0 k.1.within) ∙ ap (λ xs. slice_get xs 0) (ap outcomes k.1.at ∙ first) in
       let order : index ≤ k.0 = index_order text is_text index k.0 within (omega (arith, from, k.1.at)) in
-      let none : (j : ℕ) → index ≤ j → j < k.0 → match_at setting p text j ≡ None =
+      let none : (j : ℕ) → index ≤ j → j < k.0 → match_at setting q text j ≡ None =
       λ j above below.
       no_match j (omega (arith, below, k.1.within))
       (least (byte_position text j) (byte_position-le text index j above (omega (arith, below, k.1.within)))
       (omega (arith, byte_position-lt text j k.0 below k.1.within, k.1.at)) (on_boundary text is_text j)) in
-      at_index k.0 k.1.within order none (match_at setting p text k.0) refl here k.1.at
+      at_index k.0 k.1.within order none (match_at setting q text k.0) refl here k.1.at
     where
-      at_index : (k : ℕ) → k ≤ length text → index ≤ k → ((j : ℕ) → index ≤ j → j < k → match_at setting p text j ≡ None) →
-          (r : MatchResult) → match_at setting p text k ≡ r → option_map in_bytes r ≡ Some s → byte_position text k ≡ offset →
-          option_map found_in_bytes (builtin_exec setting p text index) ≡ Some (offset, s)
+      at_index : (k : ℕ) → k ≤ length text → index ≤ k → ((j : ℕ) → index ≤ j → j < k → match_at setting q text j ≡ None) →
+          (r : MatchResult) → match_at setting q text k ≡ r → option_map in_bytes r ≡ Some s → byte_position text k ≡ offset →
+          option_map found_in_bytes (builtin_exec setting q text index) ≡ Some (offset, s)
       at_index k in_text order none None e here at = absurd (cc)
       at_index k in_text order none (Some x) e here at =
-          let found = one_found (match_at setting p text) (length text + 1 - index) index k x order (omega (arith, in_text, within)) e none in
+          let found = one_found (match_at setting q text) (length text + 1 - index) index k x order (omega (arith, in_text, within)) e none in
           let input = input_of_match k in_text x e in
           let state : in_bytes x ≡ s = cc in
           ap (option_map found_in_bytes) found
           ∙ ap₂ (λ o y. Some (o, y)) (ap (λ (input : List ℕ). byte_position input k) input ∙ at) state
 
   -- or none
-  pub nowhere : (index : ℕ) → index ≤ length text →
+  pub nowhere_returned : (index : ℕ) → index ≤ length text →
       ((o : ℕ) → byte_position text index ≤ o → IsCharBoundary (encode_utf8_all text) o → outcomes o ≡ []) →
-      builtin_exec setting p text index ≡ None
-  nowhere index within none =
-      none_found (match_at setting p text) (length text + 1 - index) index
+      builtin_exec setting q text index ≡ None
+  nowhere_returned index within none =
+      none_found (match_at setting q text) (length text + 1 - index) index
       (λ k above below.
       let in_text : k ≤ length text = omega (arith, below, within) in
       no_match k in_text (none (byte_position text k) (byte_position-le text index k above in_text) (on_boundary text is_text k)))
+
+-- ---- without a differing construct
+
+module _ (setting : Setting) (p : Pattern) (comparable : IsComparable setting p) (t : Tree) (means : HasMeaning setting t p)
+    (text : List ℕ) (is_text : IsText text) where
+  returned : Returns setting p p text
+  returned = pattern_outcome setting p comparable text is_text (length text + 1) (omega arith)
+
+  pub leftmost : (index offset : ℕ) → index ≤ length text → byte_position text index ≤ offset → IsCharBoundary (encode_utf8_all text) offset →
+      (s : Steps.MatchState) (rest : List Steps.MatchState) → outcomes_from setting (encode_utf8_all text) t offset ≡ s ∷ rest →
+      ((o : ℕ) → byte_position text index ≤ o → o < offset → IsCharBoundary (encode_utf8_all text) o → outcomes_from setting (encode_utf8_all text) t o ≡ []) →
+      option_map found_in_bytes (builtin_exec setting p text index) ≡ Some (offset, s)
+  leftmost = leftmost_returned setting p p t means text is_text returned
+
+  pub nowhere : (index : ℕ) → index ≤ length text →
+      ((o : ℕ) → byte_position text index ≤ o → IsCharBoundary (encode_utf8_all text) o → outcomes_from setting (encode_utf8_all text) t o ≡ []) →
+      builtin_exec setting p text index ≡ None
+  nowhere = nowhere_returned setting p p t means text is_text returned
