@@ -1,8 +1,7 @@
 -- The syntax trees of the grammar have the flags in force, and quantifiers in order.
-use Rattle.std.proofs.Common.{◌≡◌, ℕ, ◌≤◌, nat_le, Bool, true, false, not, ◌&&◌, ◌==◌, [], ◌∷◌, drop, Option, Some, None, if◌then◌else◌, refl, ap, subst, ◌∙◌, arith}
+use Rattle.std.proofs.Common.{◌≡◌, ℕ, ◌≤◌, nat_le, Bool, true, false, not, ◌&&◌, [], ◌∷◌, Option, Some, None, if◌then◌else◌, refl, ap, subst, ◌∙◌, arith}
 use Rattle.std.specs.Prelude.{IfSome}
 use Rattle.std.proofs.lemmas.Bool.Decides.{nat_tests}
-use Rattle.std.proofs.lemmas.Option.{none-some, same_Some}
 use Rattle.regress_base.specs.declared.charclasses.CharacterClassType.{CharacterClassType}
 use Rattle.regress_base.specs.declared.types.Flags.{Flags}
 use Rattle.regress_base.specs.declared.types.Quantifier.{Quantifier}
@@ -11,50 +10,22 @@ use Rattle.regress_lexer.specs.declared.dialect.Dialect.TheVariants.{Regress}
 use Rattle.regress_lexer.specs.Dialects.{compiles_case}
 use Rattle.regress_lexer.specs.Digits.{is_decimal, number, front}
 use Rattle.regress_lexer.specs.Escapes.{character_escape_at}
-use Rattle.regress_lexer.specs.Modifiers.{Change, changed, modifiers_at, switched as switched_to}
-use Rattle.regress_lexer.specs.Source.{Source, Found, ◌>>=◌, found_map, first_production, is_at, opening, colon, question_mark}
+use Rattle.regress_lexer.specs.Modifiers.{Change, changed, switched as switched_to}
+use Rattle.regress_lexer.specs.Source.{Source, Found, first_production}
 use Rattle.regress_lexer.proofs.lemmas.Sources.{EachProduction, no_more, ◌also◌, first_production-has}
 use Rattle.regress_classes.specs.ClassProductions.{class_letter, class_at}
 use Rattle.regress_classes.specs.ClassSets.{class_set_at}
 use Rattle.regress_classes.specs.Properties.{Property, of_points, of_strings, property_at}
 use Rattle.regress_syntax.specs.Grammar.{IsPattern, AreTerms, IsItem}
 use Rattle.regress_syntax.specs.Names.{group_name_at}
-use Rattle.regress_syntax.specs.Productions.{class_flags, class_parameters, complements_first, Context, context_inside, Head, single, opens, head_of_item, allows, head_at, optional_quantifier_at, character_at, property_atom, number_reference_at, name_reference_at, has_name, escape_productions, escaped_by, escaped_at, brackets_at, atom_productions, atom_by, angle_at, after_question_mark_at}
+use Rattle.regress_syntax.specs.Productions.{class_flags, class_parameters, complements_first, Context, context_inside, single, head_of_item, allows, head_at, optional_quantifier_at, character_at, property_atom, number_reference_at, name_reference_at, has_name, escape_productions, escaped_by, escaped_at, brackets_at, atom_productions, atom_by}
 use Rattle.regress_syntax.specs.Syntax.{Target, Atom, class_escape, class, back_reference, Group, grouping, modified, capture, look, Pattern, Terms, Item, one, either, no_terms, more_terms, atom, group}
 use Rattle.regress_syntax.proofs.lemmas.Productions.{optional_quantifier_at-ordered}
-use Rattle.regress_tree.specs.Reading.{forwards, backwards}
 use Rattle.regress_ecma.specs.Characters.{switched, update_modifiers}
 use Rattle.regress_ecma.specs.Compile.{flags_inside}
 use Rattle.regress_ecma.specs.Differences.{flags_of, IsInOrder, IsProper, AreProper, IsProperItem}
-
--- What is found has the property.
-pub record Holds {A : Type 0} (P : A → Type 0) (found : Found A) : Type 0 where
-  pub each : (x : A × Source) → found ≡ Some x → P x.0
-
-module _ {A : Type 0} (P : A → Type 0) where
-  pub holds_none : Holds P None
-  holds_none = record { each = λ x e. absurd (none-some x e) }
-
-  pub holds_some : (x : A) (t : Source) → P x → Holds P (Some (x, t))
-  holds_some x t h = record { each = λ y e. subst (λ (z : A × Source). P z.0) (same_Some (x, t) y e) h }
-
-  pub holds_if : (b : Bool) (f g : Found A) → Holds P f → Holds P g → Holds P (if b then f else g)
-  holds_if true f g first second = first
-  holds_if false f g first second = second
-
-pub holds_then : {A B : Type 0} (P : B → Type 0) (found : Found A) (next : A × Source → Found B) → ((x : A × Source) → Holds P (next x)) → Holds P (found >>= next)
-holds_then P None next h = holds_none P
-holds_then P (Some x) next h = h x
-
-pub holds_map : {A B : Type 0} (P : B → Type 0) (f : A → B) (found : Found A) → ((a : A) → P (f a)) → Holds P (found_map f found)
-holds_map P f None h = holds_none P
-holds_map P f (Some (a, t)) h = holds_some P (f a) t (h a)
-
--- The property of what a map makes of what is found.
-pub holds_found : {A B : Type 0} (P : B → Type 0) (f : A → B) (found : Found A) → ((a : A) (t : Source) → found ≡ Some (a, t) → P (f a)) →
-    Holds P (found_map f found)
-holds_found P f None h = holds_none P
-holds_found P f (Some (a, t)) h = holds_some P (f a) t (h a t refl)
+use Rattle.regress_ecma.proofs.Heads.{OfAtom, head_holds}
+use Rattle.regress_ecma.proofs.Holds.{Holds, holds_none, holds_some, holds_if, holds_then, holds_map}
 
 abbrev is_class : Atom → Bool
 is_class (class flags inverted members) = true
@@ -136,40 +107,11 @@ module _ (context : Context) where
       also (λ _. holds_some HasFlags _ t (λ _. refl))
       also no_more
 
-  abbrev HeadHasFlags : Head → Type 0
-  HeadHasFlags (single a) = HasFlags a
-  HeadHasFlags (opens kind) = Unit {0}
+  atom_holds : (c : ℕ) (t : Source) → Holds HasFlags (atom_by context c t)
+  atom_holds c t = first_production-has (Holds HasFlags) (atom_productions context c t) (holds_none HasFlags) (atoms_hold c t)
 
-  single_holds : (found : Found Atom) → Holds HasFlags found → Holds HeadHasFlags (found_map single found)
-  single_holds None h = holds_none HeadHasFlags
-  single_holds (Some (a, t)) h = holds_some HeadHasFlags (single a) t (h.each (a, t) refl)
-
-  opens_hold : (kind : Group) (t : Source) → Holds HeadHasFlags (Some (opens kind, t))
-  opens_hold kind t = holds_some HeadHasFlags (opens kind) t tt
-
-  map_opens : {A : Type 0} (kind : A → Group) (found : Found A) → Holds HeadHasFlags (found_map (λ a. opens (kind a)) found)
-  map_opens kind found = holds_map HeadHasFlags (λ a. opens (kind a)) found (λ a. tt)
-
-  angle_holds : (t : Source) → Holds HeadHasFlags (angle_at context.setting.table t)
-  angle_holds t =
-      holds_if HeadHasFlags (is_at 61 (drop 1 t)) _ _ (opens_hold (look false backwards) (drop 2 t))
-      (holds_if HeadHasFlags (is_at 33 (drop 1 t)) _ _ (opens_hold (look true backwards) (drop 2 t))
-      (map_opens (λ name. capture (Some name)) (group_name_at context.setting.table t)))
-
-  question_mark_holds : (t : Source) → Holds HeadHasFlags (after_question_mark_at context.setting.table t)
-  question_mark_holds t =
-      holds_if HeadHasFlags (is_at colon t) _ _ (opens_hold grouping (drop 1 t))
-      (holds_if HeadHasFlags (is_at 61 t) _ _ (opens_hold (look false forwards) (drop 1 t))
-      (holds_if HeadHasFlags (is_at 33 t) _ _ (opens_hold (look true forwards) (drop 1 t))
-      (holds_if HeadHasFlags (is_at 60 t) _ _ (angle_holds t) (map_opens modified (modifiers_at t)))))
-
-  head_holds : (t : Source) → Holds HeadHasFlags (head_at context t)
-  unfolding head_at
-  head_holds [] = holds_none HeadHasFlags
-  head_holds (c ∷ t) =
-      holds_if HeadHasFlags (c == opening) _ _
-      (holds_if HeadHasFlags (is_at question_mark t) _ _ (question_mark_holds (drop 1 t)) (opens_hold (capture None) t))
-      (single_holds (atom_by context c t) (first_production-has (Holds HasFlags) (atom_productions context c t) (holds_none HasFlags) (atoms_hold c t)))
+  single_holds : (t : Source) → Holds (OfAtom HasFlags) (head_at context t)
+  single_holds = head_holds context (λ _. HasFlags) atom_holds
 
 -- ---- quantifiers and modifiers
 
@@ -221,7 +163,7 @@ dialect_inside (look negate direction) ctx = refl
 atom_proper : (ctx : Context) → ctx.dialect ≡ Regress → (a : Atom) (t rest : Source) → head_at ctx t ≡ Some (single a, rest) →
     flags_of a ≡ ctx.setting.flags
 atom_proper ctx regress a t rest found =
-    (head_holds ctx t).each (single a, rest) found (ap (λ (dialect : Dialect). is_class a && compiles_case dialect) regress ∙ and_false (is_class a))
+    (single_holds ctx t).each (single a, rest) found (ap (λ (dialect : Dialect). is_class a && compiles_case dialect) regress ∙ and_false (is_class a))
   where
     and_false : (b : Bool) → (b && false) ≡ false
     and_false true = refl
@@ -230,7 +172,7 @@ atom_proper ctx regress a t rest found =
 -- In each dialect a reference has the flags in force.
 pub reference_proper : (ctx : Context) (flags : Flags) (to : Target) (t rest : Source) → head_at ctx t ≡ Some (single (back_reference flags to), rest) →
     flags ≡ ctx.setting.flags
-reference_proper ctx flags to t rest found = (head_holds ctx t).each (single (back_reference flags to), rest) found refl
+reference_proper ctx flags to t rest found = (single_holds ctx t).each (single (back_reference flags to), rest) found refl
 
 mutual
   pub derived_proper : (ctx : Context) → ctx.dialect ≡ Regress → (p : Pattern) (t rest : Source) → IsPattern ctx p t rest → IsProper ctx.setting.flags p

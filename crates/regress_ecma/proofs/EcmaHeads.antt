@@ -20,7 +20,7 @@ use Rattle.regress_syntax.specs.Productions.{class_parameters, class_flags, comp
 use Rattle.regress_syntax.specs.Syntax.{Name, Atom, literal, dot, anchor, boundary, class_escape, class, class_set, string_property, back_reference, by_number, by_name_if_set}
 use Rattle.regress_ecma.specs.Notation.{CharSet}
 use Rattle.regress_ecma.specs.Differences.{HasCaseDataOfUnicode}
-use Rattle.regress_ecma.proofs.Derived.{Holds, holds_none, holds_some, holds_if, holds_then, holds_map, holds_found}
+use Rattle.regress_ecma.proofs.Holds.{Holds, holds_none, holds_some, holds_if, holds_then, holds_map, holds_found}
 use Rattle.regress_ecma.proofs.EcmaAtoms.{AtomMatches, literal_matches, dot_matches, anchor_matches, boundary_matches, number_matches, escape_matches, class_matches, property_matches}
 use Rattle.regress_ecma.proofs.EcmaSets.{KeepsWords}
 use Rattle.regress_ecma.proofs.Heads.{head_holds}

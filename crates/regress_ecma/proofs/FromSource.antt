@@ -1,5 +1,5 @@
 -- Classes as they are written: their CharSets in ECMA-262 match what the classes of the syntax tree match.
-use Rattle.std.proofs.Common.{◌≡◌, ℕ, ◌+◌, ◌-◌, ◌<◌, ◌≤◌, nat_le, ◌==◌, Bool, true, false, ◌&&◌, ◌||◌, List, [], ◌∷◌, length, drop, slice_get, Option, Some, None, option_map, if◌then◌else◌, refl, sym, ap, ap₂, subst, ◌∙◌, arith}
+use Rattle.std.proofs.Common.{◌≡◌, ℕ, ◌+◌, ◌-◌, ◌<◌, ◌≤◌, nat_le, ◌==◌, Bool, true, false, ◌&&◌, ◌||◌, List, [], ◌∷◌, length, slice_get, Option, Some, None, option_map, if◌then◌else◌, refl, sym, ap, ap₂, subst, ◌∙◌, arith}
 use Rattle.std.proofs.Math.ListN.{replicate}
 use Rattle.std.proofs.lemmas.Bool.{eqb-true, false≢true, or_parts}
 use Rattle.std.proofs.lemmas.Option.{none-some, same_Some}
@@ -7,15 +7,14 @@ use Rattle.regress_base.specs.Table.{Table}
 use Rattle.regress_base.specs.declared.charclasses.CharacterClassType.{CharacterClassType}
 use Rattle.regress_base.specs.declared.types.Flags.{Flags}
 use Rattle.regress_tree.specs.Assertions.{differ}
-use Rattle.regress_tree.specs.Reading.{Direction, forwards, backwards, IsText}
+use Rattle.regress_tree.specs.Reading.{Direction, forwards, IsText}
 use Rattle.regress_tree.specs.Steps.{Setting}
 use Rattle.regress_base.specs.declared.types.AnchorType.TheVariants.{StartOfLine, EndOfLine}
 use Rattle.regress_lexer.specs.declared.dialect.Dialect.{Dialect}
 use Rattle.regress_lexer.specs.declared.dialect.Dialect.TheVariants.{Regress}
 use Rattle.regress_lexer.specs.Digits.{is_decimal, number, front}
 use Rattle.regress_lexer.specs.Escapes.{character_escape_at}
-use Rattle.regress_lexer.specs.Modifiers.{modifiers_at}
-use Rattle.regress_lexer.specs.Source.{Source, Found, ◌>>=◌, found_map, first_production, char, is_at, opening, colon, question_mark}
+use Rattle.regress_lexer.specs.Source.{Source, Found, ◌>>=◌, found_map, first_production, char}
 use Rattle.regress_lexer.proofs.lemmas.Sources.{EachProduction, no_more, ◌also◌, first_production-has}
 use Rattle.regress_classes.specs.ClassProductions.{class_letter, complement_if, class_at}
 use Rattle.regress_classes.specs.ClassProductions as ClassProductions
@@ -24,7 +23,7 @@ use Rattle.regress_classes.specs.Properties.{Property, of_points, of_strings, pr
 use Rattle.regress_syntax.specs.Grammar.{IsPattern, AreTerms, IsItem}
 use Rattle.regress_syntax.specs.Meaning.{is_in_class, atom_steps, meaning}
 use Rattle.regress_syntax.specs.Names.{group_name_at}
-use Rattle.regress_syntax.specs.Productions.{named_target, class_parameters, Context, context_inside, Head, single, opens, head_at, character_at, point_property, property_atom, number_reference_at, name_reference_at, has_name, escape_productions, escaped_by, escaped_at, brackets_at, atom_productions, atom_by, angle_at, after_question_mark_at}
+use Rattle.regress_syntax.specs.Productions.{named_target, class_parameters, Context, context_inside, single, head_at, character_at, point_property, property_atom, number_reference_at, name_reference_at, has_name, escape_productions, escaped_by, escaped_at, brackets_at, atom_productions, atom_by}
 use Rattle.regress_syntax.specs.Syntax.{Name, names, Atom, literal, dot, anchor, boundary, class_escape, class, class_set, string_property, back_reference, by_number, Group, grouping, modified, capture, look, Pattern, Terms, Item, one, either, no_terms, more_terms, atom, group}
 use Rattle.regress_ecma.specs.Notation.{CharSet}
 use Rattle.regress_ecma.specs.Assertions.{accept}
@@ -44,7 +43,9 @@ use Rattle.regress_ecma.proofs.CharacterSets.{Agrees-character}
 use Rattle.regress_ecma.proofs.ClassMembers.{IsCharSetOf, HasNoEnds, covers-same, covers-found, complement-same, property_is, class_follows}
 use Rattle.regress_ecma.proofs.ClassSetAtoms.{class_set_matches}
 use Rattle.regress_ecma.proofs.ClassSetMembers.{class_set_ends}
-use Rattle.regress_ecma.proofs.Derived.{dialect_inside, Holds, holds_none, holds_some, holds_if, holds_then, holds_map, holds_found}
+use Rattle.regress_ecma.proofs.Derived.{dialect_inside}
+use Rattle.regress_ecma.proofs.Heads.{head_holds}
+use Rattle.regress_ecma.proofs.Holds.{Holds, holds_none, holds_some, holds_if, holds_then, holds_map, holds_found}
 use Rattle.regress_ecma.proofs.Sets.{complement_is_set}
 use Rattle.regress_ecma.proofs.lemmas.Searches.{first_same}
 use Rattle.regress_ecma.proofs.Theorem.{HasFlagsOf, AtomAgrees, with_u_in, members_set, atom_agrees, IsLikeAtom, IsLike, like_one, like_either, AreLike, like_none, like_more, IsLikeItem, like_atom, like_group, names_like, like_outcome, unset_everywhere, pattern_outcome}
@@ -297,42 +298,9 @@ module _ (setting : Setting) (maps : HasCaseDataOfUnicode setting.table) (with_u
         also (λ _. holds_some (IsGood (c ∷ t)) (literal flags' c) t (alike (literal flags' c)))
         also no_more
 
-    abbrev HeadIsGood : Source → Head → Type 0
-    HeadIsGood s (single a) = IsGood s a
-    HeadIsGood s (opens kind) = Unit {0}
-
-    single_good : (s : Source) (found : Found Atom) → Holds (IsGood s) found → Holds (HeadIsGood s) (found_map single found)
-    single_good s None h = holds_none (HeadIsGood s)
-    single_good s (Some (a, t)) h = holds_some (HeadIsGood s) (single a) t (h.each (a, t) refl)
-
-    module _ (s : Source) where
-      opens_good : (kind : Group) (t : Source) → Holds (HeadIsGood s) (Some (opens kind, t))
-      opens_good kind t = holds_some (HeadIsGood s) (opens kind) t tt
-
-      map_good : {A : Type 0} (kind : A → Group) (found : Found A) → Holds (HeadIsGood s) (found_map (λ a. opens (kind a)) found)
-      map_good kind found = holds_map (HeadIsGood s) (λ a. opens (kind a)) found (λ a. tt)
-
-      angle_good : (t : Source) → Holds (HeadIsGood s) (angle_at context.setting.table t)
-      angle_good t =
-          holds_if (HeadIsGood s) (is_at 61 (drop 1 t)) _ _ (opens_good (look false backwards) (drop 2 t))
-          (holds_if (HeadIsGood s) (is_at 33 (drop 1 t)) _ _ (opens_good (look true backwards) (drop 2 t))
-          (map_good (λ name. capture (Some name)) (group_name_at context.setting.table t)))
-
-      question_mark_good : (t : Source) → Holds (HeadIsGood s) (after_question_mark_at context.setting.table t)
-      question_mark_good t =
-          holds_if (HeadIsGood s) (is_at colon t) _ _ (opens_good grouping (drop 1 t))
-          (holds_if (HeadIsGood s) (is_at 61 t) _ _ (opens_good (look false forwards) (drop 1 t))
-          (holds_if (HeadIsGood s) (is_at 33 t) _ _ (opens_good (look true forwards) (drop 1 t))
-          (holds_if (HeadIsGood s) (is_at 60 t) _ _ (angle_good t) (map_good modified (modifiers_at t)))))
-
-    head_good : (s : Source) → Holds (HeadIsGood s) (head_at context s)
-    unfolding head_at
-    head_good [] = holds_none (HeadIsGood [])
-    head_good (c ∷ t) =
-        holds_if (HeadIsGood (c ∷ t)) (c == opening) _ _
-        (holds_if (HeadIsGood (c ∷ t)) (is_at question_mark t) _ _ (question_mark_good (c ∷ t) (drop 1 t)) (opens_good (c ∷ t) (capture None) t))
-        (single_good (c ∷ t) (atom_by context c t)
-        (first_production-has (Holds (IsGood (c ∷ t))) (atom_productions context c t) (holds_none (IsGood (c ∷ t))) (atoms_good c t)))
+    atom_good : (c : ℕ) (t : Source) → Holds (IsGood (c ∷ t)) (atom_by context c t)
+    atom_good c t =
+        first_production-has (Holds (IsGood (c ∷ t))) (atom_productions context c t) (holds_none (IsGood (c ∷ t))) (atoms_good c t)
 
   -- ---- syntax trees
 
@@ -347,7 +315,7 @@ module _ (setting : Setting) (maps : HasCaseDataOfUnicode setting.table) (with_u
   atom_like ctx same regress a t rest =
       let Is : Dialect → Type 0 =
       λ dialect. head_at (record ctx { dialect = dialect }) t ≡ Some (single a, rest) → Like a (atom_of (record ctx { dialect = dialect }) a t) in
-      subst Is (sym regress) (λ found. (head_good ctx same t).each (single a, rest) found)
+      subst Is (sym regress) (λ found. (head_holds (context ctx same) (IsGood ctx same) (atom_good ctx same) t).each (single a, rest) found)
 
   abbrev LikePatterns : Pattern → Pattern → Type 0
   LikePatterns p q = IsLike setting maps with_u all text is_text fuel enough p q

@@ -7,7 +7,7 @@ use Rattle.regress_syntax.specs.Names.{group_name_at}
 use Rattle.regress_syntax.specs.Productions.{Context, Head, single, opens, head_at, atom_by, group_at, angle_at, after_question_mark_at}
 use Rattle.regress_syntax.specs.Syntax.{Atom, Group, grouping, modified, capture, look}
 use Rattle.regress_tree.specs.Reading.{forwards, backwards}
-use Rattle.regress_ecma.proofs.Derived.{Holds, holds_none, holds_some, holds_if, holds_map}
+use Rattle.regress_ecma.proofs.Holds.{Holds, holds_none, holds_some, holds_if, holds_map}
 
 module _ (table : Table) (P : Head → Type 0) (each : (kind : Group) → P (opens kind)) where
   opens_holds : (kind : Group) (t : Source) → Holds P (Some (opens kind, t))

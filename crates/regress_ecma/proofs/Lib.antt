@@ -14,6 +14,8 @@ mod Theorem
 mod BackReferences
 mod NamedReferences
 mod Strings
+mod Holds
+mod Heads
 mod Derived
 mod CaseData
 mod Follows
@@ -27,7 +29,6 @@ mod FromSource
 mod EcmaEscapes
 mod EcmaClasses
 mod EcmaSets
-mod Heads
 mod EcmaAtoms
 mod EcmaHeads
 mod InEcma
