@@ -9,8 +9,10 @@ use Rattle.regress_front.specs.Source.{Source}
 use Rattle.regress_front.specs.Syntax.{Pattern}
 use Rattle.regress_front.specs.Tree.{Tree}
 use Rattle.regress_front.specs.declared.parse.Dialect.{Dialect}
+use Rattle.regress_front.specs.declared.parse.Dialect.TheVariants.{Regress}
+use Rattle.regress_ecma.specs.Compared.{IsComparable}
 use Rattle.regress_ecma.specs.Exec.{builtin_exec, found_in_bytes}
-use Rattle.regress_ecma.proofs.lemmas.Searches.{HasMeaning, HasFirstOutcome, outcomes_from, decoded, leftmost, nowhere}
+use Rattle.regress_ecma.proofs.lemmas.Searches.{HasMeaning, Returns, returned, outcomes_from, decoded, leftmost, nowhere}
 use Rattle.regress_found.specs.Found.{outcomes_at, Finds, start_of, state_of}
 use Rattle.regress_parse.proofs.lemmas.{length-names, length-pattern_groups}
 use Rattle.std.proofs.lemmas.List.Sorted.{length_permutation}
@@ -31,33 +33,39 @@ has_meaning dialect setting source t is = record {
   groups = length_permutation _ _ is.captures ∙ length-pattern_groups is.pattern ∙ sym (length-names is.pattern);
 }
 
-over_characters : (setting : Setting) (p q : Pattern) (t : Tree) → HasMeaning setting t p → (text : List ℕ) → IsText text →
-    HasFirstOutcome setting p q text → (index : ℕ) → index ≤ length text → (found : Option Match) →
+over_characters : (setting : Setting) (p q : Pattern) (t : Tree) → HasMeaning setting t p → (text : List ℕ) → IsText text → Returns setting p q text →
+    (index : ℕ) → index ≤ length text → (found : Option Match) →
     Finds (encode_utf8_all text) (outcomes_from setting (encode_utf8_all text) t) (byte_position text index) found →
     IsMatchOf setting q text index found
-over_characters setting p q t means text is_text outcome index within None finds =
-    sym (ap (option_map found_in_bytes) (nowhere setting p q t means text is_text outcome index within finds))
-over_characters setting p q t means text is_text outcome index within (Some m) finds =
-    sym (leftmost setting p q t means text is_text outcome index (start_of m) within finds.from finds.boundary (state_of m) finds.first.0
+over_characters setting p q t means text is_text returns index within None finds =
+    sym (ap (option_map found_in_bytes) (nowhere setting p q t means text is_text returns index within finds))
+over_characters setting p q t means text is_text returns index within (Some m) finds =
+    sym (leftmost setting p q t means text is_text returns index (start_of m) within finds.from finds.boundary (state_of m) finds.first.0
     finds.first.1 finds.least)
 
--- What is found is the match of q, if the first outcomes are those of q.
-pub finds_match_from : (dialect : Dialect) (setting : Setting) (pattern : Source) (r : Regex) (compiled : IsCompiledFromIn dialect setting pattern r)
-    (q : Pattern) (text : List ℕ) → IsUtf8 text → (IsText (chars text) → HasFirstOutcome setting compiled.tree.pattern q (chars text)) →
-    (index : ℕ) → index ≤ length (chars text) → (found : Option Match) →
-    Finds text (outcomes_of r text) (byte_position (chars text) index) found → IsMatchOf setting q (chars text) index found
-finds_match_from dialect setting pattern r compiled q text utf8 outcome index within found finds =
+-- for a syntax tree of which the matcher of ECMA-262 returns the first outcome of the pattern
+pub finds_match_of : (dialect : Dialect) (setting : Setting) (pattern : Source) (r : Regex) (compiled : IsCompiledFromIn dialect setting pattern r)
+    (q : Pattern) (text : List ℕ) → IsUtf8 text → Returns setting compiled.tree.pattern q (chars text) → (index : ℕ) → index ≤ length (chars text) →
+    (found : Option Match) → Finds text (outcomes_of r text) (byte_position (chars text) index) found → IsMatchOf setting q (chars text) index found
+finds_match_of dialect setting pattern r compiled q text utf8 returns index within found finds =
     let means = has_meaning dialect setting pattern (tree_of r) compiled.tree in
     let start = byte_position (chars text) index in
-    let is_text = decoded text utf8 in
     let under_setting : Finds text (outcomes_from setting text (tree_of r)) start found =
     subst (λ (s : Setting). Finds text (outcomes_at s text (tree_of r)) start found) compiled.setting finds in
-    over_characters setting compiled.tree.pattern q (tree_of r) means (chars text) is_text (outcome is_text) index within found
+    over_characters setting compiled.tree.pattern q (tree_of r) means (chars text) (decoded text utf8) returns index within found
     (subst (λ (bytes : List ℕ). Finds bytes (outcomes_from setting bytes (tree_of r)) start found) (sym (encodes-chars text utf8)) under_setting)
 
-pub finds_match : (dialect : Dialect) (setting : Setting) (pattern : Source) (r : Regex) (compiled : IsCompiledFromIn dialect setting pattern r)
-    (q : Pattern) (text : List ℕ) → IsUtf8 text → (IsText (chars text) → HasFirstOutcome setting compiled.tree.pattern q (chars text)) →
-    (found : Option Match) → Finds text (outcomes_of r text) 0 found → IsMatchOf setting q (chars text) 0 found
-finds_match dialect setting pattern r compiled q text utf8 outcome found finds =
-    finds_match_from dialect setting pattern r compiled q text utf8 outcome 0 (omega arith) found
+pub finds_match_from : (setting : Setting) (pattern : Source) (r : Regex) (compiled : IsCompiledFromIn Regress setting pattern r) →
+    IsComparable setting compiled.tree.pattern → (text : List ℕ) → IsUtf8 text → (index : ℕ) → index ≤ length (chars text) →
+    (found : Option Match) → Finds text (outcomes_of r text) (byte_position (chars text) index) found →
+    IsMatchOf setting compiled.tree.pattern (chars text) index found
+finds_match_from setting pattern r compiled comparable text utf8 =
+    finds_match_of Regress setting pattern r compiled compiled.tree.pattern text utf8
+    (returned setting compiled.tree.pattern comparable (chars text) (decoded text utf8))
+
+pub finds_match : (setting : Setting) (pattern : Source) (r : Regex) (compiled : IsCompiledFromIn Regress setting pattern r) →
+    IsComparable setting compiled.tree.pattern → (text : List ℕ) → IsUtf8 text → (found : Option Match) →
+    Finds text (outcomes_of r text) 0 found → IsMatchOf setting compiled.tree.pattern (chars text) 0 found
+finds_match setting pattern r compiled comparable text utf8 found finds =
+    finds_match_from setting pattern r compiled comparable text utf8 0 (omega arith) found
     (subst (λ (o : ℕ). Finds text (outcomes_of r text) o found) (sym (byte_position-zero (chars text))) finds)

@@ -23,11 +23,16 @@ abbrev pub first_result : List ℕ → Continuation → List Steps.MatchState �
 first_result text c [] = failure
 first_result text c (s ∷ states) = option_or (c (state_on text s)) (first_result text c states)
 
--- In states of the text, the matcher of ECMA-262 returns the first result of its continuation on the outcomes, and these are
--- states of the text that are not against the direction.
-pub record Agrees (text : List ℕ) (d : Direction) (f : Steps.Matcher) (m : Matcher) : Type 0 where
-  pub same : (s : Steps.MatchState) → IsStateOf text s → (c : Continuation) → m (state_on text s) c ≡ first_result text c (f s)
-  pub reached : (s : Steps.MatchState) → IsStateOf text s → All (IsReached text d s) (f s)
+-- In the states of P, the matcher of ECMA-262 returns the first result of its continuation on the outcomes, and each
+-- outcome is related by Q to the state.
+pub record AgreesOn (text : List ℕ) (P : Steps.MatchState → Type 0) (Q : Steps.MatchState → Steps.MatchState → Type 0) (f : Steps.Matcher) (m : Matcher)
+    : Type 0 where
+  pub same : (s : Steps.MatchState) → P s → (c : Continuation) → m (state_on text s) c ≡ first_result text c (f s)
+  pub reached : (s : Steps.MatchState) → P s → All (Q s) (f s)
+
+-- In states of the text, and the outcomes are states of the text that are not against the direction.
+abbrev pub Agrees : (text : List ℕ) (d : Direction) → Steps.Matcher → Matcher → Type 0
+Agrees text d f m = AgreesOn text (IsStateOf text) (IsReached text d) f m
 
 pub or_failure : (r : MatchResult) → option_or r failure ≡ r
 or_failure None = refl
@@ -86,44 +91,87 @@ pub reached_itself : (text : List ℕ) (d : Direction) (s : Steps.MatchState) �
 reached_itself text d s in' =
     All-cons (IsReached text d s) s [] (record { state = in'; onward = IsOnward-refl d s.position }) (All-nil (IsReached text d s))
 
-reached_by_both : (text : List ℕ) (d : Direction) (r s : Steps.MatchState) → IsReached text d r s → (ts : List Steps.MatchState) →
-    All (IsReached text d s) ts → All (IsReached text d r) ts
-reached_by_both text d r s first ts all =
-    All-weaker (IsReached text d s) (IsReached text d r)
-    (λ t h. record { state = h.state; onward = IsOnward-trans d r.position s.position t.position first.onward h.onward }) ts all
+pub reached_by_both : (text : List ℕ) (d : Direction) (r s t : Steps.MatchState) → IsReached text d r s → IsReached text d s t → IsReached text d r t
+reached_by_both text d r s t first second = record {
+  state = second.state;
+  onward = IsOnward-trans d r.position s.position t.position first.onward second.onward;
+}
 
-flat_map-reached : (text : List ℕ) (d : Direction) (g : Steps.Matcher) → ((s : Steps.MatchState) → IsStateOf text s → All (IsReached text d s) (g s)) →
-    (r : Steps.MatchState) (states : List Steps.MatchState) → All (IsReached text d r) states → All (IsReached text d r) (flat_map g states)
-flat_map-reached text d g reaches r [] all = All-nil (IsReached text d r)
-flat_map-reached text d g reaches r (s ∷ states) all =
-    let here = All-head (IsReached text d r) s states all in
-    All-append (IsReached text d r) (g s) (flat_map g states) (reached_by_both text d r s here (g s) (reaches s here.state))
-    (flat_map-reached text d g reaches r states (All-tail (IsReached text d r) s states all))
+pub flat_map-all : (P Q : Steps.MatchState → Type 0) (g : Steps.Matcher) → ((s : Steps.MatchState) → P s → All Q (g s)) →
+    (states : List Steps.MatchState) → All P states → All Q (flat_map g states)
+flat_map-all P Q g each [] all = All-nil Q
+flat_map-all P Q g each (s ∷ states) all =
+    All-append Q (g s) (flat_map g states) (each s (All-head P s states all)) (flat_map-all P Q g each states (All-tail P s states all))
+
+-- What states have, and what relates a state to those reached from it, in any number of steps.
+pub record IsKept (text : List ℕ) (d : Direction) (P : Steps.MatchState → Type 0) (Q : Steps.MatchState → Steps.MatchState → Type 0) : Type 0 where
+  pub state : (s : Steps.MatchState) → P s → IsStateOf text s
+  pub reached : (s t : Steps.MatchState) → Q s t → IsReached text d s t
+  pub itself : (s : Steps.MatchState) → P s → Q s s
+  pub next : (s t : Steps.MatchState) → P s → Q s t → P t
+  pub both : (r s t : Steps.MatchState) → Q r s → Q s t → Q r t
+
+states_kept : (text : List ℕ) (d : Direction) → IsKept text d (IsStateOf text) (IsReached text d)
+states_kept text d = record {
+  state = λ s in'. in';
+  reached = λ s t reached. reached;
+  itself = λ s in'. record { state = in'; onward = IsOnward-refl d s.position };
+  next = λ s t in' reached. reached.state;
+  both = reached_by_both text d;
+}
 
 -- ---- the empty text, alternatives and sequences
 
-module _ (text : List ℕ) (d : Direction) where
-  pub Agrees-empty : Agrees text d stay empty_matcher
-  Agrees-empty = record { same = λ s in' c. sym (or_failure (c (state_on text s))); reached = λ s in'. reached_itself text d s in' }
+module _ (text : List ℕ) (P : Steps.MatchState → Type 0) (Q : Steps.MatchState → Steps.MatchState → Type 0) where
+  itself_only : ((s : Steps.MatchState) → P s → Q s s) → (s : Steps.MatchState) → P s → All (Q s) (s ∷ [])
+  itself_only itself s h = All-cons (Q s) s [] (itself s h) (All-nil (Q s))
 
-  pub Agrees-or : (f g : Steps.Matcher) (m n : Matcher) → Agrees text d f m → Agrees text d g n →
-      Agrees text d (f or_ g) (match_two_alternatives m n)
-  Agrees-or f g m n first second = record {
-    same = λ s in' c.
+  pub AgreesOn-empty : ((s : Steps.MatchState) → P s → Q s s) → AgreesOn text P Q stay empty_matcher
+  AgreesOn-empty itself = record { same = λ s h c. sym (or_failure (c (state_on text s))); reached = itself_only itself }
+
+  pub AgreesOn-or : (f g : Steps.Matcher) (m n : Matcher) → AgreesOn text P Q f m → AgreesOn text P Q g n →
+      AgreesOn text P Q (f or_ g) (match_two_alternatives m n)
+  AgreesOn-or f g m n first second = record {
+    same = λ s h c.
         else_or (m (state_on text s) c) (n (state_on text s) c)
-        ∙ ap₂ option_or (first.same s in' c) (second.same s in' c) ∙ sym (first_result-append text c (f s) (g s));
-    reached = λ s in'. All-append (IsReached text d s) (f s) (g s) (first.reached s in') (second.reached s in');
+        ∙ ap₂ option_or (first.same s h c) (second.same s h c) ∙ sym (first_result-append text c (f s) (g s));
+    reached = λ s h. All-append (Q s) (f s) (g s) (first.reached s h) (second.reached s h);
+  }
+
+  -- in fewer states, and with a wider relation
+  pub AgreesOn-fewer : (P' : Steps.MatchState → Type 0) (Q' : Steps.MatchState → Steps.MatchState → Type 0) (f : Steps.Matcher) (m : Matcher) →
+      AgreesOn text P' Q' f m → ((s : Steps.MatchState) → P s → P' s) → ((s t : Steps.MatchState) → P s → Q' s t → Q s t) → AgreesOn text P Q f m
+  AgreesOn-fewer P' Q' f m agrees fewer wider = record {
+    same = λ s h c. agrees.same s (fewer s h) c;
+    reached = λ s h. All-weaker (Q' s) (Q s) (λ t. wider s t h) (f s) (agrees.reached s (fewer s h));
   }
 
   -- f and then g, in this order
+  pub AgreesOn-then : (P' : Steps.MatchState → Type 0) (Q' Q'' : Steps.MatchState → Steps.MatchState → Type 0) →
+      ((s t : Steps.MatchState) → P s → Q s t → P' t) → ((s t u : Steps.MatchState) → P s → Q s t → Q' t u → Q'' s u) →
+      (f g : Steps.Matcher) (m n : Matcher) → AgreesOn text P Q f m → AgreesOn text P' Q' g n → AgreesOn text P Q'' (f then_ g) (λ x c. m x (λ y. n y c))
+  AgreesOn-then P' Q' Q'' next both f g m n first second = record {
+    same = λ s h c.
+        first.same s h (λ y. n y c)
+        ∙ first_result-then text (Q s) (λ y. n y c) c g (λ t k. second.same t (next s t h k) c) (f s) (first.reached s h);
+    reached = λ s h.
+        flat_map-all (Q s) (Q'' s) g
+        (λ t k. All-weaker (Q' t) (Q'' s) (λ u. both s t u h k) (g t) (second.reached t (next s t h k))) (f s) (first.reached s h);
+  }
+
+module _ (text : List ℕ) (d : Direction) where
+  pub Agrees-empty : Agrees text d stay empty_matcher
+  Agrees-empty = AgreesOn-empty text (IsStateOf text) (IsReached text d) (states_kept text d).itself
+
+  pub Agrees-or : (f g : Steps.Matcher) (m n : Matcher) → Agrees text d f m → Agrees text d g n →
+      Agrees text d (f or_ g) (match_two_alternatives m n)
+  Agrees-or f g m n = AgreesOn-or text (IsStateOf text) (IsReached text d) f g m n
+
   pub Agrees-then : (f g : Steps.Matcher) (m n : Matcher) → Agrees text d f m → Agrees text d g n →
       Agrees text d (f then_ g) (λ x c. m x (λ y. n y c))
-  Agrees-then f g m n first second = record {
-    same = λ s in' c.
-        first.same s in' (λ y. n y c)
-        ∙ first_result-then text (IsReached text d s) (λ y. n y c) c g (λ t h. second.same t h.state c) (f s) (first.reached s in');
-    reached = λ s in'. flat_map-reached text d g second.reached s (f s) (first.reached s in');
-  }
+  Agrees-then =
+      AgreesOn-then text (IsStateOf text) (IsReached text d) (IsStateOf text) (IsReached text d) (IsReached text d)
+      (λ s t in' reached. reached.state) (λ r s t in' first second. reached_by_both text d r s t first second)
 
 -- ---- quantifiers
 
@@ -197,24 +245,40 @@ choose : (b : Bool) (r q : MatchResult) → (b ≡ false → r ≡ q) → (if b 
 choose true r q h = refl
 choose false r q h = h refl
 
-module _ (text : List ℕ) (d : Direction) (f : Steps.Matcher) (m : Matcher) (agrees : Agrees text d f m) (start count : ℕ) where
+pub unset-within : (text : List ℕ) (start end : ℕ) (s : Steps.MatchState) → IsStateOf text s → IsStateOf text (unset start end s)
+unset-within text start end s in' = record {
+  position = in'.position;
+  captures = unset_from-within text 0 start end s.captures in'.captures;
+}
+
+-- the body of a loop, in one iteration
+abbrev IterationAgrees : (text : List ℕ) (P : Steps.MatchState → Type 0) (Q : Steps.MatchState → Steps.MatchState → Type 0) (f : Steps.Matcher) (m : Matcher)
+    (start count : ℕ) → Type 0
+IterationAgrees text P Q f m start count =
+    AgreesOn text P Q (iteration start (start + count) f) (λ x c. m (record x { captures = with_undefined 1 start count x.captures }) c)
+
+iteration_agrees : (text : List ℕ) (P P' : Steps.MatchState → Type 0) (Q Q' : Steps.MatchState → Steps.MatchState → Type 0) (f : Steps.Matcher) (m : Matcher)
+    (start count : ℕ) → AgreesOn text P' Q' f m → ((s : Steps.MatchState) → P s → P' (unset start (start + count) s)) →
+    ((s t : Steps.MatchState) → P s → Q' (unset start (start + count) s) t → Q s t) → IterationAgrees text P Q f m start count
+iteration_agrees text P P' Q Q' f m start count agrees enter leave = record {
+  same = λ s h c.
+      ap (λ cs. m (record (state_on text s) { captures = cs }) c) (undefined_same start count 1 0 refl s.captures)
+      ∙ agrees.same (unset start (start + count) s) (enter s h) c;
+  reached = λ s h.
+      All-weaker (Q' (unset start (start + count) s)) (Q s) (λ t. leave s t h) (iteration start (start + count) f s)
+      (agrees.reached (unset start (start + count) s) (enter s h));
+}
+
+module _ (text : List ℕ) (d : Direction) (P : Steps.MatchState → Type 0) (Q : Steps.MatchState → Steps.MatchState → Type 0) (kept : IsKept text d P Q)
+    (f : Steps.Matcher) (m : Matcher) (start count : ℕ) (once : IterationAgrees text P Q f m start count) where
   abbrev G : Steps.Matcher
   G = iteration start (start + count) f
 
-  unset-within : (s : Steps.MatchState) → IsStateOf text s → IsStateOf text (unset start (start + count) s)
-  unset-within s in' = record { position = in'.position; captures = unset_from-within text 0 start (start + count) s.captures in'.captures }
-
-  iteration-reached : (s : Steps.MatchState) → IsStateOf text s → All (IsReached text d s) (G s)
-  iteration-reached s in' =
-      let all = agrees.reached (unset start (start + count) s) (unset-within s in') in
-      All-weaker (IsReached text d (unset start (start + count) s)) (IsReached text d s)
-      (λ t h. record { state = h.state; onward = h.onward }) (G s) all
-
-  once : (s : Steps.MatchState) → IsStateOf text s → (e : Continuation) →
-      m (record (state_on text s) { captures = with_undefined 1 start count s.captures }) e ≡ first_result text e (G s)
-  once s in' e =
-      ap (λ cs. m (record (state_on text s) { captures = cs }) e) (undefined_same start count 1 0 refl s.captures)
-      ∙ agrees.same (unset start (start + count) s) (unset-within s in') e
+  and_then : (g : Steps.Matcher) → ((s : Steps.MatchState) → P s → All (Q s) (g s)) → (r : Steps.MatchState) → P r →
+      (states : List Steps.MatchState) → All (Q r) states → All (Q r) (flat_map g states)
+  and_then g each r h states all =
+      flat_map-all (Q r) (Q r) g
+      (λ s k. All-weaker (Q s) (Q r) (λ t. kept.both r s t k) (g s) (each s (kept.next r s h k))) states all
 
   -- ---- past the minimum
 
@@ -224,20 +288,20 @@ module _ (text : List ℕ) (d : Direction) (f : Steps.Matcher) (m : Matcher) (ag
 
   abbrev IsNext : (greedy : Bool) (fuel n : ℕ) (max : Option ℕ) (s : Steps.MatchState) (c : Continuation) → Type 0
   IsNext greedy fuel n max s c =
-      (t : Steps.MatchState) → IsStateOf text t → left d text t.position < left d text s.position →
+      (t : Steps.MatchState) → P t → left d text t.position < left d text s.position →
       repeat_matcher fuel m 0 (one_less max) greedy (state_on text t) c start count ≡ first_result text c (up_to greedy n G t)
 
-  one_more : (greedy : Bool) (fuel n : ℕ) (max : Option ℕ) (s : Steps.MatchState) (c : Continuation) → IsStateOf text s →
+  one_more : (greedy : Bool) (fuel n : ℕ) (max : Option ℕ) (s : Steps.MatchState) (c : Continuation) → P s →
       IsNext greedy fuel n max s c →
       m (record (state_on text s) { captures = with_undefined 1 start count s.captures }) (after_iteration greedy fuel max s c)
       ≡ first_result text c (flat_map (up_to greedy n G) (moving G s))
   one_more greedy fuel n max s c in' next =
-      once s in' (after_iteration greedy fuel max s c)
-      ∙ first_result-filter text (IsReached text d s) (λ t. not (t.position == s.position)) (after_iteration greedy fuel max s c) c (up_to greedy n G)
-      (λ t h. choose (t.position == s.position) _ _ (λ moved. next t h.state (less_left d text s t h moved)))
-      (G s) (iteration-reached s in')
+      once.same s in' (after_iteration greedy fuel max s c)
+      ∙ first_result-filter text (Q s) (λ t. not (t.position == s.position)) (after_iteration greedy fuel max s c) c (up_to greedy n G)
+      (λ t h. choose (t.position == s.position) _ _ (λ moved. next t (kept.next s t in' h) (less_left d text s t (kept.reached s t h) moved)))
+      (G s) (once.reached s in')
 
-  goes_on : (greedy : Bool) (fuel n : ℕ) (max : Option ℕ) (s : Steps.MatchState) (c : Continuation) → IsStateOf text s →
+  goes_on : (greedy : Bool) (fuel n : ℕ) (max : Option ℕ) (s : Steps.MatchState) (c : Continuation) → P s →
       is_none_allowed max ≡ false → IsNext greedy fuel n max s c →
       repeat_matcher (suc fuel) m 0 max greedy (state_on text s) c start count ≡ first_result text c (up_to greedy (suc n) G s)
   unfolding repeat_matcher
@@ -251,7 +315,7 @@ module _ (text : List ℕ) (d : Direction) (f : Steps.Matcher) (m : Matcher) (ag
       (else_or (c (state_on text s)) _
       ∙ ap (option_or (c (state_on text s))) (one_more false fuel n max s c in' next))
 
-  past_minimum : (greedy : Bool) (fuel n : ℕ) (max : Option ℕ) (s : Steps.MatchState) (c : Continuation) → IsStateOf text s →
+  past_minimum : (greedy : Bool) (fuel n : ℕ) (max : Option ℕ) (s : Steps.MatchState) (c : Continuation) → P s →
       left d text s.position < fuel → IsBound n max (left d text s.position) →
       repeat_matcher fuel m 0 max greedy (state_on text s) c start count ≡ first_result text c (up_to greedy n G s)
   unfolding repeat_matcher
@@ -270,10 +334,9 @@ module _ (text : List ℕ) (d : Direction) (f : Steps.Matcher) (m : Matcher) (ag
 
   -- ---- the minimum
 
-  iterations-reached : (n : ℕ) (s : Steps.MatchState) → IsStateOf text s → All (IsReached text d s) (iterations n G s)
-  iterations-reached zero s in' = reached_itself text d s in'
-  iterations-reached (suc n) s in' =
-      flat_map-reached text d (iterations n G) (iterations-reached n) s (G s) (iteration-reached s in')
+  iterations-reached : (n : ℕ) (s : Steps.MatchState) → P s → All (Q s) (iterations n G s)
+  iterations-reached zero s in' = itself_only text P Q kept.itself s in'
+  iterations-reached (suc n) s in' = and_then (iterations n G) (iterations-reached n) s in' (G s) (once.reached s in')
 
   abbrev IsRepeated : (greedy : Bool) (fuel n min : ℕ) (max : Option ℕ) (s : Steps.MatchState) (c : Continuation) → Type 0
   IsRepeated greedy fuel n min max s c =
@@ -281,8 +344,8 @@ module _ (text : List ℕ) (d : Direction) (f : Steps.Matcher) (m : Matcher) (ag
       ≡ first_result text c ((iterations min G then_ up_to greedy n G) s)
 
   -- one iteration of the minimum
-  first_iteration : (greedy : Bool) (fuel n min : ℕ) (max : Option ℕ) (s : Steps.MatchState) (c : Continuation) → IsStateOf text s →
-      is_none_allowed max ≡ false → ((t : Steps.MatchState) → IsStateOf text t → IsRepeated greedy fuel n min (one_less max) t c) →
+  first_iteration : (greedy : Bool) (fuel n min : ℕ) (max : Option ℕ) (s : Steps.MatchState) (c : Continuation) → P s →
+      is_none_allowed max ≡ false → ((t : Steps.MatchState) → P t → IsRepeated greedy fuel n min (one_less max) t c) →
       IsRepeated greedy (suc fuel) n (suc min) max s c
   unfolding repeat_matcher
   first_iteration greedy fuel n min max s c in' some next =
@@ -292,33 +355,33 @@ module _ (text : List ℕ) (d : Direction) (f : Steps.Matcher) (m : Matcher) (ag
       let xr : MatchState = record (state_on text s) { captures = with_undefined 1 start count s.captures } in
       rw (some, some_left)
       (ap (λ (k : ℕ). m xr (λ y. repeat_matcher fuel m k (one_less max) greedy y c start count)) before
-      ∙ once s in' rest
-      ∙ first_result-then text (IsReached text d s) rest c (iterations min G then_ up_to greedy n G) (λ t h. next t h.state)
-      (G s) (iteration-reached s in')
+      ∙ once.same s in' rest
+      ∙ first_result-then text (Q s) rest c (iterations min G then_ up_to greedy n G) (λ t h. next t (kept.next s t in' h))
+      (G s) (once.reached s in')
       ∙ ap (first_result text c) (flat_map-then (iterations min G) (up_to greedy n G) (G s)))
 
-  repeated : (greedy : Bool) (fuel n min : ℕ) (max : Option ℕ) (s : Steps.MatchState) (c : Continuation) → IsStateOf text s →
+  repeated : (greedy : Bool) (fuel n min : ℕ) (max : Option ℕ) (s : Steps.MatchState) (c : Continuation) → P s →
       min + length text < fuel → IsAtLeast min max → IsBound n (less_by min max) (length text) → IsRepeated greedy fuel n min max s c
   repeated greedy zero n min max s c in' enough least bound = absurd (omega arith)
   repeated greedy (suc fuel) n zero max s c in' enough least bound =
-      let within = left-le d text s.position in'.position in
+      let within = left-le d text s.position (kept.state s in').position in
       past_minimum greedy (suc fuel) n max s c in' (omega (arith, within)) (bound_of_rest n (length text) _ max within bound)
       ∙ ap (first_result text c) (sym (append-nil (up_to greedy n G s)))
   repeated greedy (suc fuel) n (suc min) max s c in' enough least bound =
       first_iteration greedy fuel n min max s c in' (some_allowed min max least)
       (λ t h. repeated greedy fuel n min (one_less max) t c h (omega arith) (at_least_less min max least) (bound_of_less n min (length text) max least bound))
 
-  up_to-reached : (greedy : Bool) (n : ℕ) (s : Steps.MatchState) → IsStateOf text s → All (IsReached text d s) (up_to greedy n G s)
-  up_to-reached greedy zero s in' = reached_itself text d s in'
+  up_to-reached : (greedy : Bool) (n : ℕ) (s : Steps.MatchState) → P s → All (Q s) (up_to greedy n G s)
+  up_to-reached greedy zero s in' = itself_only text P Q kept.itself s in'
   up_to-reached true (suc n) s in' =
-      All-append (IsReached text d s) (flat_map (up_to true n G) (moving G s)) (s ∷ [])
-      (flat_map-reached text d (up_to true n G) (up_to-reached true n) s (moving G s)
-      (All-filter (λ t. not (t.position == s.position)) (IsReached text d s) (G s) (iteration-reached s in')))
-      (reached_itself text d s in')
+      All-append (Q s) (flat_map (up_to true n G) (moving G s)) (s ∷ [])
+      (and_then (up_to true n G) (up_to-reached true n) s in' (moving G s)
+      (All-filter (λ t. not (t.position == s.position)) (Q s) (G s) (once.reached s in')))
+      (itself_only text P Q kept.itself s in')
   up_to-reached false (suc n) s in' =
-      All-append (IsReached text d s) (s ∷ []) (flat_map (up_to false n G) (moving G s)) (reached_itself text d s in')
-      (flat_map-reached text d (up_to false n G) (up_to-reached false n) s (moving G s)
-      (All-filter (λ t. not (t.position == s.position)) (IsReached text d s) (G s) (iteration-reached s in')))
+      All-append (Q s) (s ∷ []) (flat_map (up_to false n G) (moving G s)) (itself_only text P Q kept.itself s in')
+      (and_then (up_to false n G) (up_to-reached false n) s in' (moving G s)
+      (All-filter (λ t. not (t.position == s.position)) (Q s) (G s) (once.reached s in')))
 
 extra_bound : (text : List ℕ) (q : Quantifier) → IsQuantifier q →
     IsAtLeast q.min q.max × IsBound (extra_iterations (length text + 1) q) (less_by q.min q.max) (length text)
@@ -329,19 +392,33 @@ extra_bound text q is =
       | Some max ↦ λ h. (h, (omega arith, λ short. omega arith))
     ]) is
 
--- A quantified part: RepeatMatcher with enough fuel, and a loop of the dialect.
+-- A quantified part: RepeatMatcher with enough fuel, and a loop of the dialect. Each iteration enters a state of the body
+-- and leaves it in one of the loop.
+pub AgreesOn-repeat : (text : List ℕ) (d : Direction) (P P' : Steps.MatchState → Type 0) (Q Q' : Steps.MatchState → Steps.MatchState → Type 0) →
+    IsKept text d P Q → (f : Steps.Matcher) (m : Matcher) → AgreesOn text P' Q' f m → (start count : ℕ) →
+    ((s : Steps.MatchState) → P s → P' (unset start (start + count) s)) →
+    ((s t : Steps.MatchState) → P s → Q' (unset start (start + count) s) t → Q s t) → (q : Quantifier) →
+    IsQuantifier q → (fuel : ℕ) → length text < fuel →
+    AgreesOn text P Q (Repetition.repeat_matcher (length text + 1) q start (start + count) f)
+    (λ x c. repeat_matcher (q.min + fuel) m q.min q.max q.greedy x c start count)
+unfolding Repetition.repeat_matcher
+AgreesOn-repeat text d P P' Q Q' kept f m agrees start count enter leave q is fuel enough =
+    let bounds = extra_bound text q is in
+    let n : ℕ = extra_iterations (length text + 1) q in
+    let once = iteration_agrees text P P' Q Q' f m start count agrees enter leave in
+    record {
+      same = λ s h c.
+          repeated text d P Q kept f m start count once q.greedy (q.min + fuel) n q.min q.max s c h (omega arith) bounds.0 bounds.1;
+      reached = λ s h.
+          and_then text d P Q kept f m start count once (up_to q.greedy n (iteration start (start + count) f))
+          (up_to-reached text d P Q kept f m start count once q.greedy n) s h
+          (iterations q.min (iteration start (start + count) f) s) (iterations-reached text d P Q kept f m start count once q.min s h);
+    }
+
 pub Agrees-repeat : (text : List ℕ) (d : Direction) (f : Steps.Matcher) (m : Matcher) → Agrees text d f m → (start count : ℕ) (q : Quantifier) →
     IsQuantifier q → (fuel : ℕ) → length text < fuel →
     Agrees text d (Repetition.repeat_matcher (length text + 1) q start (start + count) f)
     (λ x c. repeat_matcher (q.min + fuel) m q.min q.max q.greedy x c start count)
-unfolding Repetition.repeat_matcher
-Agrees-repeat text d f m agrees start count q is fuel enough =
-    let bounds = extra_bound text q is in
-    let n : ℕ = extra_iterations (length text + 1) q in
-    record {
-      same = λ s in' c.
-          repeated text d f m agrees start count q.greedy (q.min + fuel) n q.min q.max s c in' (omega arith) bounds.0 bounds.1;
-      reached = λ s in'.
-          flat_map-reached text d (up_to q.greedy n (iteration start (start + count) f)) (up_to-reached text d f m agrees start count q.greedy n) s
-          (iterations q.min (iteration start (start + count) f) s) (iterations-reached text d f m agrees start count q.min s in');
-    }
+Agrees-repeat text d f m agrees start count =
+    AgreesOn-repeat text d (IsStateOf text) (IsStateOf text) (IsReached text d) (IsReached text d) (states_kept text d) f m agrees start count
+    (unset-within text start (start + count)) (λ s t in' reached. record { state = reached.state; onward = reached.onward })

@@ -9,25 +9,23 @@ use Rattle.regress_base.specs.declared.charclasses.CharacterClassType.{Character
 use Rattle.regress_base.specs.declared.charclasses.CharacterClassType.TheVariants.{Digits, Spaces, Words}
 use Rattle.regress_base.specs.declared.types.Flags.{Flags}
 use Rattle.regress_base.proofs.lemmas.Sets.{is_member-nil, is_member-append, canonical_is, intervals_of-agree, intervals_of-member}
-use Rattle.regress_lexer.specs.Digits.{is_decimal, is_letter}
-use Rattle.regress_lexer.specs.Dialects.{reserves_k}
-use Rattle.regress_lexer.specs.Escapes.{character_escape_at}
-use Rattle.regress_lexer.specs.Source.{Source, Found, first_production, char, is_one_of, is_at}
+use Rattle.regress_lexer.specs.Source.{Source, Found, char, is_at}
 use Rattle.regress_lexer.specs.declared.dialect.Dialect.TheVariants.{Regress}
 use Rattle.regress_classes.specs.declared.parameters.Parameters.{Parameters}
 use Rattle.regress_classes.specs.ClassProductions.{members_of, class_letter, complement_if, class_members, point, set, one_point, atom_members, class_control_at, class_property, class_property_at, class_escape_productions, begins_range, members_with_hyphen, points_between, range_of, class_parts_by, class_at}
 use Rattle.regress_classes.specs.ClassProductions as ClassProductions
-use Rattle.regress_classes.specs.Properties.{Property, of_points, of_strings, property_at}
 use Rattle.regress_ecma.specs.Notation.{CharSet}
 use Rattle.regress_ecma.specs.Characters.{canonicalize, has_some, all_characters, character_complement, word_characters, is_extra_word_character, class_escape_set, character_class_escape, maybe_simple_case_folding as fold_characters}
 use Rattle.regress_ecma.specs.Atoms.{one_character}
-use Rattle.regress_ecma.specs.ClassNodes.{ClassAtom, character, class_escape, property, ClassContents, empty, atom_then, range_then, CharacterClass}
-use Rattle.regress_ecma.specs.CharSets.{Elements, only, union, character_of, range_or_union, maybe_simple_case_folding, atom_to_char_set, compile_to_char_set}
-use Rattle.regress_ecma.specs.ClassGrammar.{property_node, control_at, escape_productions, class_escape_at, class_atom_at, class_part_at, class_ranges_by, character_class_at}
+use Rattle.regress_ecma.specs.ClassNodes.{ClassAtom, character, property, ClassContents, empty, atom_then, range_then, CharacterClass}
+use Rattle.regress_ecma.specs.CharSets.{Elements, only, character_of, range_or_union, maybe_simple_case_folding, atom_to_char_set, compile_to_char_set}
+use Rattle.regress_ecma.specs.ClassGrammar.{class_atom_at, class_part_at, class_ranges_by, character_class_at}
 use Rattle.regress_ecma.specs.CharacterMatchers.{is_found}
 use Rattle.regress_ecma.specs.Differences.{HasCaseDataOfUnicode, has_ends}
-use Rattle.regress_ecma.proofs.Follows.{Follows, follows_none, follows_some, follows_if, follows_then, follows_map, follows_same}
+use Rattle.regress_ecma.proofs.ClassAtoms.{IsAtomOf as AtomOf, HasRelatedSets, atom_follows as each_atom_follows, with_hyphen, first_none, last_none}
+use Rattle.regress_ecma.proofs.Follows.{Follows, follows_none, follows_some, follows_if, follows_then, follows_map}
 use Rattle.regress_ecma.proofs.IgnoredCase.{member_passes}
+use Rattle.regress_ecma.proofs.SameSets.{in_left, in_right}
 use Rattle.regress_ecma.proofs.Sets.{same_truth, canonicalize-same, canonicalize-none, found_if, found_plain, found_gives, found_from, member_all}
 
 -- The set has the members, and others only with their canonical forms.
@@ -54,16 +52,6 @@ module _ (table : Table) (rer : Flags) where
       from = λ c member. (c, ap (λ (s : CharSet). is_member s c) (sym same) ∙ member, refl);
     };
   }
-
-  in_left : (a b : CharSet) (c : ℕ) → is_member a c ≡ true → is_member (a ++ b) c ≡ true
-  in_left a b c member = is_member-append a b c ∙ ap (λ (x : Bool). x || is_member b c) member
-
-  in_right : (a b : CharSet) (c : ℕ) → is_member b c ≡ true → is_member (a ++ b) c ≡ true
-  in_right a b c member = is_member-append a b c ∙ ap (λ (x : Bool). is_member a c || x) member ∙ or_true (is_member a c)
-    where
-      or_true : (x : Bool) → (x || true) ≡ true
-      or_true true = refl
-      or_true false = refl
 
   -- a member of a union is one of the first or of the second
   in_either : (a b : CharSet) (c : ℕ) → is_member (a ++ b) c ≡ true → (is_member a c ≡ true) ⊎ (is_member b c ≡ true)
@@ -146,7 +134,7 @@ module _ (table : Table) (maps : HasCaseDataOfUnicode table) (rer : Flags) (with
         intervals_of-agree (λ c. is_member (all_characters table rer) c && not (is_member members c)) (λ c. not (is_member members c))
         (λ c le. ap (λ (b : Bool). b && not (is_member members c)) (all_are c le))
 
-    folded_words : class_escape_set table rer Words ≡ word_characters table rer
+    pub folded_words : class_escape_set table rer Words ≡ word_characters table rer
     folded_words =
         ap (λ (b : Bool). if b then intervals_of (λ c. has_some (λ ch. table.fold ch == c) (word_characters table rer)) else word_characters table rer) no_fold
 
@@ -165,7 +153,7 @@ module _ (table : Table) (maps : HasCaseDataOfUnicode table) (rer : Flags) (with
         by_test false e false f = ap₂ (λ (a b : Bool). not a && b) e f
         by_test false e true f = absurd (false≢true (sym e ∙ maps.upper_words c (sym (ap is_basic upper) ∙ f)))
 
-    words_plain : (rer.unicode && rer.icase) ≡ false → word_characters table rer ≡ basic_word_characters
+    pub words_plain : (rer.unicode && rer.icase) ≡ false → word_characters table rer ≡ basic_word_characters
     words_plain none = by_test rer.icase refl rer.unicode refl none
       where
         by_test : (i : Bool) → rer.icase ≡ i → (u : Bool) → rer.unicode ≡ u → (u && i) ≡ false → word_characters table rer ≡ basic_word_characters
@@ -179,7 +167,7 @@ module _ (table : Table) (maps : HasCaseDataOfUnicode table) (rer : Flags) (with
 
     words_cover : rer.icase ≡ true → rer.unicode ≡ true → Covers table rer (word_characters table rer) basic_word_characters
     words_cover icase u = record {
-      has = λ c member. ap (λ (s : CharSet). is_member s c) words ∙ in_left table rer basic_word_characters extra c member;
+      has = λ c member. ap (λ (s : CharSet). is_member s c) words ∙ in_left basic_word_characters extra c member;
       from = λ c member.
           ⊎_elim
           (λ (h : is_basic c ≡ true). (c, h, refl))
@@ -255,8 +243,7 @@ module _ (table : Table) (maps : HasCaseDataOfUnicode table) (rer : Flags) (with
     -- ---- atoms
 
     abbrev IsAtomOf : ClassAtom → ClassProductions.ClassAtom → Type 0
-    IsAtomOf node (point c) = node ≡ character c
-    IsAtomOf node (set members) = (character_of node ≡ None) × IsCharSetOf table rer (atom_to_char_set table rer node).characters members
+    IsAtomOf = AtomOf table rer (IsCharSetOf table rer)
 
     atom_is : (node : ClassAtom) (a : ClassProductions.ClassAtom) → IsAtomOf node a →
         IsCharSetOf table rer (atom_to_char_set table rer node).characters (atom_members false a)
@@ -266,66 +253,18 @@ module _ (table : Table) (maps : HasCaseDataOfUnicode table) (rer : Flags) (with
         ∙ ap (λ (a : Elements). a.characters) (no_folding (only (one_character c))))
     atom_is node (set members) is = is.1
 
-    control_follows : (t : Source) → Follows IsAtomOf (class_control_at t) (control_at t)
-    control_follows [] = follows_some IsAtomOf (character (char "\\")) (point (char "\\")) (char "c" ∷ []) refl
-    control_follows (d ∷ t) =
-        follows_if IsAtomOf (is_letter d || is_decimal d || d == char "_") _ _ _ _ (λ _. follows_some IsAtomOf _ _ t refl)
-        (λ _. follows_some IsAtomOf _ _ (char "c" ∷ d ∷ t) refl)
-
-    property_follows : (negated : Bool) (p : Property) (t : Source) →
-        Follows IsAtomOf (class_property negated (p, t)) (Some (property_node negated p, t))
-    property_follows negated (of_points members) t =
-        follows_some IsAtomOf (property members negated) (set (complement_if negated members)) t
-        (refl, covers-same table rer _ _ (property_is negated members))
-    property_follows negated (of_strings written) t = follows_none IsAtomOf _
-
     module _ (given : Parameters) where
       abbrev parameters : Parameters
       parameters = in_regress given
 
-      escapes_follow : (c : ℕ) (t : Source) →
-          Follows IsAtomOf (first_production (class_escape_productions table parameters c t)) (first_production (escape_productions table parameters c t))
-      escapes_follow c t =
-          follows_if IsAtomOf (c == char "b") _ _ _ _ (λ _. follows_some IsAtomOf (character 8) (point 8) t refl)
-          (λ _. follows_if IsAtomOf (c == char "-" && parameters.unicode) _ _ _ _ (λ _. follows_some IsAtomOf (character (char "-")) (point (char "-")) t refl)
-          (λ _. follows_if IsAtomOf (c == char "c" && not parameters.unicode) _ _ _ _ (λ _. control_follows t)
-          (λ _. follows_if IsAtomOf (is_one_of "pP" c && parameters.unicode) _ _ _ _
-          (λ _.
-          follows_then (λ (y x : Property). y ≡ x) IsAtomOf (property_at false table t) (property_at false table t) _ _ (follows_same _)
-          (λ p q u same. subst (λ (r : Property). Follows IsAtomOf (class_property (c == char "P") (p, u)) (Some (property_node (c == char "P") r, u))) (sym same)
-          (property_follows (c == char "P") p u)))
-          (λ _.
-          follows_if IsAtomOf (c == char "k" && parameters.named && reserves_k parameters.dialect) _ _ _ _ (λ _. follows_none IsAtomOf None)
-          (λ _.
-          follows_map (λ (y x : ℕ). y ≡ x) IsAtomOf point character
-          (character_escape_at parameters.dialect parameters.unicode (c ∷ t)) (character_escape_at parameters.dialect parameters.unicode (c ∷ t)) (follows_same _)
-          (λ x y same. ap character same))))))
-
-      class_escape_follows : (t : Source) → Follows IsAtomOf (ClassProductions.class_escape_at table parameters t) (class_escape_at table parameters t)
-      class_escape_follows [] = follows_none IsAtomOf None
-      class_escape_follows (c ∷ t) = by (class_letter c)
-        where
-          by : (letter : Option (CharacterClassType × Bool)) →
-              Follows IsAtomOf
-              (elim letter as (λ _. Found ClassProductions.ClassAtom) [
-                | None ↦ first_production (class_escape_productions table parameters c t)
-                | Some named ↦ Some (set (class_members table parameters named), t)
-              ])
-              (elim letter as (λ _. Found ClassAtom) [
-                | None ↦ first_production (escape_productions table parameters c t)
-                | Some named ↦ Some (class_escape named.0 named.1, t)
-              ])
-          by None = escapes_follow c t
-          by (Some (kind, capital)) =
-              follows_some IsAtomOf (class_escape kind capital) (set (class_members table parameters (kind, capital))) t (refl, escape_is kind capital)
+      related : HasRelatedSets table rer parameters (IsCharSetOf table rer)
+      related = record {
+        escape = escape_is;
+        property = λ capital members. covers-same table rer _ _ (property_is capital members);
+      }
 
       atom_follows : (t : Source) → Follows IsAtomOf (ClassProductions.class_atom_at table parameters t) (class_atom_at table parameters t)
-      atom_follows [] = follows_none IsAtomOf None
-      atom_follows (c ∷ t) =
-          follows_if IsAtomOf (c == char "]") _ _ _ _ (λ _. follows_none IsAtomOf None)
-          (λ _.
-          follows_if IsAtomOf (c == char "\\") _ _ _ _ (λ _. class_escape_follows t)
-          (λ _. follows_some IsAtomOf (character c) (point c) t refl))
+      atom_follows = each_atom_follows table rer parameters (IsCharSetOf table rer) related
 
       -- ---- parts
 
@@ -362,18 +301,6 @@ module _ (table : Table) (maps : HasCaseDataOfUnicode table) (rer : Flags) (with
           (λ (o : Option ℕ). IsCharSetOf table rer
           (range_or_union (atom_to_char_set table rer first) (atom_to_char_set table rer last) (Some a) o).characters (record { first = a; last = b } ∷ []))
           (sym (ap character_of is_last)) (covers-same table rer _ _ refl)))
-
-      abbrev with_hyphen : Elements → Elements → Elements
-      with_hyphen a b = union a (union (only (one_character (char "-"))) b)
-
-      first_none : (a b : Elements) (first last : Option ℕ) → first ≡ None → range_or_union a b first last ≡ with_hyphen a b
-      first_none a b None last e = refl
-      first_none a b (Some c) last e = absurd (cc)
-
-      last_none : (a b : Elements) (first last : Option ℕ) → last ≡ None → range_or_union a b first last ≡ with_hyphen a b
-      last_none a b None None e = refl
-      last_none a b (Some c) None e = refl
-      last_none a b first (Some c) e = absurd (cc)
 
       hyphen_part : (first last : ClassAtom) (a b : ClassProductions.ClassAtom) → IsAtomOf first a → IsAtomOf last b →
           range_or_union (atom_to_char_set table rer first) (atom_to_char_set table rer last) (character_of first) (character_of last)

@@ -1,94 +1,74 @@
 -- The syntax trees of the grammar have the flags in force, and quantifiers in order.
-use Rattle.std.proofs.Common.{◌≡◌, ℕ, ◌≤◌, nat_le, Bool, true, false, ◌&&◌, ◌==◌, [], ◌∷◌, drop, Option, Some, None, if◌then◌else◌, refl, sym, ap, subst, ◌∙◌, arith}
+use Rattle.std.proofs.Common.{◌≡◌, ℕ, ◌≤◌, nat_le, Bool, true, false, not, ◌&&◌, [], ◌∷◌, Option, Some, None, if◌then◌else◌, refl, ap, subst, ◌∙◌, arith}
 use Rattle.std.specs.Prelude.{IfSome}
 use Rattle.std.proofs.lemmas.Bool.Decides.{nat_tests}
-use Rattle.std.proofs.lemmas.Option.{none-some, same_Some}
 use Rattle.regress_base.specs.declared.charclasses.CharacterClassType.{CharacterClassType}
 use Rattle.regress_base.specs.declared.types.Flags.{Flags}
 use Rattle.regress_base.specs.declared.types.Quantifier.{Quantifier}
 use Rattle.regress_lexer.specs.declared.dialect.Dialect.{Dialect}
 use Rattle.regress_lexer.specs.declared.dialect.Dialect.TheVariants.{Regress}
+use Rattle.regress_lexer.specs.Dialects.{compiles_case}
 use Rattle.regress_lexer.specs.Digits.{is_decimal, number, front}
 use Rattle.regress_lexer.specs.Escapes.{character_escape_at}
-use Rattle.regress_lexer.specs.Modifiers.{Change, changed, modifiers_at, switched as switched_to}
-use Rattle.regress_lexer.specs.Source.{Source, Found, ◌>>=◌, found_map, first_production, is_at, opening, colon, question_mark}
+use Rattle.regress_lexer.specs.Modifiers.{Change, changed, switched as switched_to}
+use Rattle.regress_lexer.specs.Source.{Source, Found, first_production}
 use Rattle.regress_lexer.proofs.lemmas.Sources.{EachProduction, no_more, ◌also◌, first_production-has}
 use Rattle.regress_classes.specs.ClassProductions.{class_letter, class_at}
 use Rattle.regress_classes.specs.ClassSets.{class_set_at}
 use Rattle.regress_classes.specs.Properties.{Property, of_points, of_strings, property_at}
 use Rattle.regress_syntax.specs.Grammar.{IsPattern, AreTerms, IsItem}
 use Rattle.regress_syntax.specs.Names.{group_name_at}
-use Rattle.regress_syntax.specs.Productions.{class_parameters, complements_first, Context, context_inside, Head, single, opens, head_of_item, allows, head_at, optional_quantifier_at, character_at, property_atom, number_reference_at, name_reference_at, has_name, escape_productions, escaped_by, escaped_at, brackets_at, atom_productions, atom_by, angle_at, after_question_mark_at}
-use Rattle.regress_syntax.specs.Syntax.{Atom, class_escape, class, Group, grouping, modified, capture, look, Pattern, Terms, Item, one, either, no_terms, more_terms, atom, group}
+use Rattle.regress_syntax.specs.Productions.{class_flags, class_parameters, complements_first, Context, context_inside, single, head_of_item, allows, head_at, optional_quantifier_at, character_at, property_atom, number_reference_at, name_reference_at, has_name, escape_productions, escaped_by, escaped_at, brackets_at, atom_productions, atom_by}
+use Rattle.regress_syntax.specs.Syntax.{Target, Atom, class_escape, class, back_reference, Group, grouping, modified, capture, look, Pattern, Terms, Item, one, either, no_terms, more_terms, atom, group}
 use Rattle.regress_syntax.proofs.lemmas.Productions.{optional_quantifier_at-ordered}
-use Rattle.regress_tree.specs.Reading.{forwards, backwards}
 use Rattle.regress_ecma.specs.Characters.{switched, update_modifiers}
 use Rattle.regress_ecma.specs.Compile.{flags_inside}
 use Rattle.regress_ecma.specs.Differences.{flags_of, IsInOrder, IsProper, AreProper, IsProperItem}
+use Rattle.regress_ecma.proofs.Heads.{OfAtom, head_holds}
+use Rattle.regress_ecma.proofs.Holds.{Holds, holds_none, holds_some, holds_if, holds_then, holds_map}
 
--- What is found has the property.
-pub record Holds {A : Type 0} (P : A → Type 0) (found : Found A) : Type 0 where
-  pub each : (x : A × Source) → found ≡ Some x → P x.0
+abbrev is_class : Atom → Bool
+is_class (class flags inverted members) = true
+is_class (class_escape flags kind negated) = true
+is_class other = false
 
-module _ {A : Type 0} (P : A → Type 0) where
-  pub holds_none : Holds P None
-  holds_none = record { each = λ x e. absurd (none-some x e) }
-
-  pub holds_some : (x : A) (t : Source) → P x → Holds P (Some (x, t))
-  holds_some x t h = record { each = λ y e. subst (λ (z : A × Source). P z.0) (same_Some (x, t) y e) h }
-
-  pub holds_if : (b : Bool) (f g : Found A) → Holds P f → Holds P g → Holds P (if b then f else g)
-  holds_if true f g first second = first
-  holds_if false f g first second = second
-
-pub holds_then : {A B : Type 0} (P : B → Type 0) (found : Found A) (next : A × Source → Found B) → ((x : A × Source) → Holds P (next x)) → Holds P (found >>= next)
-holds_then P None next h = holds_none P
-holds_then P (Some x) next h = h x
-
-pub holds_map : {A B : Type 0} (P : B → Type 0) (f : A → B) (found : Found A) → ((a : A) → P (f a)) → Holds P (found_map f found)
-holds_map P f None h = holds_none P
-holds_map P f (Some (a, t)) h = holds_some P (f a) t (h a)
-
--- The property of what a map makes of what is found.
-pub holds_found : {A B : Type 0} (P : B → Type 0) (f : A → B) (found : Found A) → ((a : A) (t : Source) → found ≡ Some (a, t) → P (f a)) →
-    Holds P (found_map f found)
-holds_found P f None h = holds_none P
-holds_found P f (Some (a, t)) h = holds_some P (f a) t (h a t refl)
-
-module _ (given : Context) where
-  abbrev context : Context
-  context = record given { dialect = Regress }
-
+module _ (context : Context) where
+  -- The atom has the flags in force, unless it is a class and the dialect compiles these for the flag i.
   abbrev HasFlags : Atom → Type 0
-  HasFlags a = flags_of a ≡ context.setting.flags
+  HasFlags a = (is_class a && compiles_case context.dialect) ≡ false → flags_of a ≡ context.setting.flags
+
+  same_class_flags : compiles_case context.dialect ≡ false → class_flags context ≡ context.setting.flags
+  same_class_flags e =
+      ap (λ (b : Bool). if b && context.setting.flags.icase && not context.setting.flags.unicode
+      then record context.setting.flags { icase = false } else context.setting.flags) e
 
   character_holds : (c : ℕ) (t : Source) → Holds HasFlags (character_at context c t)
-  character_holds c t = holds_map HasFlags _ (character_escape_at context.dialect context.setting.flags.unicode (c ∷ t)) (λ a. refl)
+  character_holds c t = holds_map HasFlags _ (character_escape_at context.dialect context.setting.flags.unicode (c ∷ t)) (λ a _. refl)
 
   class_if : (b : Bool) (members others : _) (negated : Bool) →
-      flags_of (if b then class context.setting.flags false members else class context.setting.flags negated others) ≡ context.setting.flags
-  class_if true members others negated = refl
-  class_if false members others negated = refl
+      HasFlags (if b then class context.setting.flags false members else class context.setting.flags negated others)
+  class_if true members others negated _ = refl
+  class_if false members others negated _ = refl
 
   property_holds : (negated : Bool) (x : Property × Source) → Holds HasFlags (property_atom context negated x)
   property_holds negated (of_points members, t) = holds_some HasFlags _ t (class_if (negated && complements_first context) _ members negated)
-  property_holds negated (of_strings written, t) = holds_if HasFlags negated _ _ (holds_none HasFlags) (holds_some HasFlags _ t refl)
+  property_holds negated (of_strings written, t) = holds_if HasFlags negated _ _ (holds_none HasFlags) (holds_some HasFlags _ t (λ _. refl))
 
   number_holds : (c : ℕ) (t : Source) → Holds HasFlags (number_reference_at context c t)
   number_holds c t =
-      holds_if HasFlags (nat_le (number 10 (front is_decimal (c ∷ t))) context.groups) _ _ (holds_some HasFlags _ _ refl)
+      holds_if HasFlags (nat_le (number 10 (front is_decimal (c ∷ t))) context.groups) _ _ (holds_some HasFlags _ _ (λ _. refl))
       (holds_if HasFlags context.setting.flags.unicode _ _ (holds_none HasFlags) (character_holds c t))
 
   name_holds : (t : Source) → Holds HasFlags (name_reference_at context t)
   name_holds t =
       holds_then HasFlags (group_name_at context.setting.table t) _
-      (λ x. holds_if HasFlags (has_name x.0 context.names) _ _ (holds_some HasFlags _ x.1 refl) (holds_none HasFlags))
+      (λ x. holds_if HasFlags (has_name x.0 context.names) _ _ (holds_some HasFlags _ x.1 (λ _. refl)) (holds_none HasFlags))
 
   escapes_hold : (c : ℕ) (t : Source) → EachProduction (Holds HasFlags) (escape_productions context c t)
   escapes_hold c t =
-      (λ _. holds_some HasFlags _ _ refl)
-      also (λ _. holds_some HasFlags _ _ refl)
-      also (λ _. holds_some HasFlags _ _ refl)
+      (λ _. holds_some HasFlags _ _ (λ _. refl))
+      also (λ _. holds_some HasFlags _ _ (λ _. refl))
+      also (λ _. holds_some HasFlags _ _ (λ _. refl))
       also (λ _. holds_then HasFlags (property_at context.setting.flags.unicode_sets context.setting.table t) _ (property_holds _))
       also (λ _. number_holds c t)
       also (λ _. name_holds t)
@@ -100,10 +80,10 @@ module _ (given : Context) where
     where
       by : (letter : Option (CharacterClassType × Bool)) →
           Holds HasFlags (elim letter as (λ _. Found Atom) [
-            | Some named ↦ Some (class_escape context.setting.flags named.0 named.1, t)
+            | Some named ↦ Some (class_escape (class_flags context) named.0 named.1, t)
             | None ↦ first_production (escape_productions context c t)
           ])
-      by (Some named) = holds_some HasFlags _ t refl
+      by (Some named) = holds_some HasFlags _ t same_class_flags
       by None = first_production-has (Holds HasFlags) (escape_productions context c t) (holds_none HasFlags) (escapes_hold c t)
 
   escaped_holds : (t : Source) → Holds HasFlags (escaped_at context t)
@@ -113,58 +93,29 @@ module _ (given : Context) where
   brackets_hold : (t : Source) → Holds HasFlags (brackets_at context t)
   brackets_hold t =
       holds_if HasFlags context.setting.flags.unicode_sets _ _
-      (holds_map HasFlags _ (class_set_at context.setting.table (class_parameters context) t) (λ a. refl))
-      (holds_map HasFlags _ (class_at context.setting.table (class_parameters context) t) (λ a. refl))
+      (holds_map HasFlags _ (class_set_at context.setting.table (class_parameters context) t) (λ a _. refl))
+      (holds_map HasFlags _ (class_at context.setting.table (class_parameters context) t) (λ a. same_class_flags))
 
   atoms_hold : (c : ℕ) (t : Source) → EachProduction (Holds HasFlags) (atom_productions context c t)
   atoms_hold c t =
-      (λ _. holds_some HasFlags _ t refl)
-      also (λ _. holds_some HasFlags _ t refl)
-      also (λ _. holds_some HasFlags _ t refl)
+      (λ _. holds_some HasFlags _ t (λ _. refl))
+      also (λ _. holds_some HasFlags _ t (λ _. refl))
+      also (λ _. holds_some HasFlags _ t (λ _. refl))
       also (λ _. escaped_holds t)
       also (λ _. brackets_hold t)
-      also (λ _. holds_if HasFlags _ _ _ (holds_none HasFlags) (holds_some HasFlags _ t refl))
-      also (λ _. holds_some HasFlags _ t refl)
+      also (λ _. holds_if HasFlags _ _ _ (holds_none HasFlags) (holds_some HasFlags _ t (λ _. refl)))
+      also (λ _. holds_some HasFlags _ t (λ _. refl))
       also no_more
 
-  abbrev HeadHasFlags : Head → Type 0
-  HeadHasFlags (single a) = HasFlags a
-  HeadHasFlags (opens kind) = Unit {0}
+  atom_holds : (c : ℕ) (t : Source) → Holds HasFlags (atom_by context c t)
+  atom_holds c t = first_production-has (Holds HasFlags) (atom_productions context c t) (holds_none HasFlags) (atoms_hold c t)
 
-  single_holds : (found : Found Atom) → Holds HasFlags found → Holds HeadHasFlags (found_map single found)
-  single_holds None h = holds_none HeadHasFlags
-  single_holds (Some (a, t)) h = holds_some HeadHasFlags (single a) t (h.each (a, t) refl)
-
-  opens_hold : (kind : Group) (t : Source) → Holds HeadHasFlags (Some (opens kind, t))
-  opens_hold kind t = holds_some HeadHasFlags (opens kind) t tt
-
-  map_opens : {A : Type 0} (kind : A → Group) (found : Found A) → Holds HeadHasFlags (found_map (λ a. opens (kind a)) found)
-  map_opens kind found = holds_map HeadHasFlags (λ a. opens (kind a)) found (λ a. tt)
-
-  angle_holds : (t : Source) → Holds HeadHasFlags (angle_at context.setting.table t)
-  angle_holds t =
-      holds_if HeadHasFlags (is_at 61 (drop 1 t)) _ _ (opens_hold (look false backwards) (drop 2 t))
-      (holds_if HeadHasFlags (is_at 33 (drop 1 t)) _ _ (opens_hold (look true backwards) (drop 2 t))
-      (map_opens (λ name. capture (Some name)) (group_name_at context.setting.table t)))
-
-  question_mark_holds : (t : Source) → Holds HeadHasFlags (after_question_mark_at context.setting.table t)
-  question_mark_holds t =
-      holds_if HeadHasFlags (is_at colon t) _ _ (opens_hold grouping (drop 1 t))
-      (holds_if HeadHasFlags (is_at 61 t) _ _ (opens_hold (look false forwards) (drop 1 t))
-      (holds_if HeadHasFlags (is_at 33 t) _ _ (opens_hold (look true forwards) (drop 1 t))
-      (holds_if HeadHasFlags (is_at 60 t) _ _ (angle_holds t) (map_opens modified (modifiers_at t)))))
-
-  head_holds : (t : Source) → Holds HeadHasFlags (head_at context t)
-  unfolding head_at
-  head_holds [] = holds_none HeadHasFlags
-  head_holds (c ∷ t) =
-      holds_if HeadHasFlags (c == opening) _ _
-      (holds_if HeadHasFlags (is_at question_mark t) _ _ (question_mark_holds (drop 1 t)) (opens_hold (capture None) t))
-      (single_holds (atom_by context c t) (first_production-has (Holds HasFlags) (atom_productions context c t) (holds_none HasFlags) (atoms_hold c t)))
+  single_holds : (t : Source) → Holds (OfAtom HasFlags) (head_at context t)
+  single_holds = head_holds context (λ _. HasFlags) atom_holds
 
 -- ---- quantifiers and modifiers
 
-in_order : (ctx : Context) (allowed : Bool) (t : Source) (q : Option Quantifier) (rest : Source) →
+pub in_order : (ctx : Context) (allowed : Bool) (t : Source) (q : Option Quantifier) (rest : Source) →
     optional_quantifier_at ctx allowed t ≡ Some (q, rest) → IsInOrder q
 in_order ctx allowed t None rest e = tt
 in_order ctx allowed t (Some q) rest e = by q.max ((optional_quantifier_at-ordered ctx allowed t q rest e).1)
@@ -195,7 +146,7 @@ modified_same change flags =
       dot_all = s;
     }) (switched_same change.dot_all flags.dot_all)
 
-inside_same : (kind : Group) (ctx : Context) → (context_inside kind ctx).setting.flags ≡ flags_inside kind ctx.setting.flags
+pub inside_same : (kind : Group) (ctx : Context) → (context_inside kind ctx).setting.flags ≡ flags_inside kind ctx.setting.flags
 inside_same grouping ctx = refl
 inside_same (modified change) ctx = modified_same change ctx.setting.flags
 inside_same (capture name) ctx = refl
@@ -211,10 +162,17 @@ dialect_inside (look negate direction) ctx = refl
 
 atom_proper : (ctx : Context) → ctx.dialect ≡ Regress → (a : Atom) (t rest : Source) → head_at ctx t ≡ Some (single a, rest) →
     flags_of a ≡ ctx.setting.flags
-atom_proper ctx regress a t rest =
-    let Is : Dialect → Type 0 =
-    λ dialect. head_at (record ctx { dialect = dialect }) t ≡ Some (single a, rest) → flags_of a ≡ ctx.setting.flags in
-    subst Is (sym regress) (λ found. (head_holds ctx t).each (single a, rest) found)
+atom_proper ctx regress a t rest found =
+    (single_holds ctx t).each (single a, rest) found (ap (λ (dialect : Dialect). is_class a && compiles_case dialect) regress ∙ and_false (is_class a))
+  where
+    and_false : (b : Bool) → (b && false) ≡ false
+    and_false true = refl
+    and_false false = refl
+
+-- In each dialect a reference has the flags in force.
+pub reference_proper : (ctx : Context) (flags : Flags) (to : Target) (t rest : Source) → head_at ctx t ≡ Some (single (back_reference flags to), rest) →
+    flags ≡ ctx.setting.flags
+reference_proper ctx flags to t rest found = (single_holds ctx t).each (single (back_reference flags to), rest) found refl
 
 mutual
   pub derived_proper : (ctx : Context) → ctx.dialect ≡ Regress → (p : Pattern) (t rest : Source) → IsPattern ctx p t rest → IsProper ctx.setting.flags p

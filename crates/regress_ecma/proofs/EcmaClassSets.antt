@@ -1,8 +1,6 @@
--- The dialect `Ecma` with the flag v, with and without the flag i: classes, properties and class escapes match what those of
--- ECMA-262 match.
+-- The dialect `Ecma` with the flag v, with and without the flag i: classes and properties match what those of ECMA-262 match.
 use Rattle.std.proofs.Common.{◌≡◌, ℕ, ◌==◌, Bool, true, false, not, ◌&&◌, List, [], ◌∷◌, Option, Some, None, if◌then◌else◌, refl, sym, ap, subst, ◌∙◌}
 use Rattle.regress_base.specs.Table.{Table}
-use Rattle.regress_base.specs.declared.charclasses.CharacterClassType.{CharacterClassType}
 use Rattle.regress_base.specs.declared.types.Flags.{Flags}
 use Rattle.regress_tree.specs.Reading.{Direction, IsText}
 use Rattle.regress_tree.specs.Steps.{Setting}
@@ -13,41 +11,19 @@ use Rattle.regress_classes.specs.ClassProductions as ClassProductions
 use Rattle.regress_classes.specs.ClassSets.{Value, class_set_at}
 use Rattle.regress_classes.specs.Properties.{Property, of_points, property_at}
 use Rattle.regress_syntax.specs.Meaning.{is_in_class, atom_steps}
-use Rattle.regress_syntax.specs.Productions.{Context, class_parameters, class_flags, point_property}
-use Rattle.regress_syntax.specs.Syntax.{Name, Atom, class, class_set, class_escape}
+use Rattle.regress_syntax.specs.Productions.{Context, class_parameters, point_property}
+use Rattle.regress_syntax.specs.Syntax.{Name, Atom, class, class_set}
 use Rattle.regress_ecma.specs.Notation.{CharSet}
 use Rattle.regress_ecma.specs.Atoms.{compile_atom}
 use Rattle.regress_ecma.specs.CharSets.{atom_to_char_set}
 use Rattle.regress_ecma.specs.ClassGrammar.{property_node, character_class_at}
 use Rattle.regress_ecma.specs.ClassNodes.{property, CharacterClass}
-use Rattle.regress_ecma.specs.Characters.{character_class_escape}
 use Rattle.regress_ecma.specs.CompiledClasses.{compiled, atom_of}
-use Rattle.regress_ecma.specs.Differences.{HasCaseDataOfUnicode, is_words}
+use Rattle.regress_ecma.specs.Differences.{HasCaseDataOfUnicode}
 use Rattle.regress_ecma.proofs.Bridge.{Agrees}
-use Rattle.regress_ecma.proofs.CharacterSets.{IsSetOf, Agrees-character}
+use Rattle.regress_ecma.proofs.CharacterSets.{Agrees-character}
 use Rattle.regress_ecma.proofs.ClassSetAtoms.{closure_is, class_set_matches}
 use Rattle.regress_ecma.proofs.ClassSetMembers.{property_is, class_set_ends}
-use Rattle.regress_ecma.proofs.IgnoredCase.{escape_in_case}
-use Rattle.regress_ecma.proofs.Sets.{escape_is_set}
-
--- ---- class escapes
-
-module _ (setting : Setting) (maps : HasCaseDataOfUnicode setting.table) (all : List (Option Name)) (text : List ℕ) (is_text : IsText text)
-    (rer : Flags) (u : rer.unicode ≡ true) where
-  escape_set : (kind : CharacterClassType) (negated : Bool) (i : Bool) → rer.icase ≡ i →
-      IsSetOf setting.table rer (character_class_escape setting.table rer kind negated) false (is_in_class setting.table rer negated (members_of kind))
-  escape_set kind negated true e =
-      escape_in_case setting.table maps rer (λ _. u) e kind negated (ap (λ (b : Bool). not b && is_words kind) u)
-  escape_set kind negated false e = escape_is_set setting.table maps rer (λ _. u) e kind negated
-
-  -- With the flag u, also without v.
-  pub class_escape_agrees : (kind : CharacterClassType) (negated : Bool) (d : Direction) →
-      Agrees text d (atom_steps setting all text d (class_escape rer kind negated)) (compile_atom setting.table all rer d (class_escape rer kind negated))
-  class_escape_agrees kind negated d =
-      Agrees-character setting.table rer (character_class_escape setting.table rer kind negated) false
-      (is_in_class setting.table rer negated (members_of kind)) text is_text (escape_set kind negated rer.icase refl) d
-
--- ---- the dialect
 
 module _ (setting : Setting) (maps : HasCaseDataOfUnicode setting.table) (all : List (Option Name)) (text : List ℕ) (is_text : IsText text) (given : Context)
     (with_u : given.setting.flags.unicode_sets ≡ true → given.setting.flags.unicode ≡ true)
@@ -61,19 +37,6 @@ module _ (setting : Setting) (maps : HasCaseDataOfUnicode setting.table) (all : 
   -- an atom at the head of a source
   abbrev AtomMatches : Atom → Source → Type 0
   AtomMatches a t = (d : Direction) → Agrees text d (atom_steps setting all text d a) (compile_atom setting.table all flags d (atom_of context a t))
-
-  -- With the flag u a class escape has the flags in force.
-  pub flags_of_escape : flags.unicode ≡ true → class_flags context ≡ flags
-  flags_of_escape u =
-      ap (λ (b : Bool). if b then record flags { icase = false } else flags)
-      (ap (λ (b : Bool). flags.icase && not b) u ∙ and_false flags.icase)
-    where
-      and_false : (b : Bool) → (b && false) ≡ false
-      and_false true = refl
-      and_false false = refl
-
-  pub escape_matches : flags.unicode ≡ true → (kind : CharacterClassType) (negated : Bool) (t : Source) → AtomMatches (class_escape flags kind negated) t
-  escape_matches u kind negated t d = class_escape_agrees setting maps all text is_text flags u kind negated d
 
   module _ (sets : flags.unicode_sets ≡ true) where
     folds_same : (flags.unicode_sets && flags.icase) ≡ closes (class_parameters context)

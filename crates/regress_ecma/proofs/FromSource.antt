@@ -1,5 +1,5 @@
 -- Classes as they are written: their CharSets in ECMA-262 match what the classes of the syntax tree match.
-use Rattle.std.proofs.Common.{◌≡◌, ℕ, zero, suc, ◌+◌, ◌-◌, ◌<◌, ◌≤◌, nat_le, ◌==◌, Bool, true, false, ◌&&◌, ◌||◌, List, [], ◌∷◌, length, drop, slice_get, Option, Some, None, option_map, if◌then◌else◌, refl, sym, ap, ap₂, subst, ◌∙◌, arith}
+use Rattle.std.proofs.Common.{◌≡◌, ℕ, ◌+◌, ◌-◌, ◌<◌, ◌≤◌, nat_le, ◌==◌, Bool, true, false, ◌&&◌, ◌||◌, List, [], ◌∷◌, length, slice_get, Option, Some, None, option_map, if◌then◌else◌, refl, sym, ap, ap₂, subst, ◌∙◌, arith}
 use Rattle.std.proofs.Math.ListN.{replicate}
 use Rattle.std.proofs.lemmas.Bool.{eqb-true, false≢true, or_parts}
 use Rattle.std.proofs.lemmas.Option.{none-some, same_Some}
@@ -7,15 +7,14 @@ use Rattle.regress_base.specs.Table.{Table}
 use Rattle.regress_base.specs.declared.charclasses.CharacterClassType.{CharacterClassType}
 use Rattle.regress_base.specs.declared.types.Flags.{Flags}
 use Rattle.regress_tree.specs.Assertions.{differ}
-use Rattle.regress_tree.specs.Reading.{Direction, forwards, backwards, IsText}
+use Rattle.regress_tree.specs.Reading.{Direction, forwards, IsText}
 use Rattle.regress_tree.specs.Steps.{Setting}
 use Rattle.regress_base.specs.declared.types.AnchorType.TheVariants.{StartOfLine, EndOfLine}
 use Rattle.regress_lexer.specs.declared.dialect.Dialect.{Dialect}
 use Rattle.regress_lexer.specs.declared.dialect.Dialect.TheVariants.{Regress}
 use Rattle.regress_lexer.specs.Digits.{is_decimal, number, front}
 use Rattle.regress_lexer.specs.Escapes.{character_escape_at}
-use Rattle.regress_lexer.specs.Modifiers.{modifiers_at}
-use Rattle.regress_lexer.specs.Source.{Source, Found, ◌>>=◌, found_map, first_production, char, is_at, opening, colon, question_mark}
+use Rattle.regress_lexer.specs.Source.{Source, Found, ◌>>=◌, found_map, first_production, char}
 use Rattle.regress_lexer.proofs.lemmas.Sources.{EachProduction, no_more, ◌also◌, first_production-has}
 use Rattle.regress_classes.specs.ClassProductions.{class_letter, complement_if, class_at}
 use Rattle.regress_classes.specs.ClassProductions as ClassProductions
@@ -24,7 +23,7 @@ use Rattle.regress_classes.specs.Properties.{Property, of_points, of_strings, pr
 use Rattle.regress_syntax.specs.Grammar.{IsPattern, AreTerms, IsItem}
 use Rattle.regress_syntax.specs.Meaning.{is_in_class, atom_steps, meaning}
 use Rattle.regress_syntax.specs.Names.{group_name_at}
-use Rattle.regress_syntax.specs.Productions.{named_target, class_parameters, Context, context_inside, Head, single, opens, head_at, character_at, point_property, property_atom, number_reference_at, name_reference_at, has_name, escape_productions, escaped_by, escaped_at, brackets_at, atom_productions, atom_by, angle_at, after_question_mark_at}
+use Rattle.regress_syntax.specs.Productions.{named_target, class_parameters, Context, context_inside, single, head_at, character_at, point_property, property_atom, number_reference_at, name_reference_at, has_name, escape_productions, escaped_by, escaped_at, brackets_at, atom_productions, atom_by}
 use Rattle.regress_syntax.specs.Syntax.{Name, names, Atom, literal, dot, anchor, boundary, class_escape, class, class_set, string_property, back_reference, by_number, Group, grouping, modified, capture, look, Pattern, Terms, Item, one, either, no_terms, more_terms, atom, group}
 use Rattle.regress_ecma.specs.Notation.{CharSet}
 use Rattle.regress_ecma.specs.Assertions.{accept}
@@ -38,14 +37,17 @@ use Rattle.regress_ecma.specs.CompiledClasses.{class_compiled, property_compiled
 use Rattle.regress_ecma.specs.Compile.{compile_disjunction, compile_pattern}
 use Rattle.regress_ecma.specs.Compared.{state_on, IsComparable}
 use Rattle.regress_ecma.specs.Differences.{HasCaseDataOfUnicode, has_ends, has_unlike, differs_in_case}
-use Rattle.regress_ecma.specs.Exec.{match_at, or_later, first_match, builtin_exec}
+use Rattle.regress_ecma.specs.Exec.{match_at, builtin_exec}
 use Rattle.regress_ecma.proofs.Bridge.{Agrees}
 use Rattle.regress_ecma.proofs.CharacterSets.{Agrees-character}
 use Rattle.regress_ecma.proofs.ClassMembers.{IsCharSetOf, HasNoEnds, covers-same, covers-found, complement-same, property_is, class_follows}
 use Rattle.regress_ecma.proofs.ClassSetAtoms.{class_set_matches}
 use Rattle.regress_ecma.proofs.ClassSetMembers.{class_set_ends}
-use Rattle.regress_ecma.proofs.Derived.{dialect_inside, Holds, holds_none, holds_some, holds_if, holds_then, holds_map, holds_found}
+use Rattle.regress_ecma.proofs.Derived.{dialect_inside}
+use Rattle.regress_ecma.proofs.Heads.{head_holds}
+use Rattle.regress_ecma.proofs.Holds.{Holds, holds_none, holds_some, holds_if, holds_then, holds_map, holds_found}
 use Rattle.regress_ecma.proofs.Sets.{complement_is_set}
+use Rattle.regress_ecma.proofs.lemmas.Searches.{first_same}
 use Rattle.regress_ecma.proofs.Theorem.{HasFlagsOf, AtomAgrees, with_u_in, members_set, atom_agrees, IsLikeAtom, IsLike, like_one, like_either, AreLike, like_none, like_more, IsLikeItem, like_atom, like_group, names_like, like_outcome, unset_everywhere, pattern_outcome}
 
 and_true : (b : Bool) → (b && true) ≡ b
@@ -296,42 +298,9 @@ module _ (setting : Setting) (maps : HasCaseDataOfUnicode setting.table) (with_u
         also (λ _. holds_some (IsGood (c ∷ t)) (literal flags' c) t (alike (literal flags' c)))
         also no_more
 
-    abbrev HeadIsGood : Source → Head → Type 0
-    HeadIsGood s (single a) = IsGood s a
-    HeadIsGood s (opens kind) = Unit {0}
-
-    single_good : (s : Source) (found : Found Atom) → Holds (IsGood s) found → Holds (HeadIsGood s) (found_map single found)
-    single_good s None h = holds_none (HeadIsGood s)
-    single_good s (Some (a, t)) h = holds_some (HeadIsGood s) (single a) t (h.each (a, t) refl)
-
-    module _ (s : Source) where
-      opens_good : (kind : Group) (t : Source) → Holds (HeadIsGood s) (Some (opens kind, t))
-      opens_good kind t = holds_some (HeadIsGood s) (opens kind) t tt
-
-      map_good : {A : Type 0} (kind : A → Group) (found : Found A) → Holds (HeadIsGood s) (found_map (λ a. opens (kind a)) found)
-      map_good kind found = holds_map (HeadIsGood s) (λ a. opens (kind a)) found (λ a. tt)
-
-      angle_good : (t : Source) → Holds (HeadIsGood s) (angle_at context.setting.table t)
-      angle_good t =
-          holds_if (HeadIsGood s) (is_at 61 (drop 1 t)) _ _ (opens_good (look false backwards) (drop 2 t))
-          (holds_if (HeadIsGood s) (is_at 33 (drop 1 t)) _ _ (opens_good (look true backwards) (drop 2 t))
-          (map_good (λ name. capture (Some name)) (group_name_at context.setting.table t)))
-
-      question_mark_good : (t : Source) → Holds (HeadIsGood s) (after_question_mark_at context.setting.table t)
-      question_mark_good t =
-          holds_if (HeadIsGood s) (is_at colon t) _ _ (opens_good grouping (drop 1 t))
-          (holds_if (HeadIsGood s) (is_at 61 t) _ _ (opens_good (look false forwards) (drop 1 t))
-          (holds_if (HeadIsGood s) (is_at 33 t) _ _ (opens_good (look true forwards) (drop 1 t))
-          (holds_if (HeadIsGood s) (is_at 60 t) _ _ (angle_good t) (map_good modified (modifiers_at t)))))
-
-    head_good : (s : Source) → Holds (HeadIsGood s) (head_at context s)
-    unfolding head_at
-    head_good [] = holds_none (HeadIsGood [])
-    head_good (c ∷ t) =
-        holds_if (HeadIsGood (c ∷ t)) (c == opening) _ _
-        (holds_if (HeadIsGood (c ∷ t)) (is_at question_mark t) _ _ (question_mark_good (c ∷ t) (drop 1 t)) (opens_good (c ∷ t) (capture None) t))
-        (single_good (c ∷ t) (atom_by context c t)
-        (first_production-has (Holds (IsGood (c ∷ t))) (atom_productions context c t) (holds_none (IsGood (c ∷ t))) (atoms_good c t)))
+    atom_good : (c : ℕ) (t : Source) → Holds (IsGood (c ∷ t)) (atom_by context c t)
+    atom_good c t =
+        first_production-has (Holds (IsGood (c ∷ t))) (atom_productions context c t) (holds_none (IsGood (c ∷ t))) (atoms_good c t)
 
   -- ---- syntax trees
 
@@ -346,7 +315,7 @@ module _ (setting : Setting) (maps : HasCaseDataOfUnicode setting.table) (with_u
   atom_like ctx same regress a t rest =
       let Is : Dialect → Type 0 =
       λ dialect. head_at (record ctx { dialect = dialect }) t ≡ Some (single a, rest) → Like a (atom_of (record ctx { dialect = dialect }) a t) in
-      subst Is (sym regress) (λ found. (head_good ctx same t).each (single a, rest) found)
+      subst Is (sym regress) (λ found. (head_holds (context ctx same) (IsGood ctx same) (atom_good ctx same) t).each (single a, rest) found)
 
   abbrev LikePatterns : Pattern → Pattern → Type 0
   LikePatterns p q = IsLike setting maps with_u all text is_text fuel enough p q
@@ -402,77 +371,7 @@ module _ (ctx : Context) (regress : ctx.dialect ≡ Regress) (p : Pattern) (t re
       source_outcome (length text + 1) (omega arith) index within
       ∙ sym (pattern_outcome ctx.setting p comparable text is_text (length text + 1) (omega arith) index within)
 
-  first_same : (n index : ℕ) → n + index ≤ length text + 1 →
-      first_match (match_at ctx.setting standard text) n index ≡ first_match (match_at ctx.setting p text) n index
-  unfolding first_match
-  first_same zero index within = refl
-  first_same (suc n) index within =
-      ap₂ (or_later index) (same_at index (omega arith)) (first_same n (index + 1) (omega arith))
-
   pub source_search : (index : ℕ) → index ≤ length text → builtin_exec ctx.setting standard text index ≡ builtin_exec ctx.setting p text index
-  source_search index within = first_same (length text + 1 - index) index (omega arith)
-
--- ---- the end of a class
-
-module _ (given : Context) (maps : HasCaseDataOfUnicode given.setting.table)
-    (with_u : given.setting.flags.unicode_sets ≡ true → given.setting.flags.unicode ≡ true) where
-  abbrev around : Context
-  around = record given { dialect = Regress }
-
-  -- Without i the same nodes are found.
-  abbrev without_i : Flags
-  without_i = record around.setting.flags { icase = false }
-
-  abbrev EndsAt : Source → Bool → Source → Type 0
-  EndsAt t sets rest = (node : CharacterClass) × (character_class_at around.setting.table (class_parameters around) sets t ≡ Some (node, rest))
-
-  class_ends : (t : Source) (x : (Bool × CharSet) × Source) → class_at around.setting.table (class_parameters around) t ≡ Some x → EndsAt t false x.1
-  class_ends t (read, rest) e =
-      let found = (class_follows around.setting.table maps without_i with_u (and_false around.setting.flags.unicode_sets) (class_parameters around) t).each read rest e in
-      (found.value, found.found)
-    where
-      and_false : (b : Bool) → (b && false) ≡ false
-      and_false true = refl
-      and_false false = refl
-
-  mapped_end : {A B : Type 0} (f : A → B) (found : Found A) (y : B) (rest : Source) → found_map f found ≡ Some (y, rest) →
-      (x : A) × (found ≡ Some (x, rest))
-  mapped_end f None y rest e = absurd (none-some (y, rest) e)
-  mapped_end {B = B} f (Some (x, t)) y rest e =
-      let same : (f x, t) ≡ (y, rest) = same_Some (f x, t) (y, rest) e in
-      (x, ap (λ (u : Source). Some (x, u)) (ap (λ (z : B × Source). z.1) same))
-
-  brackets_end : (t rest : Source) (a : Atom) → brackets_at around t ≡ Some (a, rest) → EndsAt t around.setting.flags.unicode_sets rest
-  brackets_end t rest a e = by_test around.setting.flags.unicode_sets e
-    where
-      by_test : (v : Bool) →
-          (if v
-          then found_map (λ (negated, value). class_set around.setting.flags negated value) (class_set_at around.setting.table (class_parameters around) t)
-          else found_map (λ (inverted, members). class around.setting.flags inverted members) (class_at around.setting.table (class_parameters around) t))
-          ≡ Some (a, rest) → EndsAt t v rest
-      by_test true h =
-          let found = mapped_end (λ (negated, value). class_set around.setting.flags negated value) (class_set_at around.setting.table (class_parameters around) t) a rest h in
-          class_set_ends around.setting.table maps around.setting.flags (class_parameters around) t rest found.0 found.1
-      by_test false h =
-          let found = mapped_end (λ (inverted, members). class around.setting.flags inverted members) (class_at around.setting.table (class_parameters around) t) a rest h in
-          class_ends t (found.0, rest) found.1
-
-  ends_in_regress : (t rest : Source) (a : Atom) → head_at around (char "[" ∷ t) ≡ Some (single a, rest) →
-      (node : CharacterClass)
-      × (character_class_at around.setting.table (class_parameters around) around.setting.flags.unicode_sets t ≡ Some (node, rest))
-  unfolding head_at
-  ends_in_regress t rest a e =
-      let found = mapped_end single (brackets_at around t) (single a) rest e in
-      brackets_end t rest found.0 found.1
-
-pub node_ends : (ctx : Context) → ctx.dialect ≡ Regress → HasCaseDataOfUnicode ctx.setting.table →
-    (ctx.setting.flags.unicode_sets ≡ true → ctx.setting.flags.unicode ≡ true) → (t rest : Source) (a : Atom) →
-    head_at ctx (char "[" ∷ t) ≡ Some (single a, rest) →
-    (node : CharacterClass)
-    × (character_class_at ctx.setting.table (class_parameters ctx) ctx.setting.flags.unicode_sets t ≡ Some (node, rest))
-node_ends ctx regress maps with_u t rest a =
-    let Ends : Dialect → Type 0 =
-    λ dialect. head_at (record ctx { dialect = dialect }) (char "[" ∷ t) ≡ Some (single a, rest) →
-    (node : CharacterClass)
-    × (character_class_at ctx.setting.table (class_parameters (record ctx { dialect = dialect })) ctx.setting.flags.unicode_sets t ≡ Some (node, rest)) in
-    subst Ends (sym regress) (λ found. ends_in_regress ctx maps with_u t rest a found)
+  source_search index within =
+      first_same (match_at ctx.setting standard text) (match_at ctx.setting p text) (length text + 1 - index) index
+      (λ k above below. same_at k (omega (arith, below, within)))

@@ -13,7 +13,7 @@ use Rattle.regress_ecma.specs.Notation.{MatchState, failure, Continuation, Match
 use Rattle.regress_ecma.specs.Assertions.{accept, compile_lookaround}
 use Rattle.regress_ecma.specs.Compile.{range_between, compile_capture}
 use Rattle.regress_ecma.specs.Compared.{state_on}
-use Rattle.regress_ecma.proofs.Bridge.{first_result, Agrees, or_failure, reached_itself, IsOnward-refl}
+use Rattle.regress_ecma.proofs.Bridge.{first_result, AgreesOn, Agrees, or_failure, reached_itself, IsOnward-refl}
 
 -- ---- capture groups
 
@@ -42,22 +42,37 @@ captured-within text id from h s in' = record {
       (record { ordered = omega arith; within = omega (arith, in'.position) }) in'.captures;
 }
 
-pub Agrees-capture : (text : List ℕ) (d : Direction) (f : Steps.Matcher) (m : Matcher) → Agrees text d f m → (n : ℕ) →
-    Agrees text d (Steps.capture n f) (compile_capture n d m)
+pub AgreesOn-capture : (text : List ℕ) (d : Direction) (P : Steps.MatchState → Type 0) (Q Q' : Steps.MatchState → Steps.MatchState → Type 0) (n : ℕ) →
+    ((s t : Steps.MatchState) → Q s t → IsOnward d s.position t.position) →
+    ((s t : Steps.MatchState) → P s → Q s t → Q' s (captured n s.position t)) →
+    (f : Steps.Matcher) (m : Matcher) → AgreesOn text P Q f m → AgreesOn text P Q' (Steps.capture n f) (compile_capture n d m)
 unfolding Steps.capture
-Agrees-capture text d f m agrees n = record {
-  same = λ s in' c.
+AgreesOn-capture text d P Q Q' n onward leave f m agrees = record {
+  same = λ s h c.
       let set_range : Continuation = λ y.
       c (record y { captures = slice_set y.captures n (Some (range_between d s.position y.end_index)) }) in
-      agrees.same s in' set_range
-      ∙ first_result-map text (IsReached text d s) set_range c (captured n s.position)
-      (λ t h. ap (λ (r : Option CaptureSpan). c (record (state_on text t) { captures = slice_set t.captures n r })) (range_same d s.position t.position h.onward))
-      (f s) (agrees.reached s in');
-  reached = λ s in'.
-      All-map (IsReached text d s) (captured n s.position) (f s)
-      (All-weaker (IsReached text d s) (λ t. IsReached text d s (captured n s.position t))
-      (λ t h. record { state = captured-within text n s.position in'.position t h.state; onward = h.onward }) (f s) (agrees.reached s in'));
+      agrees.same s h set_range
+      ∙ first_result-map text (Q s) set_range c (captured n s.position)
+      (λ t k.
+      ap (λ (r : Option CaptureSpan). c (record (state_on text t) { captures = slice_set t.captures n r }))
+      (range_same d s.position t.position (onward s t k)))
+      (f s) (agrees.reached s h);
+  reached = λ s h.
+      All-map (Q' s) (captured n s.position) (f s)
+      (All-weaker (Q s) (λ t. Q' s (captured n s.position t)) (λ t. leave s t h) (f s) (agrees.reached s h));
 }
+
+pub captured-reached : (text : List ℕ) (d : Direction) (n : ℕ) (s t : Steps.MatchState) → IsStateOf text s → IsReached text d s t →
+    IsReached text d s (captured n s.position t)
+captured-reached text d n s t in' reached = record {
+  state = captured-within text n s.position in'.position t reached.state;
+  onward = reached.onward;
+}
+
+pub Agrees-capture : (text : List ℕ) (d : Direction) (f : Steps.Matcher) (m : Matcher) → Agrees text d f m → (n : ℕ) →
+    Agrees text d (Steps.capture n f) (compile_capture n d m)
+Agrees-capture text d f m agrees n =
+    AgreesOn-capture text d (IsStateOf text) (IsReached text d) (IsReached text d) n (λ s t reached. reached.onward) (captured-reached text d n) f m agrees
 
 -- ---- lookarounds
 
@@ -70,27 +85,33 @@ module _ (text : List ℕ) where
   looked_same true s c m [] e = rw (e, compile_lookaround) (sym (or_failure _))
   looked_same true s c m (t ∷ states) e = rw (e, compile_lookaround) refl
 
-  looked-reached : (negate : Bool) (d e : Direction) (s : Steps.MatchState) → IsStateOf text s → (states : List Steps.MatchState) →
-      All (IsReached text e s) states → All (IsReached text d s) (looked negate s states)
-  looked-reached false d e s in' [] all = All-nil (IsReached text d s)
-  looked-reached false d e s in' (t ∷ states) all =
-      let first = All-head (IsReached text e s) t states all in
-      All-cons (IsReached text d s) _ []
-      (record {
-        state = record { position = in'.position; captures = first.state.captures };
-        onward = IsOnward-refl d s.position;
-      })
-      (All-nil (IsReached text d s))
-  looked-reached true d e s in' [] all = reached_itself text d s in'
-  looked-reached true d e s in' (t ∷ states) all = All-nil (IsReached text d s)
+  module _ (P : Steps.MatchState → Type 0) (Q Q' : Steps.MatchState → Steps.MatchState → Type 0) (stays : (s : Steps.MatchState) → P s → Q' s s)
+      (returns : (s t : Steps.MatchState) → P s → Q s t → Q' s (record t { position = s.position })) where
+    looked-reached : (negate : Bool) (s : Steps.MatchState) → P s → (states : List Steps.MatchState) → All (Q s) states → All (Q' s) (looked negate s states)
+    looked-reached false s h [] all = All-nil (Q' s)
+    looked-reached false s h (t ∷ states) all = All-cons (Q' s) _ [] (returns s t h (All-head (Q s) t states all)) (All-nil (Q' s))
+    looked-reached true s h [] all = All-cons (Q' s) s [] (stays s h) (All-nil (Q' s))
+    looked-reached true s h (t ∷ states) all = All-nil (Q' s)
+
+    pub AgreesOn-look : (f : Steps.Matcher) (m : Matcher) → AgreesOn text P Q f m → (negate : Bool) →
+        AgreesOn text P Q' (lookaround_matcher negate f) (compile_lookaround negate m)
+    unfolding lookaround_matcher
+    AgreesOn-look f m agrees negate = record {
+      same = λ s h c. looked_same negate s c m (f s) (agrees.same s h accept);
+      reached = λ s h. looked-reached negate s h (f s) (agrees.reached s h);
+    }
+
+  pub returned : (d e : Direction) (s t : Steps.MatchState) → IsStateOf text s → IsReached text e s t → IsReached text d s (record t { position = s.position })
+  returned d e s t in' reached = record {
+    state = record { position = in'.position; captures = reached.state.captures };
+    onward = IsOnward-refl d s.position;
+  }
 
   pub Agrees-look : (d e : Direction) (f : Steps.Matcher) (m : Matcher) → Agrees text e f m → (negate : Bool) →
       Agrees text d (lookaround_matcher negate f) (compile_lookaround negate m)
-  unfolding lookaround_matcher
-  Agrees-look d e f m agrees negate = record {
-    same = λ s in' c. looked_same negate s c m (f s) (agrees.same s in' accept);
-    reached = λ s in'. looked-reached negate d e s in' (f s) (agrees.reached s in');
-  }
+  Agrees-look d e =
+      AgreesOn-look (IsStateOf text) (IsReached text e) (IsReached text d) (λ s in'. record { state = in'; onward = IsOnward-refl d s.position })
+      (returned d e)
 
   -- ---- tests on a position
 

@@ -42,7 +42,7 @@ member_passes p c member =
     record { le = le; passes = sym (intervals_of-member p c le) ∙ member }
 
 -- No member has case variants.
-abbrev IsUncased : CharSet → Type 0
+abbrev pub IsUncased : CharSet → Type 0
 IsUncased set = (c : ℕ) → is_member set c ≡ true → is_member cased c ≡ false
 
 -- The case variants of each member are the same with and without the flag u.
@@ -91,7 +91,7 @@ module _ (table : Table) (maps : HasCaseDataOfUnicode table) (rer : Flags) (with
       let found = has_some_gives (λ m. table.fold m == table.fold ch) set h in
       found_from table maps rer with_u set ch found.0 found.1 (folds u found.0 ∙ eqb-true _ _ found.2 ∙ sym (folds u ch)))
 
-  class_with_u : rer.unicode ≡ true → (inverted : Bool) (members : CharSet) →
+  pub class_with_u : rer.unicode ≡ true → (inverted : Bool) (members : CharSet) →
       IsSetOf table rer members inverted (is_in_class table rer inverted members)
   class_with_u u inverted members ch scalar' =
       ap (differ inverted) (found_closed u members ch ∙ sym (closure-if table maps rer with_u members ch (scalar_in_range ch scalar')))
@@ -99,7 +99,7 @@ module _ (table : Table) (maps : HasCaseDataOfUnicode table) (rer : Flags) (with
 
   -- ---- classes without the flag u
 
-  uppers : rer.unicode ≡ false → (c : ℕ) → canonicalize table rer c ≡ table.uppercase c
+  pub uppers : rer.unicode ≡ false → (c : ℕ) → canonicalize table rer c ≡ table.uppercase c
   uppers u c = canonicalize-same table maps rer with_u icase c ∙ ap (λ (b : Bool). Table.canonicalize table b c) u
 
   found_like : rer.unicode ≡ false → (set : CharSet) → IsLike set → (ch : ℕ) → is_found table rer set ch ≡ is_closed set ch
@@ -134,7 +134,7 @@ module _ (table : Table) (maps : HasCaseDataOfUnicode table) (rer : Flags) (with
       ap (is_member set) same ∙ found.1)
       (λ h. found_from table maps rer with_u set ch ch h refl)
 
-  closure_uncased : (set : CharSet) → IsUncased set → (ch : ℕ) → ch ≤ code_point_max → is_in_closure table set ch ≡ is_member set ch
+  pub closure_uncased : (set : CharSet) → IsUncased set → (ch : ℕ) → ch ≤ code_point_max → is_in_closure table set ch ≡ is_member set ch
   closure_uncased set none ch le =
       closure-if table maps rer with_u set ch le
       ∙ same_truth _ (is_member set ch)
@@ -206,7 +206,7 @@ module _ (table : Table) (maps : HasCaseDataOfUnicode table) (rer : Flags) (with
       )
 
   -- The complement of a set that has the members of AllCharacters that pass a test.
-  found_complement : (set : CharSet) (test : ℕ → Bool) → ((c : ℕ) → c ≤ code_point_max → is_any c ≡ true → is_member set c ≡ test c) →
+  pub found_complement : (set : CharSet) (test : ℕ → Bool) → ((c : ℕ) → c ≤ code_point_max → is_any c ≡ true → is_member set c ≡ test c) →
       ((a b : ℕ) → canonicalize table rer a ≡ canonicalize table rer b → test a ≡ test b) → (ch : ℕ) → ch ≤ code_point_max →
       is_found table rer (character_complement table rer set) ch ≡ not (test ch)
   found_complement set test represents closed ch le =
@@ -237,7 +237,7 @@ module _ (table : Table) (maps : HasCaseDataOfUnicode table) (rer : Flags) (with
   complement_agrees set members same ch scalar' =
       same ch (scalar_in_range ch scalar') ∙ not_differ (is_in_closure table members ch) ∙ sym (in_class true members ch)
 
-  uncased_same : (set : CharSet) → IsUncased set → (a b : ℕ) → canonicalize table rer a ≡ canonicalize table rer b → is_member set a ≡ is_member set b
+  pub uncased_same : (set : CharSet) → IsUncased set → (a b : ℕ) → canonicalize table rer a ≡ canonicalize table rer b → is_member set a ≡ is_member set b
   uncased_same set none a b e =
       same_truth _ _
       (λ h. ap (is_member set) (canonical-variants table maps rer with_u icase a b (none a h) (sym e)) ∙ h)

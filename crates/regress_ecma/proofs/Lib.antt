@@ -1,6 +1,8 @@
 pub mod lemmas
 mod Bridge
 mod Groups
+mod SetGroups
+mod Untouched
 mod CharacterSets
 mod Members
 mod Outside
@@ -10,13 +12,26 @@ mod FoldedSets
 mod FoldedElements
 mod Theorem
 mod BackReferences
+mod NamedReferences
 mod Strings
 mod PropertyStrings
+mod Holds
+mod Heads
 mod Derived
 mod CaseData
 mod Follows
+mod SameSets
+mod ClassAtoms
 mod ClassMembers
 mod ClassSetMembers
 mod ClassSetAtoms
 mod EcmaClassSets
 mod FromSource
+mod EcmaEscapes
+mod EcmaClasses
+mod EcmaSets
+mod EcmaAtoms
+mod EcmaHeads
+mod InEcma
+mod EcmaMatching
+mod ClassEnds

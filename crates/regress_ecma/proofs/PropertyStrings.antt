@@ -29,13 +29,13 @@ use Rattle.regress_ecma.specs.Atoms.{one_character, descending, singles_of, comp
 use Rattle.regress_ecma.specs.Compared.{state_on}
 use Rattle.regress_ecma.proofs.Bridge.{first_result, first_result-append, Agrees}
 use Rattle.regress_ecma.proofs.CharacterSets.{IsSetOf, Agrees-character}
-use Rattle.regress_ecma.proofs.Derived.{Holds, holds_none, holds_some, holds_if, holds_then}
+use Rattle.regress_ecma.proofs.Holds.{Holds, holds_none, holds_some, holds_if, holds_then}
 use Rattle.regress_syntax.specs.Meaning.{longest_first}
 use Rattle.regress_ecma.proofs.Strings.{Agrees-same, any_agrees, descending-same}
 
 -- ---- the strings of a table
 
-abbrev HasNoEmpty : List (List ℕ) → Type 0
+abbrev pub HasNoEmpty : List (List ℕ) → Type 0
 HasNoEmpty strings = All (λ s. 1 ≤ length s) strings
 
 abbrev pub HasStringsOnly : Property → Type 0

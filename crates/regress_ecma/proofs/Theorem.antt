@@ -303,7 +303,8 @@ module _ (setting : Setting) (maps : HasCaseDataOfUnicode setting.table) (with_u
         Agrees-look text d direction _ _ (pattern_agrees rer flags direction (n + 0) p p' like proper none) negate
 
 -- The first outcome of the pattern, if there is one.
-first_accepted : (text : List ℕ) (states : List Steps.MatchState) → first_result text accept states ≡ option_map (state_on text) (slice_get (dedup states) 0)
+pub first_accepted : (text : List ℕ) (states : List Steps.MatchState) →
+    first_result text accept states ≡ option_map (state_on text) (slice_get (dedup states) 0)
 first_accepted text [] = refl
 first_accepted text (s ∷ states) = refl
 

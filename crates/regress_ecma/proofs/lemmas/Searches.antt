@@ -19,10 +19,19 @@ use Rattle.regress_tree.proofs.lemmas.Characters.{byte_position-le, byte_positio
 use Rattle.regress_syntax.specs.Meaning.{meaning}
 use Rattle.regress_syntax.specs.Syntax.{Pattern, names}
 use Rattle.regress_ecma.specs.Notation.{MatchState, MatchResult}
-use Rattle.regress_ecma.specs.Compared.{state_on}
+use Rattle.regress_ecma.specs.Compared.{IsComparable, state_on}
 use Rattle.regress_ecma.specs.Exec.{match_at, or_later, first_match, builtin_exec, in_bytes, found_in_bytes}
+use Rattle.regress_ecma.proofs.Theorem.{pattern_outcome}
 
 -- ---- the first match
+
+pub first_same : (at at' : ℕ → MatchResult) (n index : ℕ) → ((k : ℕ) → index ≤ k → k < index + n → at k ≡ at' k) →
+    first_match at n index ≡ first_match at' n index
+unfolding first_match
+first_same at at' zero index same = refl
+first_same at at' (suc n) index same =
+    ap₂ (or_later index) (same index (omega arith) (omega arith))
+    (first_same at at' n (index + 1) (λ k above below. same k (omega arith) (omega arith)))
 
 module _ (at : ℕ → MatchResult) where
   none_found : (n index : ℕ) → ((k : ℕ) → index ≤ k → k < index + n → at k ≡ None) → first_match at n index ≡ None
@@ -117,20 +126,29 @@ pub record HasMeaning (setting : Setting) (t : Tree) (p : Pattern) : Type 0 wher
       matches setting (encode_utf8_all text) forwards t (byte_state text s) ≡ map (byte_state text) (meaning setting text forwards p s)
   pub groups : length (captures t) ≡ length (names p)
 
+-- the first outcome of the pattern from an index, with all groups unset, as a state of ECMA-262
+abbrev pub outcome_at : Setting → Pattern → (text : List ℕ) → (index : ℕ) → MatchResult
+outcome_at setting p text index =
+    option_map (state_on text) (slice_get (meaning setting text forwards p (record { position = index; captures = replicate (length (names p)) None })) 0)
+
+-- From each index of the text, the matcher of ECMA-262 for the second syntax tree returns the first outcome of the first one.
+abbrev pub Returns : Setting → (p q : Pattern) → (text : List ℕ) → Type 0
+Returns setting p q text = (index : ℕ) → index ≤ length text → match_at setting q text index ≡ outcome_at setting p text index
+
+-- RegExpBuiltinExec finds the first of these outcomes.
+pub exec_by_outcomes : (setting : Setting) (p q : Pattern) (text : List ℕ) → Returns setting p q text → (index : ℕ) → index ≤ length text →
+    builtin_exec setting q text index ≡ first_match (outcome_at setting p text) (length text + 1 - index) index
+exec_by_outcomes setting p q text returns index within =
+    first_same (match_at setting q text) (outcome_at setting p text) (length text + 1 - index) index
+    (λ k above below. returns k (omega (arith, below, within)))
+
 -- the outcomes of a tree at a byte offset, with all groups unset
 abbrev pub outcomes_from : Setting → (bytes : List ℕ) → Tree → (offset : ℕ) → List Steps.MatchState
 outcomes_from setting bytes t offset =
     matches setting bytes forwards t (record { position = offset; captures = replicate (length (captures t)) None })
 
--- At each index the matcher of ECMA-262 for q returns the first outcome of p.
-abbrev pub HasFirstOutcome : Setting → (p q : Pattern) → (text : List ℕ) → Type 0
-HasFirstOutcome setting p q text =
-    (k : ℕ) → k ≤ length text →
-    match_at setting q text k
-    ≡ option_map (state_on text) (slice_get (meaning setting text forwards p (record { position = k; captures = replicate (length (names p)) None })) 0)
-
 module _ (setting : Setting) (p q : Pattern) (t : Tree) (means : HasMeaning setting t p) (text : List ℕ) (is_text : IsText text)
-    (outcome : HasFirstOutcome setting p q text) where
+    (returns : Returns setting p q text) where
   abbrev pub outcomes : (offset : ℕ) → List Steps.MatchState
   outcomes = outcomes_from setting (encode_utf8_all text) t
 
@@ -153,7 +171,7 @@ module _ (setting : Setting) (p q : Pattern) (t : Tree) (means : HasMeaning sett
       (sym (unset_in_bytes text n))
       ∙ means.outcomes text (start n k) is_text state in
       let to : match_at setting q text k ≡ option_map (state_on text) (slice_get (meaning setting text forwards p (start n k)) 0) =
-      outcome k within
+      returns k within
       ∙ ap (λ m. option_map (state_on text) (slice_get (meaning setting text forwards p (start m k)) 0)) (sym means.groups) in
       ap (λ xs. slice_get xs 0) from
       ∙ slice_get-map (byte_state text) (meaning setting text forwards p (start n k)) 0
@@ -170,7 +188,7 @@ module _ (setting : Setting) (p q : Pattern) (t : Tree) (means : HasMeaning sett
   input_of_match : (k : ℕ) → k ≤ length text → (x : MatchState) → match_at setting q text k ≡ Some x → x.input ≡ text
   input_of_match k within x e =
       of_state (slice_get (meaning setting text forwards p (start (length (names p)) k)) 0)
-      (sym (outcome k within) ∙ e)
+      (sym (returns k within) ∙ e)
     where
       of_state : (r : Option Steps.MatchState) → option_map (state_on text) r ≡ Some x → x.input ≡ text
       of_state None e = absurd (cc)
@@ -213,3 +231,8 @@ module _ (setting : Setting) (p q : Pattern) (t : Tree) (means : HasMeaning sett
       (λ k above below.
       let in_text : k ≤ length text = omega (arith, below, within) in
       no_match k in_text (none (byte_position text k) (byte_position-le text index k above in_text) (on_boundary text is_text k)))
+
+-- ---- without a differing construct
+
+pub returned : (setting : Setting) (p : Pattern) → IsComparable setting p → (text : List ℕ) → IsText text → Returns setting p p text
+returned setting p comparable text is_text = pattern_outcome setting p comparable text is_text (length text + 1) (omega arith)

@@ -1,38 +1,28 @@
-use Rattle.std.proofs.Common.{◌≡◌, ◌∙◌, ℕ, ◌≤◌, [], ap, arith, chars, length, List, option_map, refl, sym}
+use Rattle.std.proofs.Common.{◌+◌, ◌∙◌, [], ap, arith, chars, length, option_map, refl, sym}
 use Rattle.regress_front.specs.Accepted.{own_context, own_context_in}
-use Rattle.regress_front.specs.declared.parse.Dialect.TheVariants.{Regress, Ecma}
+use Rattle.regress_front.specs.declared.parse.Dialect.TheVariants.{Ecma}
 use Rattle.regress_ecma.specs.CompiledClasses.{with_char_sets}
 use Rattle.regress_ecma.specs.Exec.{found_in_bytes}
 use Rattle.regress_ecma.proofs.lemmas.Searches.{decoded}
-use Rattle.regress.proofs.EcmaLemmas.{finds_match, finds_match_from}
+use Rattle.regress.proofs.EcmaLemmas.{finds_match, finds_match_from, finds_match_of}
 use Rattle.regress.proofs.ecma.find_returns_the_match_of_ecma.Goals as goal
 
 pub returns-clause-find : goal.returns-clause-find
-returns-clause-find c setting pattern r compiled comparable text utf8 found finds =
-    finds_match Regress setting pattern r compiled compiled.tree.pattern text utf8
-    (λ is_text k within. c.first_outcome_is_the_match.ensures.pattern setting compiled.tree.pattern comparable (chars text) is_text (length (chars text) + 1) (omega arith) k within)
-    found finds
+returns-clause-find c = finds_match
 
 pub returns-clause-find_at : goal.returns-clause-find_at
-returns-clause-find_at c setting pattern r compiled comparable text utf8 index within found finds =
-    finds_match_from Regress setting pattern r compiled compiled.tree.pattern text utf8
-    (λ is_text k le. c.first_outcome_is_the_match.ensures.pattern setting compiled.tree.pattern comparable (chars text) is_text (length (chars text) + 1) (omega arith) k le)
-    index within found finds
+returns-clause-find_at c = finds_match_from
 
 pub returns-clause-source : goal.returns-clause-source
 returns-clause-source c setting pattern r compiled comparable text utf8 index within found finds =
-    finds_match_from Regress setting pattern r compiled compiled.tree.pattern text utf8
-    (λ is_text k le. c.first_outcome_is_the_match.ensures.pattern setting compiled.tree.pattern comparable (chars text) is_text (length (chars text) + 1) (omega arith) k le)
-    index within found finds
+    finds_match_from setting pattern r compiled comparable text utf8 index within found finds
     ∙ ap (option_map found_in_bytes)
     (sym (c.first_outcome_is_the_match.ensures.search (own_context setting compiled.tree.pattern) refl compiled.tree.pattern pattern []
     compiled.tree.accepted.derived comparable (chars text) (decoded text utf8) index within))
 
 pub returns-clause-in_ecma : goal.returns-clause-in_ecma
-returns-clause-in_ecma c setting unicode with_u pattern r compiled text utf8 index within found finds =
-    finds_match_from Ecma setting pattern r compiled
-    (with_char_sets (own_context_in Ecma setting compiled.tree.pattern) compiled.tree.pattern pattern [] compiled.tree.accepted.derived) text utf8
-    (λ is_text k le.
-    c.first_outcome_is_the_match.ensures.in_ecma (own_context_in Ecma setting compiled.tree.pattern) refl unicode with_u compiled.tree.pattern pattern []
-    compiled.tree.accepted.derived compiled.tree.accepted.names (chars text) is_text (length (chars text) + 1) (omega arith) k le)
-    index within found finds
+returns-clause-in_ecma c setting unicode with_u pattern r compiled text utf8 =
+    let ctx = own_context_in Ecma setting compiled.tree.pattern in
+    finds_match_of Ecma setting pattern r compiled (with_char_sets ctx compiled.tree.pattern pattern [] compiled.tree.accepted.derived) text utf8
+    (c.first_outcome_is_the_match.ensures.in_ecma ctx refl unicode with_u compiled.tree.pattern pattern [] compiled.tree.accepted.derived
+    compiled.tree.accepted.names (chars text) (decoded text utf8) (length (chars text) + 1) (omega arith))
