@@ -16,7 +16,7 @@ use Rattle.regress_classes.specs.Properties.{Property, of_points, of_strings, pr
 use Rattle.regress_lexer.specs.Quantifiers.{quantifier_at}
 use Rattle.regress_lexer.specs.declared.dialect.Dialect.{Dialect}
 use Rattle.regress_lexer.specs.declared.dialect.Dialect.TheVariants.{Regress, Ecma}
-use Rattle.regress_syntax.specs.Productions.{named_target, class_parameters, class_flags, compared_members, complements_first, Context, Head, single, opens, angle_at, after_question_mark_at, group_at, property_atom, property_atom_at, has_name, character_at, number_reference_at, name_reference_at, escape_productions, escaped_by, escaped_at, brace_by, brackets_at, atom_productions, atom_by, head_at}
+use Rattle.regress_syntax.specs.Productions.{named_target, class_parameters, class_flags, compared_members, complements_first, Context, Head, single, opens, angle_at, after_question_mark_at, group_at, ordered_strings, property_atom, property_atom_at, has_name, character_at, number_reference_at, name_reference_at, escape_productions, escaped_by, escaped_at, brace_by, brackets_at, atom_productions, atom_by, head_at}
 use Rattle.regress_lexer.specs.Source.{Source, Found, IsCodePoint, opening, colon, question_mark, is_at, first_production}
 use Rattle.regress_syntax.specs.Syntax.{Name, Target, by_number, by_name, by_name_if_set, Atom, literal, dot, anchor, boundary, class_escape, class, class_set, string_property, back_reference, Group, grouping, modified, capture, look}
 use Rattle.regress_lexer.proofs.lemmas.After.{Ends, after_all}
@@ -24,6 +24,7 @@ use Rattle.regress_classes.proofs.lemmas.ClassStrings.{OfCodePoints, PropertyInR
 use Rattle.regress_lexer.proofs.lemmas.InRange.{Finds, finds_none, finds_some, finds_cond, finds_then, finds_map, character_escape_at-in_range}
 use Rattle.regress_syntax.proofs.lemmas.NameEnds.{IsName, name_characters}
 use Rattle.regress_lexer.proofs.lemmas.Sources.{EachProduction, no_more, ◌also◌, first_production-has}
+use Rattle.regress_parse.proofs.StringLemmas.{All-longest_first}
 
 -- All elements of the source are code points.
 pub record AreCodePoints (t : Source) : Type 0 where
@@ -121,7 +122,11 @@ module _ (ctx : Context) (lawful : IsValidTable ctx.setting.table) (n : ℕ) (wi
         t,
       ))) [ true ↦ finds_some _ _ tt | false ↦ finds_some _ _ tt ]
   property_atom-good negated (of_strings written, t) h =
-      finds_cond _ negated _ _ (λ _. finds_none _) (λ _. finds_some _ _ h)
+      finds_cond _ negated _ _ (λ _. finds_none _) (λ _. finds_some _ _ (ordered ctx.dialect))
+    where
+      ordered : (dialect : Dialect) → OfCodePoints (ordered_strings (record ctx { dialect = dialect }) written)
+      ordered Regress = h
+      ordered Ecma = All-longest_first (All IsCodePoint) written h
 
   property_atom_at-good : (negated : Bool) (t : Source) → Finds (IsGoodAtom n) (property_atom_at ctx negated t)
   property_atom_at-good negated t =
