@@ -1,13 +1,13 @@
 -- Examples: what the dialects accept, and what references to several groups match. In the dialect `Ecma` the results are
 -- those of V8 11.3, and those of patterns with several groups of one name follow from ECMA-262.
-use Rattle.std.proofs.Common.{◌≡◌, false, true, List, [], ◌∷◌, Option, Some, None, refl, codes}
+use Rattle.std.proofs.Common.{◌≡◌, ℕ, false, true, List, [], ◌∷◌, Option, Some, None, refl, codes}
 use Rattle.regress_base.specs.Intervals.{Bounds}
 use Rattle.regress_base.specs.declared.charclasses.CharacterClassType.TheVariants.{Words}
 use Rattle.regress_base.specs.declared.types.Flags.{Flags}
 use Rattle.regress_tree.specs.Steps.{Setting}
 use Rattle.regress_lexer.specs.declared.dialect.Dialect.TheVariants.{Regress, Ecma}
 use Rattle.regress_lexer.specs.Dialects.{flags_in_force}
-use Rattle.regress_syntax.specs.Syntax.{Pattern, one, no_terms, more_terms, atom, literal, boundary, class, class_escape}
+use Rattle.regress_syntax.specs.Syntax.{Pattern, one, no_terms, more_terms, atom, literal, boundary, class, class_escape, string_property}
 use Rattle.example_definitions.proofs.PatternExamples.{letter, word, quantifier}
 use Rattle.regress_lexer.specs.Source.{Source}
 use Rattle.example_definitions.proofs.Meanings.{no_flags, run, plain, named, unicode, pattern_in, GivesIn, from, at, unset, span}
@@ -180,6 +180,26 @@ one_member_in_regress = refl
 one_member_with_u_in_ecma : pattern_in Ecma unicode (codes "[😀-😎]") ≡ pattern_in Regress unicode (codes "[😀-😎]")
 unfolding pattern_in
 one_member_with_u_in_ecma = refl
+
+-- ---- properties of strings
+
+-- a table with a property of three strings
+abbrev three_strings : Setting
+three_strings = record sets_in_ecma {
+  table = record sets_in_ecma.table { strings = record { name = codes "S"; value = codes "a" ∷ codes "bc" ∷ codes "d" ∷ [] } ∷ [] };
+}
+
+-- the property, with its strings in this order
+abbrev in_this_order : List (List ℕ) → Option Pattern
+in_this_order strings = Some (one (word (atom (string_property sets_and_unicode strings))))
+
+the_longest_string_comes_first_in_ecma : pattern_in Ecma three_strings (codes "\\p{S}") ≡ in_this_order (codes "bc" ∷ codes "a" ∷ codes "d" ∷ [])
+unfolding pattern_in
+the_longest_string_comes_first_in_ecma = refl
+
+strings_come_as_listed_in_regress : pattern_in Regress three_strings (codes "\\p{S}") ≡ in_this_order (codes "a" ∷ codes "bc" ∷ codes "d" ∷ [])
+unfolding pattern_in
+strings_come_as_listed_in_regress = refl
 
 -- ---- references to several groups of one name
 
