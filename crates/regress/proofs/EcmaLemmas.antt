@@ -16,7 +16,7 @@ use Rattle.regress_parse.proofs.lemmas.{length-names, length-pattern_groups}
 use Rattle.std.proofs.lemmas.List.Sorted.{length_permutation}
 use Rattle.regress_found.specs.declared.found.Match.{Match}
 use Rattle.regress_tree.proofs.lemmas.Characters.{byte_position-zero}
-use Rattle.regress.specs.Compiled.{IsCompiledFrom, IsTreeOf, outcomes_of, tree_of}
+use Rattle.regress.specs.Compiled.{IsCompiledFromIn, IsTreeOfIn, outcomes_of, tree_of}
 use Rattle.regress.specs.declared.pattern.Regex.{Regex}
 
 -- what a search finds is what RegExpBuiltinExec finds, in byte offsets
@@ -24,7 +24,7 @@ abbrev IsMatchOf : Setting → Pattern → (input : List ℕ) → (index : ℕ) 
 IsMatchOf setting p input index found =
     option_map (λ m. (start_of m, state_of m)) found ≡ option_map found_in_bytes (builtin_exec setting p input index)
 
-has_meaning : (setting : Setting) (source : List ℕ) (t : Tree) (is : IsTreeOf setting source t) → HasMeaning setting t is.pattern
+has_meaning : (setting : Setting) (source : List ℕ) (t : Tree) (is : IsTreeOfIn Regress setting source t) → HasMeaning setting t is.pattern
 has_meaning setting source t is = record {
   outcomes = is.meaning;
   groups = length_permutation _ _ is.captures ∙ length-pattern_groups is.pattern ∙ sym (length-names is.pattern);
@@ -40,7 +40,7 @@ over_characters setting p comparable t means text is_text index within (Some m) 
     sym (leftmost setting p comparable t means text is_text index (start_of m) within finds.from finds.boundary (state_of m) finds.first.0
     finds.first.1 finds.least)
 
-pub finds_match_from : (setting : Setting) (pattern : Source) (r : Regex) (compiled : IsCompiledFrom setting pattern r) →
+pub finds_match_from : (setting : Setting) (pattern : Source) (r : Regex) (compiled : IsCompiledFromIn Regress setting pattern r) →
     IsComparable setting compiled.tree.pattern → (text : List ℕ) → IsUtf8 text → (index : ℕ) → index ≤ length (chars text) →
     (found : Option Match) → Finds text (outcomes_of r text) (byte_position (chars text) index) found →
     IsMatchOf setting compiled.tree.pattern (chars text) index found
@@ -52,7 +52,7 @@ finds_match_from setting pattern r compiled comparable text utf8 index within fo
     over_characters setting compiled.tree.pattern comparable (tree_of r) means (chars text) (decoded text utf8) index within found
     (subst (λ (bytes : List ℕ). Finds bytes (outcomes_from setting bytes (tree_of r)) start found) (sym (encodes-chars text utf8)) under_setting)
 
-pub finds_match : (setting : Setting) (pattern : Source) (r : Regex) (compiled : IsCompiledFrom setting pattern r) →
+pub finds_match : (setting : Setting) (pattern : Source) (r : Regex) (compiled : IsCompiledFromIn Regress setting pattern r) →
     IsComparable setting compiled.tree.pattern → (text : List ℕ) → IsUtf8 text → (found : Option Match) →
     Finds text (outcomes_of r text) 0 found → IsMatchOf setting compiled.tree.pattern (chars text) 0 found
 finds_match setting pattern r compiled comparable text utf8 found finds =

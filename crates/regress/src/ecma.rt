@@ -10,7 +10,7 @@ ghost use Rattle.regress_ecma.specs.CompiledClasses.{with_char_sets};
 ghost use Rattle.regress_ecma.specs.Exec.{builtin_exec, found_in_bytes};
 ghost use Rattle.regress_found.specs.Found.{Finds, start_of, state_of};
 ghost use Rattle.regress_found.specs.declared.found.Match.{Match};
-ghost use Rattle.regress.specs.Compiled.{IsCompiledFrom, outcomes_of};
+ghost use Rattle.regress.specs.Compiled.{IsCompiledFromIn, outcomes_of};
 ghost use Rattle.regress.specs.declared.pattern.Regex.{Regex};
 
 use regress_ecma::first_outcome_is_the_match;
@@ -24,21 +24,21 @@ use regress_ecma::first_outcome_is_the_match;
 ///
 /// The function does nothing at run time; call it where a proof needs the theorem.
 pub fn find_returns_the_match_of_ecma()
-    ensures find { (setting : Setting) (pattern : Source) (r : Regex) (compiled : IsCompiledFrom setting pattern r) →
+    ensures find { (setting : Setting) (pattern : Source) (r : Regex) (compiled : IsCompiledFromIn Regress setting pattern r) →
         IsComparable setting compiled.tree.pattern → (text : List ℕ) → IsUtf8 text → (found : Option Match) →
         Finds text (outcomes_of r text) 0 found →
         option_map (λ m. (start_of m, state_of m)) found
         ≡ option_map found_in_bytes (builtin_exec setting compiled.tree.pattern (chars text) 0) }
 
     // From an index of the text on.
-    ensures find_at { (setting : Setting) (pattern : Source) (r : Regex) (compiled : IsCompiledFrom setting pattern r) →
+    ensures find_at { (setting : Setting) (pattern : Source) (r : Regex) (compiled : IsCompiledFromIn Regress setting pattern r) →
         IsComparable setting compiled.tree.pattern → (text : List ℕ) → IsUtf8 text → (index : ℕ) → index ≤ length (chars text) →
         (found : Option Match) → Finds text (outcomes_of r text) (byte_position (chars text) index) found →
         option_map (λ m. (start_of m, state_of m)) found
         ≡ option_map found_in_bytes (builtin_exec setting compiled.tree.pattern (chars text) index) }
 
     // The same with the CharSets that CompileToCharSet returns for the source of each class.
-    ensures source { (setting : Setting) (pattern : Source) (r : Regex) (compiled : IsCompiledFrom setting pattern r) →
+    ensures source { (setting : Setting) (pattern : Source) (r : Regex) (compiled : IsCompiledFromIn Regress setting pattern r) →
         IsComparable setting compiled.tree.pattern → (text : List ℕ) → IsUtf8 text → (index : ℕ) → index ≤ length (chars text) →
         (found : Option Match) → Finds text (outcomes_of r text) (byte_position (chars text) index) found →
         option_map (λ m. (start_of m, state_of m)) found
