@@ -8,6 +8,7 @@ use Rattle.regress_front.specs.Steps.{Setting}
 use Rattle.regress_front.specs.Source.{Source}
 use Rattle.regress_front.specs.Syntax.{Pattern}
 use Rattle.regress_front.specs.Tree.{Tree}
+use Rattle.regress_front.specs.declared.parse.Dialect.TheVariants.{Regress}
 use Rattle.regress_ecma.specs.Compared.{IsComparable}
 use Rattle.regress_ecma.specs.Exec.{builtin_exec, found_in_bytes}
 use Rattle.regress_ecma.proofs.lemmas.Searches.{HasMeaning, outcomes_from, decoded, leftmost, nowhere}

@@ -2,6 +2,7 @@
 ghost use Rattle.std.specs.Prelude.{◌≡◌, ◌≤◌, ℕ, List, Option, chars, length, option_map, []};
 ghost use Rattle.std.specs.Str.{IsUtf8};
 ghost use Rattle.regress_front.specs.Accepted.{own_context};
+ghost use Rattle.regress_front.specs.declared.parse.Dialect.TheVariants.{Regress};
 ghost use Rattle.regress_front.specs.Reading.{byte_position};
 ghost use Rattle.regress_front.specs.Steps.{Setting};
 ghost use Rattle.regress_front.specs.Source.{Source};
