@@ -11,8 +11,7 @@ r"""Regular expressions in the syntax of JavaScript (ECMAScript), with the names
     ['On', 'or']
 
 Patterns and what they match are those of JavaScript, or with compile(.., dialect='regress') those of the Rust crate
-regress. Flags are JavaScript's letters, or the constants beside them,
-which have the numbers of re:
+regress. Flags are JavaScript's letters, or the constants beside them, which have the numbers of re:
 
     i   I, IGNORECASE   ignores case
     m   M, MULTILINE    ^ and $ match at each line
@@ -128,9 +127,9 @@ def compile(pattern, flags='', *, dialect='ecma', steps=None, nodes=None, instru
             memory=None):
     """Compiles a pattern to a Pattern.
 
-    flags are JavaScript's letters, or constants such as I. A Pattern is returned as it is, if no flags are given. dialect is
-    'ecma', the language of JavaScript, or 'regress', that of the Rust crate regress: docs/syntax.md has the rules in which
-    they differ. The limits are:
+    flags are JavaScript's letters, or constants such as I. A Pattern is returned as it is, if no flags are given.
+    dialect is 'ecma', the language of JavaScript, or 'regress', that of the Rust crate regress: docs/syntax.md has the
+    rules in which they differ. The limits are:
 
         steps         the steps of one search that does not take linear time; a billion by default, which takes about a
                       minute at most
@@ -255,8 +254,8 @@ Attributes:
 
 
 def differences(pattern, flags=''):
-    r"""Returns the list of the constructs of a pattern that in the dialect 'regress' may match otherwise than in JavaScript,
-    each a Difference.
+    r"""Returns the list of the constructs of a pattern that in the dialect 'regress' may match otherwise than in
+    JavaScript, each a Difference.
 
         >>> import regress
         >>> [found[:3] for found in regress.differences('a[k]', 'i')]
