@@ -107,7 +107,7 @@ def violations(schema, document):
 
 
 def lint(pattern, flags=''):
-    compiled = regress.compile(pattern, flags)
+    compiled = regress.compile(pattern, flags, dialect='regress')
     warnings = ['%d: %s' % (found.start, found.kind) for found in regress.differences(pattern, flags)]
     return warnings + (['not linear: ' + compiled.nonlinear] if compiled.nonlinear else [])
 

@@ -44,7 +44,7 @@ extern "C" {
 /* The version of this header, and that of the calls: it grows when a call, a status or a number changes its meaning,
    and not when one is added. */
 #define REGRESS_VERSION "0.1.0"
-#define REGRESS_ABI_VERSION 4u
+#define REGRESS_ABI_VERSION 5u
 
 /* A handle to a compiled regular expression. `inside` is the library's own, and NULL in a handle that is zero. */
 typedef struct regress_regex {
@@ -68,7 +68,7 @@ typedef struct regress_matches {
 #define REGRESS_OUT_OF_STEPS 7u    /* the search takes more steps than allowed */
 #define REGRESS_TOO_MUCH_MEMORY 8u /* the search needs more memory than allowed */
 
-/* Flags of a pattern, independent of each other: the flag v of JavaScript is UNICODE and UNICODE_SETS together. */
+/* Flags of a pattern. The flag v of JavaScript is UNICODE and UNICODE_SETS together. */
 #define REGRESS_ICASE 1u         /* i */
 #define REGRESS_MULTILINE 2u     /* m */
 #define REGRESS_DOT_ALL 4u       /* s */
@@ -77,9 +77,8 @@ typedef struct regress_matches {
 /* Use the small table instead of the one of all of Unicode: for patterns in ASCII, and for tests. It has few
    properties; letters in names are those of ASCII and from U+00C0 to U+00F6. */
 #define REGRESS_SMALL_TABLE 32u
-/* The dialect of a pattern, for regress_compile alone; docs/syntax.md has the rules in which the dialects differ.
-   Without either of these bits it is the default of the library, REGRESS. In ECMA, UNICODE_SETS implies UNICODE. */
-#define REGRESS_DIALECT_ECMA 0x10000u
+/* The dialect of a pattern, for regress_compile alone: that of the Rust crate `regress`. Without this bit it is the
+   language of ECMA-262, in which UNICODE_SETS implies UNICODE. docs/syntax.md has the rules in which they differ. */
 #define REGRESS_DIALECT_REGRESS 0x20000u
 
 /* The limits of a compiled pattern; 0 is the default of each, so {0} are the default limits.
@@ -104,8 +103,8 @@ typedef struct regress_limits {
 /* What a group without a capture has as its start and its end. */
 #define REGRESS_UNSET SIZE_MAX
 
-/* A construct of a pattern that may match otherwise than in JavaScript (ECMA-262): its kind, and the half-open range of
-   code-point indices of the pattern where it is. docs/differences.md has the differences. */
+/* A construct of a pattern that in the dialect REGRESS may match otherwise than in JavaScript (ECMA-262): its kind, and
+   the half-open range of code-point indices of the pattern where it is. docs/differences.md has the differences. */
 typedef struct regress_difference {
     uint32_t kind;
     size_t start;
@@ -179,8 +178,8 @@ REGRESS_INLINE uint32_t regress_bad_input(size_t *needed) {
 /* Returns the version of the calls of the library, REGRESS_ABI_VERSION of the header that it was built with. */
 uint32_t regress_abi_version(void);
 
-/* Compiles a pattern, and writes `handle`. A handle that it had before is not freed. `flags` is a sum of flags, and of
-   at most one dialect.
+/* Compiles a pattern, and writes `handle`. A handle that it had before is not freed. `flags` is a sum of flags, and may
+   have the dialect.
 
    Returns OK, SYNTAX, TOO_LARGE, MEMORY or BAD_INPUT. With OK `handle` is written, else it is unchanged. With SYNTAX
    `kind` is the kind of the syntax error and `position` its position, from 0 to the number of code points of the
@@ -539,12 +538,13 @@ REGRESS_INLINE void regress_free(regress_regex *handle) {
     }
 }
 
-/* Finds the constructs of a pattern that may match otherwise than in JavaScript.
+/* Finds the constructs of a pattern that in the dialect REGRESS may match otherwise than in JavaScript.
 
-   If there are none, JavaScript's first match in a text is that of regress_find with the same flags, provided that
-   UNICODE_SETS comes with UNICODE, alone it is no flag of JavaScript, and that SMALL_TABLE is not used. Not reported is
-   what only one of the two accepts or what they parse otherwise, such as \u{61} without UNICODE, nor that without
-   UNICODE JavaScript reads a text by code units. Some constructs are reported that do not differ.
+   If there are none, JavaScript's first match in a text is that of regress_find with the same flags and
+   REGRESS_DIALECT_REGRESS, provided that UNICODE_SETS comes with UNICODE, alone it is no flag of JavaScript, and that
+   SMALL_TABLE is not used. Not reported is what only one of the two accepts or what they parse otherwise, such as
+   \u{61} without UNICODE, nor that without UNICODE JavaScript reads a text by code units. Some constructs are reported
+   that do not differ.
 
    Returns OK, ROOM, SYNTAX, MEMORY or BAD_INPUT. With OK `differences`, a buffer of `room` elements, begins with them.
    `needed` is their number with OK and ROOM, else 0. With SYNTAX `kind` and `position` are those of the syntax error,

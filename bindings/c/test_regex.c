@@ -140,22 +140,22 @@ static uint32_t found_by(const char *pattern, uint32_t flags, const char *text) 
     return status;
 }
 
-/* What V8 matches and rejects, in ECMA; and what the dialect REGRESS does, which is the default. */
+/* What V8 matches and rejects; and what the dialect REGRESS does. */
 static void dialects(void) {
-    const uint32_t ecma = REGRESS_DIALECT_ECMA, regress = REGRESS_DIALECT_REGRESS;
+    const uint32_t regress = REGRESS_DIALECT_REGRESS;
     regress_regex regex = {NULL};
-    CHECK(found_by("[\\W_]", ecma | REGRESS_ICASE, "k") == REGRESS_NO_MATCH);
+    CHECK(found_by("[\\W_]", REGRESS_ICASE, "k") == REGRESS_NO_MATCH);
+    CHECK(found_by("[\\W_]", REGRESS_ICASE, "k_") == REGRESS_OK && ARE(1, 2));
     CHECK(found_by("[\\W_]", regress | REGRESS_ICASE, "k") == REGRESS_OK && ARE(0, 1));
-    CHECK(found_by("[\\W_]", REGRESS_ICASE, "k") == REGRESS_OK && ARE(0, 1));
-    CHECK(found_by("\\u{3}", ecma, "uuu") == REGRESS_OK && ARE(0, 3));
+    CHECK(found_by("\\u{3}", 0, "uuu") == REGRESS_OK && ARE(0, 3));
     CHECK(found_by("\\u{3}", regress, "uuu") == REGRESS_NO_MATCH);
-    CHECK(found_by("\\b+", ecma, "") == REGRESS_SYNTAX && kind == 11 && position == 2);
+    CHECK(found_by("\\b+", 0, "") == REGRESS_SYNTAX && kind == 11 && position == 2);
     CHECK(found_by("\\b+", regress, "a") == REGRESS_OK && ARE(0, 0));
-    /* UNICODE_SETS implies UNICODE in ECMA. */
-    CHECK(found_by("\\y", ecma | REGRESS_UNICODE_SETS, "y") == REGRESS_SYNTAX);
+    /* UNICODE_SETS implies UNICODE but in the dialect REGRESS. */
+    CHECK(found_by("\\y", REGRESS_UNICODE_SETS, "y") == REGRESS_SYNTAX);
     CHECK(found_by("\\y", regress | REGRESS_UNICODE_SETS, "y") == REGRESS_OK && ARE(0, 1));
-    CHECK(compiled("a", SMALL | ecma | regress, &regex) == REGRESS_BAD_INPUT && !regex.inside);
-    CHECK(compiled("a", SMALL | 0x40, &regex) == REGRESS_BAD_INPUT);
+    CHECK(compiled("a", SMALL | 0x40, &regex) == REGRESS_BAD_INPUT && !regex.inside);
+    CHECK(compiled("a", SMALL | 0x10000, &regex) == REGRESS_BAD_INPUT);
     CHECK(compiled("a", SMALL | 0x40000, &regex) == REGRESS_BAD_INPUT);
 }
 

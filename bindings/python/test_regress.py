@@ -384,26 +384,32 @@ class Calls(unittest.TestCase):
         self.assertEqual(caught.exception.pos, 3)
 
     def test_dialects(self):
-        """What holds in 'ecma' is what V8 does."""
+        """What holds in 'ecma', the default, is what V8 does."""
         ecma = regress.compile(r'[\W_]', 'i', dialect='ecma')
+        other = regress.compile(r'[\W_]', 'i', dialect='regress')
         self.assertIsNone(ecma.search('k'))
-        self.assertEqual(regress.compile(r'[\W_]', 'i').search('k').span(), (0, 1))
-        self.assertTrue(regress.compile(r'\u{3}', dialect='ecma').fullmatch('uuu'))
+        self.assertEqual(regress.compile(r'[\W_]', 'i'), ecma)
+        self.assertEqual(regress.sub(r'[\W_]+', '', 'skunk works', flags='i'), 'skunkworks')
+        self.assertEqual(other.search('k').span(), (0, 1))
+        self.assertTrue(regress.compile(r'\u{3}').fullmatch('uuu'))
         self.assertIsNone(regress.compile(r'\u{3}', dialect='regress').fullmatch('uuu'))
-        self.assertEqual(ecma.dialect, 'ecma')
-        self.assertEqual(repr(ecma), "regress.compile('[\\\\W_]', 'i', dialect='ecma')")
-        self.assertEqual(pickle.loads(pickle.dumps(ecma)), ecma)
-        self.assertNotEqual(ecma, regress.compile(r'[\W_]', 'i'))
+        self.assertEqual((ecma.dialect, other.dialect), ('ecma', 'regress'))
+        self.assertEqual(repr(ecma), "regress.compile('[\\\\W_]', 'i')")
+        self.assertEqual(repr(other), "regress.compile('[\\\\W_]', 'i', dialect='regress')")
+        for pattern in ecma, other:
+            self.assertEqual(pickle.loads(pickle.dumps(pattern)), pattern)
+        self.assertNotEqual(ecma, other)
         for pattern, pos in (r'é\b+', 3), (r'é\b+'.encode(), 4):
             with self.assertRaises(regress.error) as raised:
-                regress.compile(pattern, dialect='ecma')
+                regress.compile(pattern)
             self.assertEqual((raised.exception.kind, raised.exception.pos), ('QuantifierNotAllowed', pos))
             self.assertEqual(raised.exception.msg, 'Quantifier not allowed here')
-            regress.compile(pattern)
-        with self.assertRaises(regress.error) as raised:
-            regress.compile(r'(?<b>x)\k<a>', dialect='ecma')
-        self.assertEqual((raised.exception.msg, raised.exception.pos),
-                         ('Backreference to invalid named capture group: a', 10))
+            regress.compile(pattern, dialect='regress')
+        for dialect in 'ecma', 'regress':
+            with self.assertRaises(regress.error) as raised:
+                regress.compile(r'(?<b>x)\k<a>', dialect=dialect)
+            self.assertEqual((raised.exception.msg, raised.exception.pos),
+                             ('Backreference to invalid named capture group: a', 10))
         with self.assertRaises(ValueError):
             regress.compile('a', dialect='perl')
 

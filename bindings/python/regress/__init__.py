@@ -10,8 +10,8 @@ r"""Regular expressions in the syntax of JavaScript (ECMAScript), with the names
     >>> regress.findall('[a-z]+', 'On 12-31 or 1-1', regress.I)
     ['On', 'or']
 
-Patterns and what they match are those of JavaScript. Flags are JavaScript's letters, or the constants beside them,
-which have the numbers of re:
+Patterns and what they match are those of JavaScript, or with compile(.., dialect='regress') those of the Rust crate
+regress. Flags are JavaScript's letters, or the constants beside them, which have the numbers of re:
 
     i   I, IGNORECASE   ignores case
     m   M, MULTILINE    ^ and $ match at each line
@@ -59,7 +59,7 @@ __all__ = ['compile', 'search', 'match', 'fullmatch', 'finditer', 'findall', 'su
 __version__ = '0.1.0'
 
 _OK, _NO_MATCH, _MEMORY, _ROOM, _BAD_INPUT, _SYNTAX, _TOO_LARGE, _OUT_OF_STEPS, _TOO_MUCH_MEMORY = range(9)
-_ABI_VERSION = 4
+_ABI_VERSION = 5
 
 # Why searches are not linear, by the numbers of the library.
 _NONLINEAR = None, 'back-reference', 'capturing-lookaround', 'too-many-instructions'
@@ -69,7 +69,7 @@ _FLAGS = {'i': 1, 'm': 2, 's': 4, 'u': 8, 'v': 8 | 16}
 
 
 # The dialects, as the library has them.
-_DIALECTS = {'regress': 0x20000, 'ecma': 0x10000}
+_DIALECTS = {'ecma': 0, 'regress': 0x20000}
 
 
 class Flag(enum.IntFlag):
@@ -123,12 +123,13 @@ class error(Exception):
         self.kind = kind
 
 
-def compile(pattern, flags='', *, dialect='regress', steps=None, nodes=None, instructions=None, linear_instructions=None,
+def compile(pattern, flags='', *, dialect='ecma', steps=None, nodes=None, instructions=None, linear_instructions=None,
             memory=None):
     """Compiles a pattern to a Pattern.
 
-    flags are JavaScript's letters, or constants such as I. A Pattern is returned as it is, if no flags are given. dialect is
-    'regress' or 'ecma': docs/syntax.md has the rules in which they differ. The limits are:
+    flags are JavaScript's letters, or constants such as I. A Pattern is returned as it is, if no flags are given.
+    dialect is 'ecma', the language of JavaScript, or 'regress', that of the Rust crate regress: docs/syntax.md has the
+    rules in which they differ. The limits are:
 
         steps         the steps of one search that does not take linear time; a billion by default, which takes about a
                       minute at most
@@ -253,7 +254,8 @@ Attributes:
 
 
 def differences(pattern, flags=''):
-    r"""Returns the list of the constructs of a pattern that may match otherwise than in JavaScript, each a Difference.
+    r"""Returns the list of the constructs of a pattern that in the dialect 'regress' may match otherwise than in
+    JavaScript, each a Difference.
 
         >>> import regress
         >>> [found[:3] for found in regress.differences('a[k]', 'i')]
@@ -290,7 +292,7 @@ class Pattern:
     Attributes:
         pattern: its text
         flags: its flags, as letters in alphabetical order
-        dialect: its dialect, 'regress' or 'ecma'
+        dialect: its dialect, 'ecma' or 'regress'
         is_linear: whether searches take linear time, so that the limit of steps does not apply to them
         nonlinear: why they do not, 'back-reference', 'capturing-lookaround' or 'too-many-instructions', the first of
             these that holds; None if they do
@@ -302,11 +304,11 @@ class Pattern:
     """
 
     def __init__(self, pattern, flags='', steps=None, nodes=None, instructions=None, linear_instructions=None,
-                 memory=None, dialect='regress'):
+                 memory=None, dialect='ecma'):
         self.pattern = _pattern_text(pattern)
         self.flags = _letters(flags, self.pattern)
         if dialect not in _DIALECTS:
-            raise ValueError('a dialect is regress or ecma, not %r' % (dialect,))
+            raise ValueError('a dialect is ecma or regress, not %r' % (dialect,))
         self.dialect = dialect
         self._limits = (steps, nodes, instructions, linear_instructions, memory)
         self._program = program = _Program(_utf8(self.pattern), self._bits(), self._limits, self.pattern)
@@ -462,7 +464,7 @@ class Pattern:
         return _bits(self.flags) | _DIALECTS[self.dialect]
 
     def __repr__(self):
-        dialect = '' if self.dialect == 'regress' else ', dialect=%r' % self.dialect
+        dialect = '' if self.dialect == 'ecma' else ', dialect=%r' % self.dialect
         return 'regress.compile(%r%s%s)' % (self.pattern, self.flags and ', %r' % self.flags, dialect)
 
     def __eq__(self, other):
@@ -640,9 +642,9 @@ class _Program:
             ctypes.byref(position))
         if status == _SYNTAX:
             # `offset` code points are not the caller's.
-            if flags & _DIALECTS['ecma']:
-                raise _syntax_error_at(kind.value, position.value - offset, source)
-            raise _syntax_error(pattern, flags & ~_DIALECTS['regress'], source, offset)
+            if flags & _DIALECTS['regress']:
+                raise _syntax_error(pattern, flags & ~_DIALECTS['regress'], source, offset)
+            raise _syntax_error_at(kind.value, position.value - offset, source)
         if status != _OK:
             raise self.failure(status)
         self.address = self._regex.inside

@@ -91,10 +91,11 @@ impl fmt::Display for Difference {
     }
 }
 
-/// Returns the constructs of a pattern that may match otherwise than in JavaScript, under the table of all of Unicode.
+/// Returns the constructs of a pattern that in the dialect [`Regress`](crate::Dialect::Regress) may match otherwise than
+/// in JavaScript, under the table of all of Unicode.
 ///
 /// If there are none, and the pattern is parsed as in JavaScript, its first match is that of JavaScript, on texts of
-/// code points and with `unicode_sets` only beside `unicode`: the flag v does not imply u here. Some constructs are
+/// code points and with `unicode_sets` only beside `unicode`: in this dialect v does not imply u. Some constructs are
 /// reported that do not differ. `docs/differences.md` lists what is not reported: what only one of the two accepts, and
 /// what they parse otherwise, such as `\u{61}` without u.
 ///

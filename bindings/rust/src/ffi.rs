@@ -18,7 +18,7 @@ pub(crate) const TOO_MUCH_MEMORY: u32 = 8;
 pub(crate) const UNSET: usize = usize::MAX;
 
 /// The version of the calls that this crate makes.
-const ABI_VERSION: u32 = 4;
+const ABI_VERSION: u32 = 5;
 
 /// A `regress_regex` of the library.
 #[repr(C)]

@@ -4,8 +4,8 @@ use std::error::Error;
 use std::fmt::{self, Write};
 use std::str::FromStr;
 
-/// The flags of a pattern, independent of each other: the flag v of JavaScript is `unicode` and `unicode_sets`
-/// together.
+/// The flags of a pattern. The flag v of JavaScript is `unicode` and `unicode_sets` together
+/// ([`Dialect::flags_in_force`]).
 #[derive(Clone, Copy, Debug, Default, PartialEq, Eq, Hash)]
 pub struct Flags {
     pub icase: bool,
@@ -15,14 +15,14 @@ pub struct Flags {
     pub unicode_sets: bool,
 }
 
-/// The dialect of the syntax. `docs/syntax.md` has the rules in which the dialects differ.
+/// The dialect of a pattern. `docs/syntax.md` has the rules in which the dialects differ.
 #[derive(Clone, Copy, Debug, Default, PartialEq, Eq, Hash)]
 pub enum Dialect {
-    /// The default. Each flag has its effect independently.
+    /// The language of ECMA-262 with Annex B, and the default.
     #[default]
-    Regress,
-    /// The rules in which the dialects differ are those of ECMA-262 with Annex B.
     Ecma,
+    /// The language of the crate `regress`, and of the calls for trees. Each flag has its effect independently.
+    Regress,
 }
 
 impl Dialect {
@@ -37,7 +37,7 @@ impl Dialect {
     /// Returns the dialect as the library has it.
     pub(crate) fn bits(self) -> u32 {
         match self {
-            Dialect::Ecma => 0x1_0000,
+            Dialect::Ecma => 0,
             Dialect::Regress => 0x2_0000,
         }
     }

@@ -75,7 +75,7 @@ struct Compiled {
 /// The dialect of a regular expression, its limits, 0 for the default of each, and its table of Unicode.
 #[derive(Clone, Copy, Debug, PartialEq, Eq)]
 pub struct Options {
-    /// The dialect of the syntax. By default `Dialect::Regress`.
+    /// The dialect of the pattern. By default `Dialect::Ecma`, the language of JavaScript.
     pub dialect: Dialect,
     /// The number of steps that one search may take if it does not take linear time ([`Regex::is_linear`],
     /// [`Regex::is_find_linear`]). By default a billion, which takes about a minute at most. A call that is about all
@@ -100,7 +100,7 @@ pub struct Options {
 impl Default for Options {
     fn default() -> Options {
         Options {
-            dialect: Dialect::Regress,
+            dialect: Dialect::Ecma,
             steps: 1_000_000_000,
             nodes: 1_000_000,
             instructions: 250_000,

@@ -28,9 +28,12 @@ fn patterns_match_as_their_dialect_says() {
 }
 
 #[test]
-fn the_default_dialect_is_regress() {
-    assert_eq!(Options::default().dialect, Dialect::Regress);
-    assert!(Regex::new(r"\b+").is_ok());
+fn the_default_dialect_is_ecma() {
+    assert_eq!(Options::default().dialect, Dialect::Ecma);
+    assert_eq!(Dialect::default(), Dialect::Ecma);
+    assert!(Regex::new(r"\b+").is_err());
+    let regex = Regex::with_flags(r"[\W_]+", "i").unwrap();
+    assert_eq!(regex.replace_all("skunk works", "").unwrap(), "skunkworks");
 }
 
 #[test]

@@ -5,9 +5,10 @@ use Rattle.serde_json.specs.Data.{Data, string}
 use Rattle.serde_json.specs.Find.{pointer}
 use Rattle.serde_json.specs.View.{view}
 use Rattle.regress_front.specs.Meaning.{setting_of}
+use Rattle.regress_front.specs.declared.parse.Dialect.TheVariants.{Ecma}
 use Rattle.regress_front.specs.declared.types.Flags.{Flags}
 use Rattle.regress_front.specs.declared.unicode.Tables.{Tables}
-use Rattle.regress.specs.Compiled.{IsCompiled, outcomes_of}
+use Rattle.regress.specs.Compiled.{IsCompiledIn, outcomes_of}
 use Rattle.regress.specs.Searched.{MatchesSomewhere}
 use Rattle.regress.specs.Letters.{no_flags}
 use Rattle.regress.specs.declared.pattern.Regex.{Regex}
@@ -18,12 +19,12 @@ use Rattle.example_schema.specs.declared.validator.Violation.{Violation}
 abbrev pub unicode_flags : Flags
 unicode_flags = record no_flags { unicode = true }
 
--- The document has a string at the pointer, and the pattern, compiled with the flag u, matches nowhere in it.
+-- The document has a string at the pointer, and the pattern, compiled in the dialect Ecma with the flag u, matches nowhere in it.
 pub record IsViolation (tables : Tables) (document : Data) (v : Violation) : Type 0 where
   pub text : List ℕ
   pub found : pointer (string_bytes v.pointer) document ≡ Some (string text)
   pub regex : Regex
-  pub compiled : IsCompiled (setting_of unicode_flags tables) (string_bytes v.pattern) regex
+  pub compiled : IsCompiledIn Ecma (setting_of unicode_flags tables) (string_bytes v.pattern) regex
   pub unmatched : ¬ MatchesSomewhere text (outcomes_of regex text)
 
 abbrev pub AreViolations : Validator → List Violation → Type 0

@@ -5,7 +5,8 @@ ghost use Rattle.serde_json.specs.Data.{string};
 ghost use Rattle.serde_json.specs.Find.{pointer};
 ghost use Rattle.serde_json.specs.View.{view};
 ghost use Rattle.regress_front.specs.Meaning.{setting_of};
-ghost use Rattle.regress.specs.Compiled.{IsCompiled};
+ghost use Rattle.regress_front.specs.declared.parse.Dialect.TheVariants.{Ecma};
+ghost use Rattle.regress.specs.Compiled.{IsCompiledIn};
 ghost use Rattle.example_schema.specs.Violated.{IsViolation, Keeps, unicode_flags};
 
 use regress::{Error, Flags, Options, Regex, SearchError, Tables};
@@ -164,7 +165,7 @@ impl Validator<'_> {
     }
 
     fn compile(&self, pattern: &str) -> Result<Regex, Error>
-        ensures { IfOk result (IsCompiled (setting_of unicode_flags (arc_value self.now.tables.now)) pattern.now) }
+        ensures { IfOk result (IsCompiledIn Ecma (setting_of unicode_flags (arc_value self.now.tables.now)) pattern.now) }
     {
         let flags = Flags {
             unicode: true,

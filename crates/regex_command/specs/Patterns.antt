@@ -4,9 +4,8 @@ use Rattle.std.specs.Fmt.{decimal}
 use Rattle.std.specs.List.{FoldsTo}
 use Rattle.std.specs.declared.ops.Range.{Range}
 use Rattle.regex_options.specs.Request.{Form, lines, page}
-use Rattle.regress.specs.Compiled.{IsCompiled, outcomes_of}
+use Rattle.regress.specs.Compiled.{IsCompiledIn, outcomes_of}
 use Rattle.regress.specs.Failures.{IsTooLarge}
-use Rattle.regress.specs.Limits.{default_options}
 use Rattle.regress.specs.declared.pattern.Regex.{Regex}
 use Rattle.regress_differences.specs.CaseMode.{widest_flags}
 use Rattle.regress_differences.specs.Kinds as differences
@@ -29,7 +28,7 @@ use Rattle.regress_spans.specs.Remarks.{Said}
 use Rattle.regress_syntax.specs.Syntax.{Pattern}
 use Rattle.regress_tree.specs.Steps.{Setting}
 use Rattle.regress_warnings.specs.Warned as warnings
-use Rattle.regex_lines.specs.Ending.{IsCostlyPattern, IsLate}
+use Rattle.regex_lines.specs.Ending.{IsCostlyPattern, IsLate, options_in}
 use Rattle.regex_lines.specs.declared.failure.Failure.TheVariants.{Argument, Memory, Output, Closed, Syntax, TooLarge, OutOfSteps, Unreadable, Incomplete, PatternNotUtf8, TooLong}
 use Rattle.regex_lines.specs.declared.failure.Failure.{Failure}
 use Rattle.regex_command.specs.Size.{IsSizeWarning, said_of_size}
@@ -140,7 +139,7 @@ range_of m = record { start = start_of m; end = (state_of m).position }
 -- The ranges are those of all matches of the pattern in the text, in order.
 abbrev pub AreMatchRanges : Setting → (source text : List ℕ) → List (Range ℕ) → Type 0
 AreMatchRanges setting source text ranges =
-    (r : Regex) × IsCompiled setting source r × ((ms : List Match) × AreAllMatches text (outcomes_of r text) ms × (ranges ≡ map range_of ms))
+    (r : Regex) × IsCompiledIn Regress setting source r × ((ms : List Match) × AreAllMatches text (outcomes_of r text) ms × (ranges ≡ map range_of ms))
 
 -- a text that a page shows, and the ranges that it marks in it
 abbrev pub MarkedText : Type 0
@@ -176,7 +175,7 @@ MayFailToFind setting source Memory = ⊤
 MayFailToFind setting source Output = ⊥
 MayFailToFind setting source Closed = ⊥
 MayFailToFind setting source (Syntax pattern text position) = ⊥
-MayFailToFind setting source TooLarge = IsTooLarge setting (chars source) default_options
+MayFailToFind setting source TooLarge = IsTooLarge setting (chars source) (options_in Regress)
 MayFailToFind setting source OutOfSteps = IsCostlyPattern setting source
 MayFailToFind setting source (Unreadable unread) = ⊥
 MayFailToFind setting source Incomplete = ⊥

@@ -2,13 +2,12 @@
 use Rattle.std.specs.Prelude.{◌≡◌, ◌≢◌, ℕ, List, [], ◌∷◌, chars, codes, Option, Some, None}
 use Rattle.regress.specs.Costs.{nonlinear_of}
 use Rattle.regress.specs.Failures.{IsTooLarge}
-use Rattle.regress.specs.Limits.{default_options}
 use Rattle.regress.specs.declared.pattern.Regex.{Regex}
 use Rattle.regress_match.specs.declared.nonlinear.Nonlinear.TheVariants.{BackReference, CapturingLookaround, TooManyInstructions}
 use Rattle.regress_match.specs.declared.nonlinear.Nonlinear.{Nonlinear}
 use Rattle.regress_spans.specs.Remarks.{Said}
 use Rattle.regress_tree.specs.Steps.{Setting}
-use Rattle.regex_lines.specs.Ending.{IsOwn}
+use Rattle.regex_lines.specs.Ending.{IsOwn, options_in}
 use Rattle.regex_command.specs.declared.size.SizeWarning.TheVariants.{ManyInstructions, TooLarge}
 use Rattle.regex_command.specs.declared.size.SizeWarning.{SizeWarning}
 
@@ -21,7 +20,7 @@ HasOwn setting text P = (r : Regex) × IsOwn setting text r × P r
 abbrev pub IsSizeWarning : Setting → (text : List ℕ) → Option SizeWarning → Type 0
 IsSizeWarning setting text None = HasOwn setting text (λ r. nonlinear_of r ≢ Some TooManyInstructions)
 IsSizeWarning setting text (Some ManyInstructions) = HasOwn setting text (λ r. nonlinear_of r ≡ Some TooManyInstructions)
-IsSizeWarning setting text (Some TooLarge) = IsTooLarge setting (chars text) default_options
+IsSizeWarning setting text (Some TooLarge) = IsTooLarge setting (chars text) (options_in Regress)
 
 -- what is warned of if searches are not linear for this reason
 abbrev pub instructions_warning : Option Nonlinear → Option SizeWarning

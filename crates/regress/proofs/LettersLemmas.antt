@@ -1,9 +1,13 @@
--- Counting one more letter, and letters that JavaScript rejects.
+-- Counting one more letter, letters that JavaScript rejects, and the flags in force.
 use Rattle.std.proofs.Common.{◌≡◌, ◌∙◌, ℕ, ◌+◌, ◌<◌, ◌≤◌, min, Bool, true, false, List, [], ◌∷◌, ◌++◌, cond, get_or, length, refl, ap, subst, sym, arith}
-use Rattle.std.specs.Prelude.{◌==◌}
+use Rattle.std.specs.Prelude.{◌==◌, ◌||◌}
 use Rattle.std.specs.Int.{from_bool}
+use Rattle.std.proofs.Math.Bool.{or_assoc, or_self}
 use Rattle.std.proofs.lemmas.List.Sums.{sum_by-append}
-use Rattle.regress.specs.Letters.{AreFlags, count, is_known}
+use Rattle.regress_front.specs.Dialects.{flags_in_force}
+use Rattle.regress_front.specs.Source.{char}
+use Rattle.regress_front.specs.declared.parse.Dialect.TheVariants.{Ecma}
+use Rattle.regress.specs.Letters.{AreFlags, count, flags_of, has, is_known}
 
 one : (b : Bool) → 0 + cond b 1 0 ≡ from_bool b
 one true = refl
@@ -45,3 +49,10 @@ once_at letters x i times within is counted twice flags =
 
 pub within_once : (n times : ℕ) → times ≡ min n 18446744073709551615 → times ≤ 1 → n ≤ 1
 within_once n times counted few = omega arith
+
+-- The flags of letters are in force in the dialect Ecma as they are: v includes u there already.
+pub in_force : (letters : List ℕ) → flags_in_force Ecma (flags_of letters) ≡ flags_of letters
+in_force letters =
+    let u = has letters (char "u") in
+    let v = has letters (char "v") in
+    ap (λ unicode. record (flags_of letters) { unicode = unicode }) (or_assoc u v v ∙ ap (λ b. u || b) (or_self v))

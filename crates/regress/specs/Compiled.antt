@@ -9,7 +9,6 @@ use Rattle.regress_front.specs.Syntax.{Pattern}
 use Rattle.regress_front.specs.Tree.{Tree}
 use Rattle.regress_front.specs.WellFormed.{Capture, IsWellFormed, captures}
 use Rattle.regress_front.specs.declared.parse.Dialect.{Dialect}
-use Rattle.regress_front.specs.declared.parse.Dialect.TheVariants.{Regress}
 use Rattle.regress_found.specs.Found.{outcomes_at}
 use Rattle.regress_found.specs.declared.found.Match as matcher
 use Rattle.regress_match.specs.Pattern.{matcher_setting, matcher_tree, capture_of}
@@ -56,17 +55,6 @@ module _ (dialect : Dialect) where
   pub record IsCompiledIn (s : Setting) (text : List ℕ) (r : Regex) : Type 0 where
     pub from : IsCompiledFromIn s (chars text) r
     pub source : source_of r ≡ text
-
--- ---- the same in the default dialect
-
-abbrev pub IsTreeOf : Setting → Source → Tree → Type 0
-IsTreeOf = IsTreeOfIn Regress
-
-abbrev pub IsCompiledFrom : Setting → Source → Regex → Type 0
-IsCompiledFrom = IsCompiledFromIn Regress
-
-abbrev pub IsCompiled : Setting → (text : List ℕ) → Regex → Type 0
-IsCompiled = IsCompiledIn Regress
 
 -- the match that a search has found
 abbrev pub match_of : Match → matcher.Match

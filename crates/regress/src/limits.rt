@@ -5,8 +5,8 @@ use regress_match::Limits;
 /// The dialect of a regular expression, and its limits.
 #[derive(Clone, Copy, Debug, PartialEq, Eq)]
 pub struct Options {
-    /// The dialect of the syntax. `Dialect::Regress` by default; `docs/syntax.md` has the rules in which the dialects
-    /// differ.
+    /// The dialect of the pattern. `Dialect::Ecma` by default, the language of ECMA-262; `docs/syntax.md` has the rules in
+    /// which the dialects differ.
     pub dialect: Dialect,
     /// The number of steps that one search may take if it is not linear, counted as in `Backtracker::find` of
     /// `regress_backtrack`. All matches that an iterator returns are one search. A billion by default, which takes about a
@@ -37,7 +37,7 @@ impl Default for Options {
 
     fn default() -> Options {
         Options {
-            dialect: Dialect::Regress,
+            dialect: Dialect::Ecma,
             steps: 1_000_000_000,
             nodes: 1_000_000,
             instructions: 250_000,

@@ -20,7 +20,8 @@ use std::alloc::Global;
 use std::fmt::{self, Display, Formatter, Write};
 use std::sync::Arc;
 
-/// A compiled regular expression (ECMA-262, RegExp), for any number of searches.
+/// A compiled regular expression (ECMA-262, RegExp), for any number of searches. Its pattern is of the dialect `Ecma`
+/// unless [`Options`] name another.
 ///
 /// It keeps its source, its tree in normal form, its program, and its share of the tables. If [`Regex::is_linear`], a
 /// search for all matches takes time linear in the length of the text, and if [`Regex::is_find_linear`], a search for one
@@ -58,6 +59,7 @@ impl Regex {
     ghost use Rattle.regress_front.specs.Dialects.{flags_in_force};
     ghost use Rattle.regress_front.specs.Meaning.{setting_of as setting_under};
     ghost use Rattle.regress_front.specs.Source.{IsCodePoint};
+    ghost use Rattle.regress_front.specs.declared.parse.Dialect.TheVariants.{Ecma};
     ghost use Rattle.regress_found.specs.Found.{IsInside, Finds};
     ghost use Rattle.regress_match.specs.Matcher.{IsFactorOf, IsFindFactorOf, IsNonlinearOf, is_find_linear_tree};
     ghost use Rattle.regress_found.specs.Repeated.{AreAllMatches};
@@ -67,7 +69,7 @@ impl Regex {
     ghost use Rattle.regress.specs.Costs.{AllCostLimit, CostsLimit, factor_of, find_factor_of, limit_of, matcher_of, nonlinear_of};
     ghost use Rattle.regress.specs.Kept.{Keeps};
     ghost use Rattle.regress.specs.Memory.{TablesNeedMore, instructions_of, memory_of};
-    ghost use Rattle.regress.specs.Compiled.{IsCompiled, IsCompiledFromIn, IsCompiledIn, groups_of, outcomes_of, setting_of, source_of, tree_of, groups_in, match_of};
+    ghost use Rattle.regress.specs.Compiled.{IsCompiledFromIn, IsCompiledIn, groups_of, outcomes_of, setting_of, source_of, tree_of, groups_in, match_of};
     ghost use Rattle.regress.specs.Unicode.{unicode_setting};
     ghost use Rattle.regress.specs.Source.{text_of};
     ghost use Rattle.regress.specs.Failures.{IsDue, IsDueWithLetters};
@@ -78,7 +80,8 @@ impl Regex {
     ghost use Rattle.regress.specs.Required.{RequiresLiteral};
     ghost use Rattle.regress.specs.declared.failure.SearchError.TheVariants.{OutOfSteps, TooMuchMemory};
 
-    /// Compiles a pattern without flags, under the table of all of Unicode, within the default [`Options`].
+    /// Compiles a pattern of the dialect `Ecma` without flags, under the table of all of Unicode, within the default
+    /// [`Options`].
     ///
     /// The table is made for this pattern. A caller with many patterns makes it once, by `unicode_tables` of
     /// `regress_ucd`, and lends it to [`Regex::with_options`].
@@ -86,7 +89,7 @@ impl Regex {
     /// # Errors
     /// As for [`Regex::with_options`].
     pub fn new(alloc: Global, pattern: &str) -> Result<Regex, Error>
-        ensures compiled { IfOk result (IsCompiled (unicode_setting no_flags) pattern.now) }
+        ensures compiled { IfOk result (IsCompiledIn Ecma (unicode_setting no_flags) pattern.now) }
         ensures keeps { IfOk result (Keeps default_options no_flags (chars pattern.now)) }
         ensures failed { IfErr result (IsDue (unicode_setting no_flags) (chars pattern.now) default_options) }
     {
@@ -111,7 +114,7 @@ impl Regex {
     /// ```
     pub fn with_flags(alloc: Global, pattern: &str, letters: &str) -> Result<Regex, Error>
         ensures accepted { IfOk result (λ _. AreFlags (chars letters.now)) }
-        ensures compiled { IfOk result (IsCompiled (unicode_setting (flags_of (chars letters.now))) pattern.now) }
+        ensures compiled { IfOk result (IsCompiledIn Ecma (unicode_setting (flags_of (chars letters.now))) pattern.now) }
         ensures keeps { IfOk result (Keeps default_options (flags_of (chars letters.now)) (chars pattern.now)) }
         ensures failed { IfErr result (IsDueWithLetters (chars letters.now) (chars pattern.now)) }
     {
@@ -119,7 +122,8 @@ impl Regex {
         Regex::under_unicode(alloc, pattern, flags)
     }
 
-    /// Compiles a pattern with flags, within limits, under tables that the caller makes once for all patterns.
+    /// Compiles a pattern of a dialect with flags, within limits, under tables that the caller makes once for all
+    /// patterns.
     ///
     /// # Errors
     /// - [`Error::TooLarge`] if `node_bound` of the pattern exceeds `options.nodes`, whether or not the pattern is
@@ -245,11 +249,11 @@ impl Regex {
         })
     }
 
-    /// Compiles a pattern under the table of all of Unicode, within the default options.
+    /// Compiles a pattern of the dialect `Ecma` under the table of all of Unicode, within the default options.
     fn under_unicode(alloc: Global, pattern: &str, flags: Flags) -> Result<Regex, Error>
-        ensures compiled { IfOk result (IsCompiled (unicode_setting flags) pattern.now) }
-        ensures keeps { IfOk result (Keeps default_options flags (chars pattern.now)) }
-        ensures failed { IfErr result (IsDue (unicode_setting flags) (chars pattern.now) default_options) }
+        ensures compiled { IfOk result (IsCompiledIn Ecma (unicode_setting (flags_in_force Ecma flags)) pattern.now) }
+        ensures keeps { IfOk result (Keeps default_options (flags_in_force Ecma flags) (chars pattern.now)) }
+        ensures failed { IfErr result (IsDue (unicode_setting (flags_in_force Ecma flags)) (chars pattern.now) default_options) }
     {
         let tables = Arc::new(alloc, unicode_tables(alloc)?)?;
         Regex::with_options(alloc, pattern, flags, Options::default(), &tables)

@@ -9,7 +9,6 @@ use Rattle.regress_tree.specs.Steps.{Setting}
 use Rattle.regress_lexer.specs.Dialects.{flags_in_force}
 use Rattle.regress_lexer.specs.declared.dialect.Dialect.{Dialect}
 use Rattle.regress_lexer.specs.declared.dialect.Dialect.TheVariants.{Ecma, Regress}
-use Rattle.regress.specs.Limits.{default_options}
 
 -- whether the bit is set
 abbrev pub has : ℕ → ℕ → Bool
@@ -47,17 +46,17 @@ IsTextRequest pattern bits choice = IsUtf8 pattern × AreOptions bits choice
 
 -- ---- compiling: the bits also name a dialect
 
--- the dialect that bit 16 or 17 names; without either, the default one
+-- Regress if bit 17 is set, else Ecma
 abbrev pub dialect_of : ℕ → Dialect
-dialect_of bits = if has bits 0x10000 then Ecma else if has bits 0x20000 then Regress else default_options.dialect
+dialect_of bits = if has bits 0x20000 then Regress else Ecma
 
 -- the flags that are in force in the dialect, and the table that the bits specify
 abbrev pub setting_in : Dialect → (bits : ℕ) → Setting
 setting_in dialect bits = record { flags = flags_in_force dialect (flags_of bits); table = table_by bits }
 
--- no bit but 0 to 5, 16 and 17, and not both of the latter
+-- no bit but 0 to 5 and 17
 abbrev pub AreCompileBits : ℕ → Type 0
-AreCompileBits bits = (bit_and bits 0x3003F ≡ bits) × (bit_and bits 0x30000 < 0x30000)
+AreCompileBits bits = bit_and bits 0x2003F ≡ bits
 
 -- a pattern in UTF-8, and valid bits
 abbrev pub IsCompileRequest : List ℕ → ℕ → Type 0

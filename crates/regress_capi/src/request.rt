@@ -4,7 +4,7 @@ ghost use Rattle.regress_front.specs.Intervals.{code_point_max};
 ghost use Rattle.regress_front.specs.TableOf.{table_of};
 ghost use Rattle.regress_capi.specs.Request.{dialect_of, flags_of, table_by, AreCompileBits, AreOptions, IsRequest, IsTextRequest};
 
-use regress::{Dialect, Options};
+use regress::Dialect;
 use regress_front::codepointset::CODE_POINT_MAX;
 use regress_front::types::Flags;
 use regress_front::unicode::Tables;
@@ -26,13 +26,9 @@ const SMALL_TABLE: u32 = 32;
 
 const ALL_BITS: u32 = 63;
 
-const DIALECT_ECMA: u32 = 0x1_0000;
-
 const DIALECT_REGRESS: u32 = 0x2_0000;
 
-const DIALECT_BITS: u32 = 0x3_0000;
-
-const COMPILE_BITS: u32 = 0x3_003F;
+const COMPILE_BITS: u32 = 0x2_003F;
 
 /// Returns whether `pattern` consists of code points, `bits` of known flags, and `choice` is 0 or 1.
 pub(crate) fn is_request(pattern: &[u32], bits: u32, choice: u32) -> bool
@@ -48,11 +44,11 @@ pub(crate) fn are_options(bits: u32, choice: u32) -> bool
     bits <= ALL_BITS && choice < 2
 }
 
-/// Returns whether `bits` consists of known flags, and of at most one dialect.
+/// Returns whether `bits` consists of known flags and the dialect.
 pub(crate) fn are_compile_bits(bits: u32) -> bool
     ensures { IsTrue result ↔ AreCompileBits bits }
 {
-    bits & COMPILE_BITS == bits && bits & DIALECT_BITS < DIALECT_BITS
+    bits & COMPILE_BITS == bits
 }
 
 /// Returns the code points of a pattern in UTF-8; `None` if it is not UTF-8 or the options are invalid.
@@ -88,16 +84,14 @@ pub(crate) fn parse_flags(bits: u32) -> Flags
     }
 }
 
-/// Returns the dialect that `bits` names, or the default one.
+/// Returns the dialect that `bits` specifies.
 pub(crate) fn dialect_of(bits: u32) -> Dialect
     ensures { result ≡ dialect_of bits }
 {
-    if bits & DIALECT_ECMA != 0 {
-        Dialect::Ecma
-    } else if bits & DIALECT_REGRESS != 0 {
+    if bits & DIALECT_REGRESS != 0 {
         Dialect::Regress
     } else {
-        Options::default().dialect
+        Dialect::Ecma
     }
 }
 

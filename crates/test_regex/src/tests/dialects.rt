@@ -98,11 +98,15 @@ fn the_flag_v_implies_u_in_ecma(rt: HostRuntime) -> Result<(), Fail> {
 }
 
 #[test]
-fn the_default_dialect_is_regress(rt: HostRuntime) -> Result<(), Fail> {
+fn the_default_dialect_is_ecma(rt: HostRuntime) -> Result<(), Fail> {
     let alloc = rt.alloc();
-    expect_eq!(rt; Options::default().dialect, Dialect::Regress);
-    let regex = Regex::with_flags(alloc, "\\b*[\\W_]", "i")?;
-    expect_eq!(rt; end_in(alloc, &regex, "k")?, Some(1));
+    expect_eq!(rt; Options::default().dialect, Dialect::Ecma);
+    let regex = Regex::with_flags(alloc, "[\\W_]", "i")?;
+    expect_eq!(rt; end_in(alloc, &regex, "k")?, None);
+    expect_eq!(rt; end_in(alloc, &regex, "k_")?, Some(2));
+    assert!(rt; Regex::new(alloc, "\\b*").is_err());
+    assert!(rt; Regex::with_flags(alloc, "\\y", "v").is_err());
+    assert!(rt; Regex::with_flags(alloc, "a", "v")?.flags().unicode);
     Ok(())
 }
 
