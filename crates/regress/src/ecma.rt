@@ -20,8 +20,8 @@ use regress_ecma::first_outcome_is_the_match;
 /// offsets in place of indices, or that both find nothing.
 ///
 /// In the dialect `Ecma` it is about every pattern (`in_ecma`), in `Regress` about patterns without a differing construct
-/// (`IsComparable` of `regress_ecma`). Tables have the case data of Unicode, and texts are code points. The clause `finds` of [`Regex::find`](crate::Regex::find) and
-/// [`Regex::find_at`](crate::Regex::find_at) gives the premise about the search.
+/// (`IsComparable` of `regress_ecma`). Tables have the case data of Unicode, and texts are code points. The clause `finds`
+/// of [`Regex::find`](crate::Regex::find) and [`Regex::find_at`](crate::Regex::find_at) gives the premise about the search.
 ///
 /// The function does nothing at run time; call it where a proof needs the theorem.
 pub fn find_returns_the_match_of_ecma()
