@@ -21,13 +21,12 @@ use Rattle.regress_code.specs.Code.{code_routines}
 use Rattle.regress_tables.specs.Bits.{bits_of}
 use Rattle.regress_tables.specs.Evaluated.{CanFill, IsFilled}
 use Rattle.regress_tables.specs.declared.evaluate.Input.{Input}
-use Rattle.regress_tables.specs.declared.memo.Entry.{Entry}
 use Rattle.regress_tables.specs.declared.memo.Key.{Key}
 use Rattle.regress_tables.specs.declared.memo.Memo.{Memo}
 use Rattle.regress_tables.specs.declared.probe.Probe.{Probe}
 use Rattle.regress_tables.specs.declared.probe.Probe.TheVariants as probes
 use Rattle.regress_tables.specs.declared.table.Table.{Table}
-use Rattle.regress_tables.specs.Memo.{Covers, HasKey, IsEntry, IsKept, IsKnown, IsNear, IsSymbol, Knows, Represents, row_bit}
+use Rattle.regress_tables.specs.Memo.{Covers, HasKey, IsEntry, IsKept, IsKnown, IsNear, IsSymbol, Knows, Represents, direct_index, row_bit}
 use Rattle.regress_tables.specs.Probes.{CanProbe, Coded, IsProbe, Leads, digit, jumps_if}
 use Rattle.regress_program.specs.Tidy.{has_no_back_reference}
 use Rattle.regress_program.proofs.lemmas.Instructions.{no_reference-at}
@@ -172,19 +171,20 @@ module _ (t t' : Table) (extra : List Bool) (bits : bits_of t'.bits ≡ bits_of 
     probes = has.probes;
   }
 
-  pub entry-more : (input : Input) (outs : ℕ → Out) (ops : List Op) (far : List ℕ) (entry : Entry) → IsEntry input outs ops t far entry → IsEntry input outs ops t' far entry
-  entry-more input outs ops far entry is = record {
+  pub entry-more : (input : Input) (outs : ℕ → Out) (ops : List Op) (far : List ℕ) (key : Key) (row : ℕ) → IsEntry input outs ops t far key row →
+      IsEntry input outs ops t' far key row
+  entry-more input outs ops far key row is = record {
     position = is.position;
-    has = has-more input outs ops far is.position entry.key is.has;
-    row = represents-more (outs (length input.tables.now)) entry.row is.position is.row;
+    has = has-more input outs ops far is.position key is.has;
+    represents = represents-more (outs (length input.tables.now)) row is.position is.represents;
   }
 
   -- What is known, after more bits, where the new entries have the key of a position and a row that represents it.
   pub known-next : (input : Input) (r : Routine) (memo memo' : Memo) (x : ℕ) → IsKnown input r t memo → memo'.far.items ≡ memo.far.items →
       ((outs : ℕ → Out) → IsSolution (subject input.rules input.text.now).setting input.text.now (code_routines input.code.now) outs →
       AreRight outs input.tables.now → Knows input outs r.ops t memo → IsRight (outs (length input.tables.now)) t'
-      × ((k : ℕ) (e : Entry) → slice_get memo'.slots.items k ≡ Some (Some e) → (slice_get memo.slots.items k ≡ Some (Some e))
-      ⊎ (Represents (outs (length input.tables.now)) t' e.row x × HasKey input outs r.ops t memo.far.items x e.key))) →
+      × ((key : Key) (row : ℕ) → IsKept memo' (Some key) row → IsKept memo (Some key) row
+      ⊎ (Represents (outs (length input.tables.now)) t' row x × HasKey input outs r.ops t memo.far.items x key))) →
       IsKnown input r t' memo'
   known-next input r memo memo' x known far_is each = record {
     covers = subst (Covers r.ops) (sym far_is) known.covers;
@@ -193,9 +193,9 @@ module _ (t t' : Table) (extra : List Bool) (bits : bits_of t'.bits ≡ bits_of 
         let next = each outs solution right knows in
         record {
           right = next.0;
-          entries = λ k e is_e. subst (λ far. IsEntry input outs r.ops t' far e) (sym far_is) (elim (next.1 k e is_e) [
-            | inl old ↦ entry-more input outs r.ops memo.far.items e (knows.entries k e old)
-            | inr new ↦ record { position = x; has = has-more input outs r.ops memo.far.items x e.key new.1; row = new.0 }
+          entries = λ key row kept. subst (λ far. IsEntry input outs r.ops t' far key row) (sym far_is) (elim (next.1 key row kept) [
+            | inl old ↦ entry-more input outs r.ops memo.far.items key row (knows.entries key row old)
+            | inr new ↦ record { position = x; has = has-more input outs r.ops memo.far.items x key new.1; represents = new.0 }
           ]);
         };
   }
@@ -272,12 +272,12 @@ right-same out t t' bits same right = record {
 
 -- Nothing is known of a table without a row.
 pub known-start : (input : Input) (r : Routine) (t : Table) (memo : Memo) → evaluated t ≡ [] → Covers r.ops memo.far.items →
-    ((k : ℕ) (entry : Entry) → slice_get memo.slots.items k ≡ Some (Some entry) → ⊥) → IsKnown input r t memo
-known-start input r t memo empty covers no_entries = record {
+    ((key : Key) (row : ℕ) → IsKept memo (Some key) row → ⊥) → IsKnown input r t memo
+known-start input r t memo empty covers none = record {
   covers = covers;
   knows = λ outs solution right. record {
     right = record { tells = λ pc moved q lt le before. absurd (omega (arith, before, ap length empty)) };
-    entries = λ k entry is. absurd (no_entries k entry is);
+    entries = λ key row kept. absurd (none key row kept);
   };
 }
 
@@ -334,7 +334,7 @@ module _ (input : Input) (r : Routine) (t : Table) (memo : Memo) (x : ℕ) (can 
   pub known-flat : (t' : Table) (extra : List Bool) → Grows t t' extra → (IsFilled input t → IsFilled input t') → IsKnown input r t' memo
   known-flat t' extra grows filled =
       known-next t t' extra grows.bits grows.shape input r memo memo x known refl
-      (λ outs solution right knows. (filled (λ outs' solution' right'. (known.knows outs' solution' right').right) outs solution right, λ k e is. inl is))
+      (λ outs solution right knows. (filled (λ outs' solution' right'. (known.knows outs' solution' right').right) outs solution right, λ k n kept. inl kept))
 
   module _ (numbered : length t.rows.items ≡ row_of (direction_if t.backwards) t.length x) (key : Option Key)
       (has : IfSome key (λ k. (outs : ℕ → Out) → AreRight outs input.tables.now → Knows input outs r.ops t memo → HasKey input outs r.ops t memo.far.items x k)) where
@@ -346,7 +346,7 @@ module _ (input : Input) (r : Routine) (t : Table) (memo : Memo) (x : ℕ) (can 
 
     -- the number of a row that was computed from the same
     pub known-hit : (t' : Table) (n : ℕ) → SameShape t t' → t'.rows.items ≡ t.rows.items ++ n ∷ [] → bits_of t'.bits ≡ bits_of t.bits →
-        evaluated t' ≡ evaluated t ++ row_bits t n → n < t.distinct → IsKept memo.slots.items key n → IsKnown input r t' memo
+        evaluated t' ≡ evaluated t ++ row_bits t n → n < t.distinct → IsKept memo key n → IsKnown input r t' memo
     known-hit t' n same rows bits bits-more less kept =
         let bits' : bits_of t'.bits ≡ bits_of t.bits ++ [] = bits ∙ sym (append-nil (bits_of t.bits)) in
         known-next t t' [] bits' same input r memo memo x known refl
@@ -356,25 +356,25 @@ module _ (input : Input) (r : Routine) (t : Table) (memo : Memo) (x : ℕ) (can 
           right-next out t t' (row_bits t n) row x bits-more same (sym numbered) within (next-row t x at ∙ ap (λ k. k * (2 * t.width)) (sym numbered))
               (length-row t n (row-stored t n less)) knows.right
               (subst (λ k. Represents out t' k x) (sym (last-number t' n rows)) (represents-more t t' [] bits' same out n x is)),
-          λ k e is_e. inl is_e,
+          λ k m kept'. inl kept',
         ))
       where
         represents : (outs : ℕ → Out) → IsSolution (subject input.rules input.text.now).setting input.text.now (code_routines input.code.now) outs →
-            AreRight outs input.tables.now → Knows input outs r.ops t memo → (o : Option Key) → IsKept memo.slots.items o n →
+            AreRight outs input.tables.now → Knows input outs r.ops t memo → (o : Option Key) → IsKept memo o n →
             IfSome o (λ k. (outs' : ℕ → Out) → AreRight outs' input.tables.now → Knows input outs' r.ops t memo → HasKey input outs' r.ops t memo.far.items x k) →
             Represents (outs (length input.tables.now)) t n x
         represents outs solution right knows None kept' has' = absurd kept'
         represents outs solution right knows (Some k) kept' has' =
-            let entry = knows.entries kept'.0 (record { key = k; row = n }) kept'.1 in
-            represents-same input outs r t memo.far.items x entry.position n k solution can known.covers entry.has (has' outs right knows) entry.row
+            let entry = knows.entries k n kept' in
+            represents-same input outs r t memo.far.items x entry.position n k solution can known.covers entry.has (has' outs right knows) entry.represents
 
     -- the number of a row that was computed
     pub known-miss : (t' u : Table) (memo' : Memo) (n : ℕ) (extra : List Bool) → Grows t t' extra → (IsFilled input t → IsFilled input t') →
         SameShape t' u → u.rows.items ≡ t'.rows.items ++ n ∷ [] → bits_of u.bits ≡ take (u.distinct * (2 * t'.width)) (bits_of t'.bits) →
         t'.distinct ≤ u.distinct → evaluated u ≡ evaluated t' → memo'.far.items ≡ memo.far.items →
-        ((i : ℕ) (e : Entry) → slice_get memo'.slots.items i ≡ Some (Some e) → (slice_get memo.slots.items i ≡ Some (Some e)) ⊎ ((key ≡ Some e.key) × (e.row ≡ n))) →
+        ((k : Key) (m : ℕ) → IsKept memo' (Some k) m → IsKept memo (Some k) m ⊎ ((key ≡ Some k) × (m ≡ n))) →
         IsKnown input r u memo'
-    known-miss t' u memo' n extra grows filled shared rows bits le same far_is slots_is =
+    known-miss t' u memo' n extra grows filled shared rows bits le same far_is kept_is =
         let shape : SameShape t u = SameShape-trans t t' u grows.shape shared in
         let m = u.distinct * (2 * t'.width) in
         let whole : t'.distinct * (2 * t'.width) ≡ length (bits_of t.bits) =
@@ -393,15 +393,23 @@ module _ (input : Input) (r : Routine) (t : Table) (memo : Memo) (x : ℕ) (can 
         (represented out u row x right' (same-row_of t u x shape ∙ sym numbered) (omega (arith, within, shape.length))
         (omega (arith, ap length rows', length-append t.rows.items (n ∷ [])))) in (
           right',
-          λ i e is_e. elim (slots_is i e is_e) [
+          λ k m kept. elim (kept_is k m kept) [
             | inl old ↦ inl old
             | inr new ↦ inr (
-              subst (λ m. Represents out u m x) (sym new.1) is,
+              subst (λ row'. Represents out u row' x) (sym new.1) is,
               (subst (λ o. IfSome o (λ k'. (outs : ℕ → Out) → AreRight outs input.tables.now → Knows input outs r.ops t memo →
                   HasKey input outs r.ops t memo.far.items x k')) new.0 has) outs right knows,
             )
           ],
         ))
+
+-- A memo with the same entries keeps the same.
+pub kept-same : (memo' memo : Memo) → memo'.slots ≡ memo.slots → memo'.direct ≡ memo.direct → (key : Key) (n : ℕ) → IsKept memo' (Some key) n →
+    IsKept memo (Some key) n
+kept-same memo' memo slots direct key n kept = elim kept [
+  | inl hashed ↦ inl (hashed.0, ap (λ v. slice_get v.items hashed.0) (sym slots) ∙ hashed.1)
+  | inr found ↦ inr (found.0, ap (λ v. slice_get v.items (direct_index key)) (sym direct) ∙ found.1)
+]
 
 -- ---- the instructions that are listed
 

@@ -123,7 +123,8 @@ fn first_equal(table: &Table, memo: &mut Memo) -> usize
     requires one { length (bits_of table.now.bits) ≡ (table.now.distinct + 1) * (2 * table.now.width) }
     requires inside { table.now.distinct ≤ table.now.length }
     ensures far { memo.new.far.items ≡ memo.old.far.items }
-    ensures slots { memo.new.slots.items ≡ memo.old.slots.items }
+    ensures slots { memo.new.slots ≡ memo.old.slots }
+    ensures direct { memo.new.direct ≡ memo.old.direct }
     ensures earlier { result ≤ table.now.distinct }
     ensures same { row_bits table.now result ≡ row_bits table.now table.now.distinct }
 {

@@ -1,7 +1,7 @@
 //! Rows that were filled, by what they were computed from.
-ghost use Rattle.std.specs.Prelude.{◌≡◌, ◌<◌, ℕ, ◌⊎◌, IfOk, IfSome, Some, false, slice_get, true};
+ghost use Rattle.std.specs.Prelude.{◌≡◌, ◌≢◌, ◌<◌, ℕ, ◌⊎◌, All, IfOk, IfSome, None, Some, false, slice_get, true};
 ghost use Rattle.regress_program.specs.Views.{op_in, ops_in};
-ghost use Rattle.regress_tables.specs.Memo.{Covers, IsKept, IsNear};
+ghost use Rattle.regress_tables.specs.Memo.{Covers, IsDirect, IsKept, IsNear, direct_index};
 
 use crate::evaluate::Input;
 use regress_leaves::leaves::takes_one;
@@ -33,7 +33,10 @@ pub struct Entry {
 pub(crate) struct Memo {
     /// The instructions that look at the text, but for those that match one character.
     pub(crate) far: Vec<usize>,
-    /// Rows by the hash of what they were computed from.
+    /// Rows by the number of the row behind and the next character, for ASCII characters at which no other instruction leads
+    /// anywhere: 128 for each row. It is the number of the row and 1, or 0 if none was filled.
+    pub(crate) direct: Vec<u32>,
+    /// Other rows by the hash of what they were computed from.
     pub(crate) slots: Vec<Option<Entry>>,
     /// Rows by the hash of their bits.
     pub(crate) heads: Vec<usize>,
@@ -41,6 +44,12 @@ pub(crate) struct Memo {
 
 /// The largest number of slots.
 const SLOTS: usize = 1024;
+
+/// The largest number of rows behind whose next rows are found directly.
+const DIRECT_ROWS: usize = 64;
+
+/// The number of positions for each of these rows, so that they take no more time than the text.
+const POSITIONS: usize = 64;
 
 impl Memo {
     /// Returns a memo for a routine, without a row. For a short text it has a slot for each position.
@@ -53,11 +62,13 @@ impl Memo {
         routine: &Routine,
     ) -> Result<Memo, AllocError>
         ensures covers { IfOk result (λ memo. Covers (ops_in input.entry.code.now.program.leaves.items routine.now.instructions.items) memo.far.items) }
-        ensures slots { IfOk result (λ memo. (k : ℕ) (entry : Entry) → slice_get memo.slots.items k ≡ Some (Some entry) → ⊥) }
+        ensures empty { IfOk result (λ memo. (key : Key) (row : ℕ) → IsKept memo (Some key) row → ⊥) }
     {
         let count = SLOTS.min(input.text.len() + 1);
+        let rows = DIRECT_ROWS.min(input.text.len() / POSITIONS);
         Ok(Memo {
             far: far_of(alloc, input, routine)?,
+            direct: vec![in alloc; 0; rows * 128]?,
             slots: empty_slots(alloc, count)?,
             heads: vec![in alloc; 0; count]?,
         })
@@ -66,9 +77,16 @@ impl Memo {
     /// Returns the number of a row that was computed from this, below `rows`, or `None` if none is found.
     pub(crate) fn find(&self, key: Option<Key>, rows: usize) -> Option<usize>
         ensures row { IfSome result (λ row. row < rows) }
-        ensures found { IfSome result (λ row. IsKept self.now.slots.items key row) }
+        ensures found { IfSome result (λ row. IsKept self.now key row) }
     {
         let key = key?;
+        if let Some(index) = direct_index(key, self.direct.len()) {
+            let next = self.direct[index] as usize;
+            if next == 0 || next > rows {
+                return None;
+            }
+            return Some(next - 1);
+        }
         let slot = slot_of(hash_of(key), self.slots.len());
         if slot >= self.slots.len() {
             return None;
@@ -83,17 +101,35 @@ impl Memo {
     /// Keeps the number of a row by what it was computed from, if that is known.
     pub(crate) fn add(&mut self, key: Option<Key>, row: usize)
         ensures far { self.new.far.items ≡ self.old.far.items }
-        ensures slots { (k : ℕ) (entry : Entry) → slice_get self.new.slots.items k ≡ Some (Some entry) →
-            (slice_get self.old.slots.items k ≡ Some (Some entry)) ⊎ ((key ≡ Some entry.key) × (entry.row ≡ row)) }
+        ensures kept { (k : Key) (n : ℕ) → IsKept self.new (Some k) n → IsKept self.old (Some k) n ⊎ ((key ≡ Some k) × (n ≡ row)) }
     {
         let Some(key) = key else {
             return;
         };
+        if let Some(index) = direct_index(key, self.direct.len()) {
+            if row < u32::MAX as usize {
+                self.direct[index] = row as u32 + 1;
+            }
+            return;
+        }
         let slot = slot_of(hash_of(key), self.slots.len());
         if slot < self.slots.len() {
             self.slots[slot] = Some(Entry { key, row });
         }
     }
+}
+
+/// Returns the index of a key among `count` rows that are found directly, or `None` if it has none.
+fn direct_index(key: Key, count: usize) -> Option<usize>
+    ensures index { IfSome result (λ index. index ≡ direct_index key) }
+    ensures direct { IfSome result (λ _. IsDirect key) }
+    ensures within { IfSome result (λ index. index < count) }
+{
+    if key.probes != 0 || key.symbol == 0 || key.symbol > 128 || key.from >= DIRECT_ROWS {
+        return None;
+    }
+    let index = key.from * 128 + (key.symbol as usize - 1);
+    if index < count { Some(index) } else { None }
 }
 
 /// Returns the slot for a hash, of this number of slots.

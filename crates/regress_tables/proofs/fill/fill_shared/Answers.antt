@@ -1,11 +1,10 @@
-use Rattle.std.proofs.Common.{◌≡◌, ◌+◌, ◌<◌, ◌⊎◌, List, Option, Some, IfSome, length, slice_get, ap, ◌∙◌, subst, arith, length-append}
+use Rattle.std.proofs.Common.{◌+◌, ◌<◌, IfSome, length, inl, inr, ap, ◌∙◌, subst, arith, length-append}
 use Rattle.regress_tree.specs.Reading.{direction_if}
 use Rattle.regress_program.specs.Views.{routine_in}
 use Rattle.regress_tables.specs.Memo.{IsKept}
 use Rattle.regress_tables.specs.Table.{evaluated, row_bits}
-use Rattle.regress_tables.specs.declared.memo.Entry.{Entry}
 use Rattle.regress_tables.proofs.FillLemmas.{SameShape-trans}
-use Rattle.regress_tables.proofs.MemoLemmas.{known-flat, known-hit, known-miss}
+use Rattle.regress_tables.proofs.MemoLemmas.{kept-same, known-flat, known-hit, known-miss}
 use Rattle.regress_tables.proofs.RowLemmas.{all-numbered, length-row, one-row, row-most, row-stored}
 use Rattle.regress_tables.proofs.fill.fill_shared.Goals as goal
 
@@ -38,7 +37,7 @@ returns-in-Some-clause-known c =
     known-hit c.args.input.now r t memo c.args.position c.requires.can c.requires.position c.requires.at c.requires.known c.requires.numbered c.key_at-key.result c.key_at-key.ensures
     c.repeat.new.self n next.shape next.rows next.bits next.evaluated
     (subst (λ o. IfSome o (λ row. row < t.distinct)) c.in-Some.is c.find.ensures.row)
-    (subst (λ o. IfSome o (IsKept memo.slots.items c.key_at-key.result)) c.in-Some.is c.find.ensures.found)
+    (subst (λ o. IfSome o (IsKept memo c.key_at-key.result)) c.in-Some.is c.find.ensures.found)
 
 pub returns-then-table-clause-known : goal.returns-then-table-clause-known
 returns-then-table-clause-known c =
@@ -96,5 +95,7 @@ returns-clause-known c =
     known-miss c.args.input.now r t memo c.args.position c.requires.can c.requires.position c.requires.at c.requires.known c.requires.numbered c.key_at-key.result c.key_at-key.ensures
     c.fill_both.new.table c.share.new.self c.add.new.self n both.grows.0 both.grows.1 both.filled shared.shape shared.rows shared.bits shared.distinct shared.evaluated
     (c.add.ensures.far ∙ found.far)
-    (λ k e is. subst (λ (xs : List (Option Entry)). (slice_get xs k ≡ Some (Some e)) ⊎ ((c.key_at-key.result ≡ Some e.key) × (e.row ≡ n))) found.slots
-    (c.add.ensures.slots k e is))
+    (λ k m is. elim (c.add.ensures.kept k m is) [
+      | inl old ↦ inl (kept-same c.first_equal-number.new.memo memo found.slots found.direct k m old)
+      | inr new ↦ inr new
+    ])
