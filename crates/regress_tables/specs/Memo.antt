@@ -8,6 +8,7 @@ use Rattle.regress_program.specs.Program.{Op, Out, Routine, IsSolution, part, lo
 use Rattle.regress_code.specs.Code.{code_routines}
 use Rattle.regress_tables.specs.Bits.{bits_of}
 use Rattle.regress_tables.specs.Probes.{Coded}
+use Rattle.regress_tables.specs.Symbols.{AreAlikeIn}
 use Rattle.regress_tables.specs.Table.{AreRight, IsRight, Tells}
 use Rattle.regress_tables.specs.declared.evaluate.Input.{Input}
 use Rattle.regress_tables.specs.declared.memo.Key.{Key}
@@ -23,11 +24,12 @@ pub record Represents (out : Out) (t : Table) (number position : ℕ) : Type 0 w
   pub stored : (number + 1) * (2 * t.width) ≤ length (bits_of t.bits)
   pub tells : (pc : ℕ) (moved : Bool) → pc < t.width → Tells out pc moved position (row_bit t number pc moved)
 
--- The symbol is that of the next character, and `from` represents the position after it.
-abbrev pub IsSymbol : Out → Table → (position from symbol : ℕ) → Option Read → Type 0
-IsSymbol out t position from symbol None = symbol ≡ 0
-IsSymbol out t position from symbol (Some read) =
-    (symbol ≡ read.character + 1) × (read.position ≢ position) × Represents out t from read.position
+-- The symbol is that of a character that the instructions do not tell from the next one, and `from` represents the position
+-- after it.
+abbrev pub IsSymbol : Out → List Op → Table → (position from symbol : ℕ) → Option Read → Type 0
+IsSymbol out ops t position from symbol None = symbol ≡ 0
+IsSymbol out ops t position from symbol (Some read) =
+    (0 < symbol) × AreAlikeIn ops read.character (symbol - 1) × (read.position ≢ position) × Represents out t from read.position
 
 -- The instruction does not look at the text, or matches one character.
 abbrev pub IsNear : Op → Type 0
@@ -42,7 +44,7 @@ Covers ops far = (pc : ℕ) (op : Op) → slice_get ops pc ≡ Some op → IsNea
 -- The row at a position is computed from this.
 pub record HasKey (input : Input) (outs : ℕ → Out) (ops : List Op) (t : Table) (far : List ℕ) (position : ℕ) (key : Key) : Type 0 where
   pub inside : position ≤ length input.text.now
-  pub symbol : IsSymbol (outs (length input.tables.now)) t position key.from key.symbol
+  pub symbol : IsSymbol (outs (length input.tables.now)) ops t position key.from key.symbol
       (next_character (subject input.rules input.text.now).direction (of_bytes input.text.now) position)
   pub probes : Coded (subject input.rules input.text.now).setting input.text.now (subject input.rules input.text.now).direction
       (matcher_of (subject input.rules input.text.now).setting input.text.now (code_routines input.code.now) outs)
@@ -61,6 +63,13 @@ IsKept memo None row = ⊥
 IsKept memo (Some key) row = ((k : ℕ) × (slice_get memo.slots.items k ≡ Some (Some (record { key = key; row = row }))))
     ⊎ (IsDirect key × (slice_get memo.direct.items (direct_index key) ≡ Some (row + 1)))
 
+-- Only what is known of symbols and of rows with equal bits may differ.
+pub record SameRows (memo memo' : Memo) : Type 0 where
+  pub far : memo'.far.items ≡ memo.far.items
+  pub direct : memo'.direct.items ≡ memo.direct.items
+  pub slots : memo'.slots.items ≡ memo.slots.items
+  pub tests : memo'.symbols.tests ≡ memo.symbols.tests
+
 -- The row with this number is that of a position with this key.
 pub record IsEntry (input : Input) (outs : ℕ → Out) (ops : List Op) (t : Table) (far : List ℕ) (key : Key) (row : ℕ) : Type 0 where
   pub position : ℕ
@@ -75,5 +84,6 @@ pub record Knows (input : Input) (outs : ℕ → Out) (ops : List Op) (t : Table
 -- That holds with any outcomes of the program, if the tables before are right.
 pub record IsKnown (input : Input) (r : Routine) (t : Table) (memo : Memo) : Type 0 where
   pub covers : Covers r.ops memo.far.items
+  pub tests : memo.symbols.tests.now ≡ input.code.now.program.leaves.items
   pub knows : (outs : ℕ → Out) → IsSolution (subject input.rules input.text.now).setting input.text.now (code_routines input.code.now) outs →
       AreRight outs input.tables.now → Knows input outs r.ops t memo

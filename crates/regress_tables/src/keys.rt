@@ -6,7 +6,7 @@ ghost use Rattle.regress_program.specs.Tidy.{has_no_back_reference};
 ghost use Rattle.regress_program.specs.Views.{routine_in};
 ghost use Rattle.regress_code.specs.Code.{code_routines};
 ghost use Rattle.regress_tables.specs.Evaluated.{CanFill};
-ghost use Rattle.regress_tables.specs.Memo.{HasKey, Knows};
+ghost use Rattle.regress_tables.specs.Memo.{HasKey, SameRows};
 ghost use Rattle.regress_tables.specs.Probes.{Coded, digit};
 ghost use Rattle.regress_tables.specs.Table.{AreRight, AreTables, IsRight, evaluated, index};
 
@@ -23,7 +23,7 @@ pub(crate) fn key_at(
     input: &Input<'_, '_>,
     routine: &Routine,
     table: &Table,
-    memo: &Memo,
+    memo: &mut Memo<'_>,
     position: usize,
 ) -> Option<Key>
     requires no_reference { has_no_back_reference (code_routines input.now.code.now) ≡ true }
@@ -31,9 +31,11 @@ pub(crate) fn key_at(
     requires can { CanFill input.now (routine_in input.now.code.now.program.leaves.items routine.now) table.now }
     requires position { position ≤ table.now.length }
     requires at { index table.now 0 false position ≡ length (evaluated table.now) }
-    ensures { IfSome result (λ key. (outs : ℕ → Out) → AreRight outs input.now.tables.now →
+    requires tests { memo.old.symbols.tests.now ≡ input.now.code.now.program.leaves.items }
+    ensures same { SameRows memo.old memo.new }
+    ensures key { IfSome result (λ key. (outs : ℕ → Out) → AreRight outs input.now.tables.now →
         (let ops = (routine_in input.now.code.now.program.leaves.items routine.now).ops in
-        Knows input.now outs ops table.now memo.now → HasKey input.now outs ops table.now memo.now.far.items position key)) }
+        IsRight (outs (length input.now.tables.now)) table.now → HasKey input.now outs ops table.now memo.old.far.items position key)) }
 {
     let probes = probes_at(input, routine, table, &memo.far, position)?;
     match next_read(input.text, input.rules.backwards, position) {
@@ -55,7 +57,7 @@ pub(crate) fn key_at(
             }
             let from = table.number_of(row);
             Some(Key {
-                symbol: u64::from(c) + 1,
+                symbol: u64::from(memo.symbols.symbol_of(c)) + 1,
                 from,
                 probes,
             })

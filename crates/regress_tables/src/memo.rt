@@ -4,6 +4,7 @@ ghost use Rattle.regress_program.specs.Views.{op_in, ops_in};
 ghost use Rattle.regress_tables.specs.Memo.{Covers, IsDirect, IsKept, IsNear, direct_index};
 
 use crate::evaluate::Input;
+use crate::symbols::Symbols;
 use regress_leaves::leaves::takes_one;
 use regress_program::instruction::{Instruction, Routine};
 use std::alloc::{AllocError, Global};
@@ -11,7 +12,7 @@ use std::alloc::{AllocError, Global};
 /// What the row at a position is computed from.
 #[derive(Clone, Copy)]
 pub struct Key {
-    /// The next character, plus 1; 0 if there is none.
+    /// A character that stands for the next one, plus 1; 0 if there is none.
     pub symbol: u64,
     /// The number of the row at the position after that character, in the direction of matching.
     pub from: usize,
@@ -30,10 +31,12 @@ pub struct Entry {
 
 /// The rows that were filled so far.
 #[derive(Drop)]
-pub(crate) struct Memo {
+pub(crate) struct Memo<'t> {
     /// The instructions that look at the text, but for those that match one character.
     pub(crate) far: Vec<usize>,
-    /// Rows by the number of the row behind and the next character, for ASCII characters at which no other instruction leads
+    /// Characters by those that stand for them.
+    pub(crate) symbols: Symbols<'t>,
+    /// Rows by the number of the row behind and the symbol of the next character, for ASCII characters at which no other instruction leads
     /// anywhere: 128 for each row. It is the number of the row and 1, or 0 if none was filled.
     pub(crate) direct: Vec<u32>,
     /// Other rows by the hash of what they were computed from.
@@ -51,23 +54,25 @@ const DIRECT_ROWS: usize = 64;
 /// The number of positions for each of these rows, so that they take no more time than the text.
 const POSITIONS: usize = 64;
 
-impl Memo {
+impl<'t> Memo<'t> {
     /// Returns a memo for a routine, without a row. For a short text it has a slot for each position.
     ///
     /// # Errors
     /// Returns [`AllocError`] if an allocation fails.
     pub(crate) fn new(
         alloc: Global,
-        input: Input<'_, '_>,
+        input: Input<'_, 't>,
         routine: &Routine,
-    ) -> Result<Memo, AllocError>
+    ) -> Result<Memo<'t>, AllocError>
         ensures covers { IfOk result (λ memo. Covers (ops_in input.entry.code.now.program.leaves.items routine.now.instructions.items) memo.far.items) }
+        ensures tests { IfOk result (λ memo. memo.symbols.tests.now ≡ input.entry.code.now.program.leaves.items) }
         ensures empty { IfOk result (λ memo. (key : Key) (row : ℕ) → IsKept memo (Some key) row → ⊥) }
     {
         let count = SLOTS.min(input.text.len() + 1);
         let rows = DIRECT_ROWS.min(input.text.len() / POSITIONS);
         Ok(Memo {
             far: far_of(alloc, input, routine)?,
+            symbols: Symbols::new(&input.code.program.leaves),
             direct: vec![in alloc; 0; rows * 128]?,
             slots: empty_slots(alloc, count)?,
             heads: vec![in alloc; 0; count]?,
@@ -101,6 +106,7 @@ impl Memo {
     /// Keeps the number of a row by what it was computed from, if that is known.
     pub(crate) fn add(&mut self, key: Option<Key>, row: usize)
         ensures far { self.new.far.items ≡ self.old.far.items }
+        ensures tests { self.new.symbols.tests ≡ self.old.symbols.tests }
         ensures kept { (k : Key) (n : ℕ) → IsKept self.new (Some k) n → IsKept self.old (Some k) n ⊎ ((key ≡ Some k) × (n ≡ row)) }
     {
         let Some(key) = key else {
