@@ -1,3 +1,4 @@
+mod AsciiLemmas
 mod BitLemmas
 mod CleanLemmas
 mod EvaluateLemmas

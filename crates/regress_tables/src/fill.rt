@@ -12,7 +12,7 @@ ghost use Rattle.regress_tables.specs.Table.{AreTables, Grows, IsFull, IsTableOf
 
 use crate::cells::row_of;
 use crate::evaluate::{Input, evaluate};
-use crate::keys::key_at;
+use crate::keys::{direct_row, key_at};
 use crate::memo::{Memo, slot_of};
 use crate::table::Table;
 use regress_leaves::reading::next_read;
@@ -75,6 +75,10 @@ fn fill_row(
     ensures known { IfOk result (λ _. IsKnown input.now (routine_in input.now.code.now.program.leaves.items routine.now) table.new memo.new) }
 {
     if table.rows.len() == row_of(table.backwards, table.length, position) {
+        if let Some(number) = direct_row(input, routine, table, memo, position) {
+            table.repeat(number)?;
+            return Ok(());
+        }
         return fill_shared(input, routine, table, memo, position);
     }
     fill_both(*input, routine, table, position)?;

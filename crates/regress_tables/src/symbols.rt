@@ -1,5 +1,5 @@
 //! Characters that no leaf of a program tells apart.
-ghost use Rattle.std.specs.Prelude.{◌≡◌, ◌≤◌, ◌<◌, ℕ, false, slice_index, true};
+ghost use Rattle.std.specs.Prelude.{◌≡◌, ◌≤◌, ◌<◌, ℕ, IfSome, false, slice_index, true};
 ghost use Rattle.std.proofs.Props.{props};
 ghost use Rattle.regress_prefilter.specs.OneCharacter.{takes_one, test_of};
 ghost use Rattle.regress_tree.specs.Tree.{tree};
@@ -38,6 +38,16 @@ impl<'t> Symbols<'t> {
             listed: [0; LISTED],
             count: 0,
         }
+    }
+
+    /// Returns the character that stands for an ASCII character, if it is known.
+    pub(crate) fn known_symbol(&self, c: u8) -> Option<u8>
+        requires { c < 128 }
+        ensures alike { IfSome result (λ symbol. AreAlike self.now.tests.now c symbol) }
+        ensures ascii { IfSome result (λ symbol. symbol < 128) }
+    {
+        let known = self.ascii[usize::from(c)];
+        if known < 128 { Some(known) } else { None }
     }
 
     /// Returns a character that stands for `c`.
