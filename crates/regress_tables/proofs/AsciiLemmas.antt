@@ -1,4 +1,4 @@
--- The row behind an ASCII character.
+-- The row on the other side of an ASCII character.
 use Rattle.std.proofs.Common.{◌≡◌, ◌≢◌, ℕ, ◌+◌, ◌-◌, ◌≤◌, ◌<◌, ◌==◌, ◌⊎◌, Bool, true, false, List, Option, Some, None, refl, sym, ap, ◌∙◌, inl, inr, arith, if◌then◌else◌, nat_le}
 use Rattle.std.specs.Char.{len_utf8}
 use Rattle.std.specs.Option.{option_or, option_and_then}
@@ -21,7 +21,8 @@ either-or None b read e = inr e
 either-or (Some x) b read e = inl e
 
 -- the length of a character that ends at a position
-by-parts : (bytes : List ℕ) (n k : ℕ) (read : Read) → read_before_by bytes n k ≡ Some read → (n ≤ k) × (len_utf8 read.character ≡ n) × (read.position ≡ k - n)
+by-parts : (bytes : List ℕ) (n k : ℕ) (read : Read) → read_before_by bytes n k ≡ Some read →
+    (n ≤ k) × (len_utf8 read.character ≡ n) × (read.position ≡ k - n)
 unfolding character-in position-in
 by-parts bytes n k read e = by (nat_le n k) refl e
   where
@@ -36,7 +37,8 @@ by-parts bytes n k read e = by (nat_le n k) refl e
     of (Some c) e' = sized c (len_utf8 c == n) refl e'
 
     by : (b : Bool) → nat_le n k ≡ b →
-        (if b then option_and_then (λ c. if len_utf8 c == n then Some (record { character = c; position = k - n }) else None) (character_at bytes (k - n)) else None) ≡ Some read →
+        (if b then option_and_then (λ c. if len_utf8 c == n then Some (record { character = c; position = k - n }) else None) (character_at bytes (k - n))
+        else None) ≡ Some read →
         (n ≤ k) × (len_utf8 read.character ≡ n) × (read.position ≡ k - n)
     by true is e' = let parts = of (character_at bytes (k - n)) e' in (leb-true n k is, parts.0, parts.1)
     by false is e' = let bad : ⊥ = cc in absurd bad
@@ -55,7 +57,7 @@ before-ascii bytes k read e ascii =
       ]
     ]
 
--- The position behind an ASCII character has the row before.
+-- The position on the other side of an ASCII character has the row before.
 pub row-behind : (d : Direction) (bytes : List ℕ) (n k : ℕ) (read : Read) → next_character d (of_bytes bytes) k ≡ Some read → read.character < 128 →
     0 < row_of d n k → k ≤ n → (row_of d n read.position + 1 ≡ row_of d n k) × (read.position ≤ n) × (read.position ≢ k)
 row-behind forwards bytes n k read e ascii some within =

@@ -7,8 +7,8 @@ use Rattle.regress_tables.specs.declared.memo.Memo.{Memo}
 use Rattle.regress_tables.specs.Memo.{IsDirect, IsKept, SameRows, direct_index}
 
 -- Nothing is kept where no slot has an entry, and no row is found directly.
-pub kept-none : (slots : List (Option Entry)) (direct : List ℕ) (count : ℕ) → ((k : ℕ) (entry : Entry) → slice_get slots k ≡ Some (Some entry) → ⊥) →
-    direct ≡ replicate count 0 → (key : Key) (n : ℕ) → ((k : ℕ) × (slice_get slots k ≡ Some (Some (record { key = key; row = n }))))
+pub kept-none : (slots : List (Option Entry)) (direct : List ℕ) (count : ℕ) →
+    ((k : ℕ) (entry : Entry) → slice_get slots k ≡ Some (Some entry) → ⊥) → direct ≡ replicate count 0 → (key : Key) (n : ℕ) → ((k : ℕ) × (slice_get slots k ≡ Some (Some (record { key = key; row = n }))))
     ⊎ (IsDirect key × (slice_get direct (direct_index key) ≡ Some (n + 1))) → ⊥
 kept-none slots direct count none zeros key n kept = elim kept [
   | inl hashed ↦ none hashed.0 (record { key = key; row = n }) hashed.1

@@ -50,7 +50,7 @@ pub record HasKey (input : Input) (outs : ℕ → Out) (ops : List Op) (t : Tabl
       (matcher_of (subject input.rules input.text.now).setting input.text.now (code_routines input.code.now) outs)
       (outs (length input.tables.now)) ops far position key.probes
 
--- The key has an index among the rows that are found directly: by the row behind and an ASCII character.
+-- The key has an index among the rows that are found directly: by the row that it follows and an ASCII character.
 abbrev pub IsDirect : Key → Type 0
 IsDirect key = (key.probes ≡ 0) × (0 < key.symbol) × (key.symbol ≤ 128)
 

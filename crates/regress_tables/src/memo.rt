@@ -12,7 +12,7 @@ use std::alloc::{AllocError, Global};
 /// What the row at a position is computed from.
 #[derive(Clone, Copy)]
 pub struct Key {
-    /// A character that stands for the next one, plus 1; 0 if there is none.
+    /// The representative of the next character, plus 1; 0 if there is none.
     pub symbol: u64,
     /// The number of the row at the position after that character, in the direction of matching.
     pub from: usize,
@@ -34,10 +34,10 @@ pub struct Entry {
 pub(crate) struct Memo<'t> {
     /// The instructions that look at the text, but for those that match one character.
     pub(crate) far: Vec<usize>,
-    /// Characters by those that stand for them.
+    /// The representatives of characters.
     pub(crate) symbols: Symbols<'t>,
-    /// Rows by the number of the row behind and the symbol of the next character, for ASCII characters at which no other instruction leads
-    /// anywhere: 128 for each row. It is the number of the row and 1, or 0 if none was filled.
+    /// Rows by the number of the row that they follow and the representative of the next character, for ASCII characters at
+    /// which no other instruction leads anywhere: 128 for each row. It is the number of the row and 1, or 0 if none was filled.
     pub(crate) direct: Vec<u32>,
     /// Other rows by the hash of what they were computed from.
     pub(crate) slots: Vec<Option<Entry>>,
@@ -48,7 +48,7 @@ pub(crate) struct Memo<'t> {
 /// The largest number of slots.
 const SLOTS: usize = 1024;
 
-/// The largest number of rows behind whose next rows are found directly.
+/// The largest number of rows for which those that follow are found directly.
 const DIRECT_ROWS: usize = 64;
 
 /// The number of positions for each of these rows, so that they take no more time than the text.

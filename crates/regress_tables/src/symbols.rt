@@ -9,17 +9,17 @@ use regress_leaves::leaves::{accepts, takes_one};
 use regress_leaves::start::Start;
 use regress_leaves::test::Test;
 
-/// The largest number of characters that stand for others.
+/// The largest number of representatives that are listed.
 const LISTED: usize = 16;
 
-/// Characters that occurred, by those that stand for them: no leaf that matches one character tells the two apart.
+/// The representatives of ASCII characters: no leaf that matches one character tells the two apart.
 #[derive(Drop)]
 pub struct Symbols<'t> {
     /// The leaves.
     pub(crate) tests: &'t [Test],
-    /// For each ASCII character the one that stands for it, or 128 if that is not known.
+    /// For each ASCII character its representative, or 128 if that is not known.
     ascii: [u8; 128],
-    /// The first characters that stand for others.
+    /// The first representatives.
     listed: [u8; LISTED],
     /// The number of those.
     count: usize,
@@ -40,7 +40,7 @@ impl<'t> Symbols<'t> {
         }
     }
 
-    /// Returns the character that stands for an ASCII character, if it is known.
+    /// Returns the representative of an ASCII character, if it is known.
     pub(crate) fn known_symbol(&self, c: u8) -> Option<u8>
         requires { c < 128 }
         ensures alike { IfSome result (λ symbol. AreAlike self.now.tests.now c symbol) }
@@ -50,7 +50,7 @@ impl<'t> Symbols<'t> {
         if known < 128 { Some(known) } else { None }
     }
 
-    /// Returns a character that stands for `c`.
+    /// Returns the representative of a character, which is the character itself beyond ASCII.
     pub(crate) fn symbol_of(&mut self, c: u32) -> u32
         ensures tests { self.new.tests ≡ self.old.tests }
         ensures alike { AreAlike self.old.tests.now c result }
@@ -67,7 +67,7 @@ impl<'t> Symbols<'t> {
         u32::from(found)
     }
 
-    /// Returns the first listed character that stands for `c`, or itself, which is then listed if there is room.
+    /// Returns the first representative that no leaf tells from `c`, or `c`, which is then listed if there is room.
     fn first_alike(&mut self, c: u8) -> u8
         ensures tests { self.new.tests ≡ self.old.tests }
         ensures alike { AreAlike self.old.tests.now c result }
