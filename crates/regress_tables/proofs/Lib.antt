@@ -1,9 +1,12 @@
+mod AsciiLemmas
 mod BitLemmas
 mod CleanLemmas
 mod EvaluateLemmas
+mod FarLemmas
 mod FillLemmas
 mod FirstLemmas
 mod FollowLemmas
+mod KeptLemmas
 mod MemoLemmas
 mod ProbeLemmas
 mod ResolveLemmas
@@ -11,6 +14,7 @@ mod RowLemmas
 mod SearchLemmas
 mod SlotLemmas
 mod StepLemmas
+mod SymbolLemmas
 mod TellsLemmas
 mod WalkLemmas
 mod WordLemmas

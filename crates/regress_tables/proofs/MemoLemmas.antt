@@ -21,19 +21,20 @@ use Rattle.regress_code.specs.Code.{code_routines}
 use Rattle.regress_tables.specs.Bits.{bits_of}
 use Rattle.regress_tables.specs.Evaluated.{CanFill, IsFilled}
 use Rattle.regress_tables.specs.declared.evaluate.Input.{Input}
-use Rattle.regress_tables.specs.declared.memo.Entry.{Entry}
 use Rattle.regress_tables.specs.declared.memo.Key.{Key}
 use Rattle.regress_tables.specs.declared.memo.Memo.{Memo}
 use Rattle.regress_tables.specs.declared.probe.Probe.{Probe}
 use Rattle.regress_tables.specs.declared.probe.Probe.TheVariants as probes
 use Rattle.regress_tables.specs.declared.table.Table.{Table}
-use Rattle.regress_tables.specs.Memo.{Covers, HasKey, IsEntry, IsKept, IsKnown, IsNear, IsSymbol, Knows, Represents, row_bit}
+use Rattle.regress_tables.specs.Memo.{Covers, HasKey, IsEntry, IsKept, IsKnown, IsNear, IsSymbol, Knows, Represents, SameRows, row_bit}
 use Rattle.regress_tables.specs.Probes.{CanProbe, Coded, IsProbe, Leads, digit, jumps_if}
+use Rattle.regress_tables.specs.Symbols.{AreAlikeIn}
 use Rattle.regress_program.specs.Tidy.{has_no_back_reference}
 use Rattle.regress_program.proofs.lemmas.Instructions.{no_reference-at}
 use Rattle.regress_tables.specs.Table.{AreRight, Grows, IsRight, SameShape, Tells, cell, evaluated, index, number_of, row_bits}
 use Rattle.regress_tables.proofs.BitLemmas.{bits-len}
 use Rattle.regress_tables.proofs.FillLemmas.{SameShape-trans, same-index, same-row}
+use Rattle.regress_tables.proofs.KeptLemmas.{kept-same}
 use Rattle.regress_tables.proofs.ProbeLemmas.{equal_rows, part_fails, part_jumps}
 use Rattle.regress_tables.proofs.RowLemmas.{all-numbered, cell-number, length-evaluated, length-row, next-row, row-stored}
 
@@ -69,23 +70,24 @@ module _ (setting : Setting) (bytes : List ℕ) (d : Direction) (body_of : ℕ �
   near_probe test bit zero = probes.Fails
   near_probe test bit (suc c) = if test c then jumps_if bit else probes.Fails
 
-  near_leads : (t : Tree) (next x : ℕ) (table : Table) (from symbol : ℕ) (read : Option Read) → takes_one t ≡ true → next < table.width →
-      next_character d (of_bytes bytes) x ≡ read → IsSymbol out table x from symbol read →
+  near_leads : (ops : List Op) (pc : ℕ) (t : Tree) (next x : ℕ) (table : Table) (from symbol : ℕ) (read : Option Read) → slice_get ops pc ≡ Some (part t next) →
+      takes_one t ≡ true → next < table.width → next_character d (of_bytes bytes) x ≡ read → IsSymbol out ops table x from symbol read →
       Leads setting bytes d body_of out (part t next) next x (near_probe (test_of t) (row_bit table from next true) symbol)
-  near_leads t next x table from symbol None one lt is sym_is =
+  near_leads ops pc t next x table from symbol None here one lt is sym_is =
       subst (λ s. Leads setting bytes d body_of out (part t next) next x (near_probe (test_of t) (row_bit table from next true) s)) (sym sym_is)
       (part_fails setting bytes d body_of out t next x
       (λ s at. takes_one-steps setting bytes d t s one ∙ one_none d (of_bytes bytes) (test_of t) s (ap (next_character d (of_bytes bytes)) at ∙ is)))
-  near_leads t next x table from symbol (Some read) one lt is sym_is =
-      subst (λ s. Leads setting bytes d body_of out (part t next) next x (near_probe (test_of t) (row_bit table from next true) s))
-      (let e : suc read.character ≡ symbol = omega (arith, sym_is.0) in e) (by (test_of t read.character) refl)
+  near_leads ops pc t next x table from zero (Some read) here one lt is sym_is = absurd (omega (arith, sym_is.0))
+  near_leads ops pc t next x table from (suc c) (Some read) here one lt is sym_is =
+      subst (λ (b : Bool). Leads setting bytes d body_of out (part t next) next x (if b then jumps_if (row_bit table from next true) else probes.Fails))
+      (sym_is.1 pc t next here one ∙ ap (test_of t) (let e : suc c - 1 ≡ c = omega arith in e)) (by (test_of t read.character) refl)
     where
       by : (b : Bool) → test_of t read.character ≡ b →
           Leads setting bytes d body_of out (part t next) next x (if test_of t read.character then jumps_if (row_bit table from next true) else probes.Fails)
       by true tested =
           subst (λ (b : Bool). Leads setting bytes d body_of out (part t next) next x (if b then jumps_if (row_bit table from next true) else probes.Fails)) (sym tested)
-          (part_jumps setting bytes d body_of out t next x read.position (row_bit table from next true) sym_is.1
-          (sym_is.2.tells next true lt)
+          (part_jumps setting bytes d body_of out t next x read.position (row_bit table from next true) sym_is.2
+          (sym_is.3.tells next true lt)
           (λ s at. takes_one-steps setting bytes d t s one
           ∙ one_yes d (of_bytes bytes) (test_of t) s read (ap (next_character d (of_bytes bytes)) at ∙ is) tested))
       by false tested =
@@ -94,24 +96,25 @@ module _ (setting : Setting) (bytes : List ℕ) (d : Direction) (body_of : ℕ �
           (λ s at. takes_one-steps setting bytes d t s one
           ∙ one_no d (of_bytes bytes) (test_of t) s read (ap (next_character d (of_bytes bytes)) at ∙ is) tested))
 
-  near-same : (op : Op) (earlier : List Routine) (x y pc : ℕ) (table : Table) (from symbol : ℕ) → IsNear op → Fits earlier table.width pc op → pc < table.width →
-      IsSymbol out table x from symbol (next_character d (of_bytes bytes) x) → IsSymbol out table y from symbol (next_character d (of_bytes bytes) y) →
+  near-same : (ops : List Op) (op : Op) (earlier : List Routine) (x y pc : ℕ) (table : Table) (from symbol : ℕ) → slice_get ops pc ≡ Some op → IsNear op →
+      Fits earlier table.width pc op → pc < table.width → IsSymbol out ops table x from symbol (next_character d (of_bytes bytes) x) →
+      IsSymbol out ops table y from symbol (next_character d (of_bytes bytes) y) →
       (p : Probe) × IsProbe setting bytes d body_of out op y p × IsProbe setting bytes d body_of out op x p
-  near-same accept earlier x y pc table from symbol near fits lt at_x at_y = (probes.Fails, tt, tt)
-  near-same fail earlier x y pc table from symbol near fits lt at_x at_y = (probes.Fails, tt, tt)
-  near-same (part t next) earlier x y pc table from symbol near fits lt at_x at_y = (
+  near-same ops accept earlier x y pc table from symbol here near fits lt at_x at_y = (probes.Fails, tt, tt)
+  near-same ops fail earlier x y pc table from symbol here near fits lt at_x at_y = (probes.Fails, tt, tt)
+  near-same ops (part t next) earlier x y pc table from symbol here near fits lt at_x at_y = (
     near_probe (test_of t) (row_bit table from next true) symbol,
-    near_leads t next y table from symbol _ near (omega (arith, fits.1, lt)) refl at_y,
-    near_leads t next x table from symbol _ near (omega (arith, fits.1, lt)) refl at_x,
+    near_leads ops pc t next y table from symbol _ here near (omega (arith, fits.1, lt)) refl at_y,
+    near_leads ops pc t next x table from symbol _ here near (omega (arith, fits.1, lt)) refl at_x,
   )
-  near-same (split first second) earlier x y pc table from symbol near fits lt at_x at_y = (probes.Fails, tt, tt)
-  near-same (begin_loop greedy body next) earlier x y pc table from symbol near fits lt at_x at_y = (probes.Fails, tt, tt)
-  near-same (repeat greedy body next) earlier x y pc table from symbol near fits lt at_x at_y = (probes.Fails, tt, tt)
-  near-same (end_loop next) earlier x y pc table from symbol near fits lt at_x at_y = (probes.Fails, tt, tt)
-  near-same (unsets start end next) earlier x y pc table from symbol near fits lt at_x at_y = (probes.Fails, tt, tt)
-  near-same (begin_group next) earlier x y pc table from symbol near fits lt at_x at_y = (probes.Fails, tt, tt)
-  near-same (end_group id next) earlier x y pc table from symbol near fits lt at_x at_y = (probes.Fails, tt, tt)
-  near-same (look negate routine next) earlier x y pc table from symbol near fits lt at_x at_y = absurd near
+  near-same ops (split first second) earlier x y pc table from symbol here near fits lt at_x at_y = (probes.Fails, tt, tt)
+  near-same ops (begin_loop greedy body next) earlier x y pc table from symbol here near fits lt at_x at_y = (probes.Fails, tt, tt)
+  near-same ops (repeat greedy body next) earlier x y pc table from symbol here near fits lt at_x at_y = (probes.Fails, tt, tt)
+  near-same ops (end_loop next) earlier x y pc table from symbol here near fits lt at_x at_y = (probes.Fails, tt, tt)
+  near-same ops (unsets start end next) earlier x y pc table from symbol here near fits lt at_x at_y = (probes.Fails, tt, tt)
+  near-same ops (begin_group next) earlier x y pc table from symbol here near fits lt at_x at_y = (probes.Fails, tt, tt)
+  near-same ops (end_group id next) earlier x y pc table from symbol here near fits lt at_x at_y = (probes.Fails, tt, tt)
+  near-same ops (look negate routine next) earlier x y pc table from symbol here near fits lt at_x at_y = absurd near
 
 -- A row represents each position that has the key of its own.
 pub represents-same : (input : Input) (outs : ℕ → Out) (r : Routine) (t : Table) (far : List ℕ) (x y row : ℕ) (key : Key) →
@@ -133,7 +136,7 @@ represents-same input outs r t far x y row key solution can covers there here is
           elim (covers pc' op is_op) [
             | inl near ↦
                 let lt' : pc' < length r.ops = slice_get_within r.ops pc' op is_op in
-                near-same u.setting u.bytes u.direction body_of (outs i) op (take i program) x y pc' t key.from key.symbol near
+                near-same u.setting u.bytes u.direction body_of (outs i) r.ops op (take i program) x y pc' t key.from key.symbol is_op near
                 (subst (λ w. Fits (take i program) w pc' op) (sym can.of.width) ((input.code.now.program.is_program i r can.is).fit pc' op (omega arith) lt' is_op))
                 (omega (arith, lt', can.of.width)) here.symbol there.symbol
             | inr listed ↦
@@ -161,41 +164,43 @@ module _ (t t' : Table) (extra : List Bool) (bits : bits_of t'.bits ≡ bits_of 
         is.tells pc moved lt' a e m p ∙ sym (row_bit-more number pc moved is.stored lt');
   }
 
-  symbol-more : (out : Out) (x from symbol : ℕ) (read : Option Read) → IsSymbol out t x from symbol read → IsSymbol out t' x from symbol read
-  symbol-more out x from symbol None is = is
-  symbol-more out x from symbol (Some read) is = (is.0, is.1, represents-more out from read.position is.2)
+  symbol-more : (out : Out) (ops : List Op) (x from symbol : ℕ) (read : Option Read) → IsSymbol out ops t x from symbol read → IsSymbol out ops t' x from symbol read
+  symbol-more out ops x from symbol None is = is
+  symbol-more out ops x from symbol (Some read) is = (is.0, is.1, is.2, represents-more out from read.position is.3)
 
   pub has-more : (input : Input) (outs : ℕ → Out) (ops : List Op) (far : List ℕ) (x : ℕ) (key : Key) → HasKey input outs ops t far x key → HasKey input outs ops t' far x key
   has-more input outs ops far x key has = record {
     inside = has.inside;
-    symbol = symbol-more (outs (length input.tables.now)) x key.from key.symbol _ has.symbol;
+    symbol = symbol-more (outs (length input.tables.now)) ops x key.from key.symbol _ has.symbol;
     probes = has.probes;
   }
 
-  pub entry-more : (input : Input) (outs : ℕ → Out) (ops : List Op) (far : List ℕ) (entry : Entry) → IsEntry input outs ops t far entry → IsEntry input outs ops t' far entry
-  entry-more input outs ops far entry is = record {
+  pub entry-more : (input : Input) (outs : ℕ → Out) (ops : List Op) (far : List ℕ) (key : Key) (row : ℕ) → IsEntry input outs ops t far key row →
+      IsEntry input outs ops t' far key row
+  entry-more input outs ops far key row is = record {
     position = is.position;
-    has = has-more input outs ops far is.position entry.key is.has;
-    row = represents-more (outs (length input.tables.now)) entry.row is.position is.row;
+    has = has-more input outs ops far is.position key is.has;
+    represents = represents-more (outs (length input.tables.now)) row is.position is.represents;
   }
 
   -- What is known, after more bits, where the new entries have the key of a position and a row that represents it.
   pub known-next : (input : Input) (r : Routine) (memo memo' : Memo) (x : ℕ) → IsKnown input r t memo → memo'.far.items ≡ memo.far.items →
-      ((outs : ℕ → Out) → IsSolution (subject input.rules input.text.now).setting input.text.now (code_routines input.code.now) outs →
+      memo'.symbols.tests ≡ memo.symbols.tests → ((outs : ℕ → Out) → IsSolution (subject input.rules input.text.now).setting input.text.now (code_routines input.code.now) outs →
       AreRight outs input.tables.now → Knows input outs r.ops t memo → IsRight (outs (length input.tables.now)) t'
-      × ((k : ℕ) (e : Entry) → slice_get memo'.slots.items k ≡ Some (Some e) → (slice_get memo.slots.items k ≡ Some (Some e))
-      ⊎ (Represents (outs (length input.tables.now)) t' e.row x × HasKey input outs r.ops t memo.far.items x e.key))) →
+      × ((key : Key) (row : ℕ) → IsKept memo' (Some key) row → IsKept memo (Some key) row
+      ⊎ (Represents (outs (length input.tables.now)) t' row x × HasKey input outs r.ops t memo.far.items x key))) →
       IsKnown input r t' memo'
-  known-next input r memo memo' x known far_is each = record {
+  known-next input r memo memo' x known far_is tests_is each = record {
     covers = subst (Covers r.ops) (sym far_is) known.covers;
+    tests = ap (λ s. s.now) tests_is ∙ known.tests;
     knows = λ outs solution right.
         let knows = known.knows outs solution right in
         let next = each outs solution right knows in
         record {
           right = next.0;
-          entries = λ k e is_e. subst (λ far. IsEntry input outs r.ops t' far e) (sym far_is) (elim (next.1 k e is_e) [
-            | inl old ↦ entry-more input outs r.ops memo.far.items e (knows.entries k e old)
-            | inr new ↦ record { position = x; has = has-more input outs r.ops memo.far.items x e.key new.1; row = new.0 }
+          entries = λ key row kept. subst (λ far. IsEntry input outs r.ops t' far key row) (sym far_is) (elim (next.1 key row kept) [
+            | inl old ↦ entry-more input outs r.ops memo.far.items key row (knows.entries key row old)
+            | inr new ↦ record { position = x; has = has-more input outs r.ops memo.far.items x key new.1; represents = new.0 }
           ]);
         };
   }
@@ -272,12 +277,14 @@ right-same out t t' bits same right = record {
 
 -- Nothing is known of a table without a row.
 pub known-start : (input : Input) (r : Routine) (t : Table) (memo : Memo) → evaluated t ≡ [] → Covers r.ops memo.far.items →
-    ((k : ℕ) (entry : Entry) → slice_get memo.slots.items k ≡ Some (Some entry) → ⊥) → IsKnown input r t memo
-known-start input r t memo empty covers no_entries = record {
+    memo.symbols.tests.now ≡ input.code.now.program.leaves.items →
+    ((key : Key) (row : ℕ) → IsKept memo (Some key) row → ⊥) → IsKnown input r t memo
+known-start input r t memo empty covers tests none = record {
   covers = covers;
+  tests = tests;
   knows = λ outs solution right. record {
     right = record { tells = λ pc moved q lt le before. absurd (omega (arith, before, ap length empty)) };
-    entries = λ k entry is. absurd (no_entries k entry is);
+    entries = λ key row kept. absurd (none key row kept);
   };
 }
 
@@ -289,15 +296,16 @@ module _ (input : Input) (outs : ℕ → Out) (ops : List Op) (t : Table) (far :
   pub key-none : next_character (subject input.rules input.text.now).direction (of_bytes input.text.now) x ≡ None → key.symbol ≡ 0 → HasKey input outs ops t far x key
   key-none none symbol = record {
     inside = inside;
-    symbol = subst (IsSymbol (outs (length input.tables.now)) t x key.from key.symbol) (sym none) symbol;
+    symbol = subst (IsSymbol (outs (length input.tables.now)) ops t x key.from key.symbol) (sym none) symbol;
     probes = probes;
   }
 
   pub key-some : (read : Read) → next_character (subject input.rules input.text.now).direction (of_bytes input.text.now) x ≡ Some read →
-      key.symbol ≡ read.character + 1 → read.position ≢ x → Represents (outs (length input.tables.now)) t key.from read.position → HasKey input outs ops t far x key
-  key-some read some symbol apart behind = record {
+      0 < key.symbol → AreAlikeIn ops read.character (key.symbol - 1) → read.position ≢ x → Represents (outs (length input.tables.now)) t key.from read.position →
+      HasKey input outs ops t far x key
+  key-some read some symbol alike apart behind = record {
     inside = inside;
-    symbol = subst (IsSymbol (outs (length input.tables.now)) t x key.from key.symbol) (sym some) (symbol, apart, behind);
+    symbol = subst (IsSymbol (outs (length input.tables.now)) ops t x key.from key.symbol) (sym some) (symbol, alike, apart, behind);
     probes = probes;
   }
 
@@ -333,11 +341,11 @@ module _ (input : Input) (r : Routine) (t : Table) (memo : Memo) (x : ℕ) (can 
   -- a row without a number
   pub known-flat : (t' : Table) (extra : List Bool) → Grows t t' extra → (IsFilled input t → IsFilled input t') → IsKnown input r t' memo
   known-flat t' extra grows filled =
-      known-next t t' extra grows.bits grows.shape input r memo memo x known refl
-      (λ outs solution right knows. (filled (λ outs' solution' right'. (known.knows outs' solution' right').right) outs solution right, λ k e is. inl is))
+      known-next t t' extra grows.bits grows.shape input r memo memo x known refl refl
+      (λ outs solution right knows. (filled (λ outs' solution' right'. (known.knows outs' solution' right').right) outs solution right, λ k n kept. inl kept))
 
   module _ (numbered : length t.rows.items ≡ row_of (direction_if t.backwards) t.length x) (key : Option Key)
-      (has : IfSome key (λ k. (outs : ℕ → Out) → AreRight outs input.tables.now → Knows input outs r.ops t memo → HasKey input outs r.ops t memo.far.items x k)) where
+      (has : IfSome key (λ k. (outs : ℕ → Out) → AreRight outs input.tables.now → IsRight (outs (length input.tables.now)) t → HasKey input outs r.ops t memo.far.items x k)) where
     abbrev row : ℕ
     row = length t.rows.items
 
@@ -346,35 +354,35 @@ module _ (input : Input) (r : Routine) (t : Table) (memo : Memo) (x : ℕ) (can 
 
     -- the number of a row that was computed from the same
     pub known-hit : (t' : Table) (n : ℕ) → SameShape t t' → t'.rows.items ≡ t.rows.items ++ n ∷ [] → bits_of t'.bits ≡ bits_of t.bits →
-        evaluated t' ≡ evaluated t ++ row_bits t n → n < t.distinct → IsKept memo.slots.items key n → IsKnown input r t' memo
+        evaluated t' ≡ evaluated t ++ row_bits t n → n < t.distinct → IsKept memo key n → IsKnown input r t' memo
     known-hit t' n same rows bits bits-more less kept =
         let bits' : bits_of t'.bits ≡ bits_of t.bits ++ [] = bits ∙ sym (append-nil (bits_of t.bits)) in
-        known-next t t' [] bits' same input r memo memo x known refl
+        known-next t t' [] bits' same input r memo memo x known refl refl
         (λ outs solution right knows.
         let out = outs (length input.tables.now) in
         let is : Represents out t n x = represents outs solution right knows key kept has in (
           right-next out t t' (row_bits t n) row x bits-more same (sym numbered) within (next-row t x at ∙ ap (λ k. k * (2 * t.width)) (sym numbered))
               (length-row t n (row-stored t n less)) knows.right
               (subst (λ k. Represents out t' k x) (sym (last-number t' n rows)) (represents-more t t' [] bits' same out n x is)),
-          λ k e is_e. inl is_e,
+          λ k m kept'. inl kept',
         ))
       where
         represents : (outs : ℕ → Out) → IsSolution (subject input.rules input.text.now).setting input.text.now (code_routines input.code.now) outs →
-            AreRight outs input.tables.now → Knows input outs r.ops t memo → (o : Option Key) → IsKept memo.slots.items o n →
-            IfSome o (λ k. (outs' : ℕ → Out) → AreRight outs' input.tables.now → Knows input outs' r.ops t memo → HasKey input outs' r.ops t memo.far.items x k) →
+            AreRight outs input.tables.now → Knows input outs r.ops t memo → (o : Option Key) → IsKept memo o n →
+            IfSome o (λ k. (outs' : ℕ → Out) → AreRight outs' input.tables.now → IsRight (outs' (length input.tables.now)) t → HasKey input outs' r.ops t memo.far.items x k) →
             Represents (outs (length input.tables.now)) t n x
         represents outs solution right knows None kept' has' = absurd kept'
         represents outs solution right knows (Some k) kept' has' =
-            let entry = knows.entries kept'.0 (record { key = k; row = n }) kept'.1 in
-            represents-same input outs r t memo.far.items x entry.position n k solution can known.covers entry.has (has' outs right knows) entry.row
+            let entry = knows.entries k n kept' in
+            represents-same input outs r t memo.far.items x entry.position n k solution can known.covers entry.has (has' outs right knows.right) entry.represents
 
     -- the number of a row that was computed
     pub known-miss : (t' u : Table) (memo' : Memo) (n : ℕ) (extra : List Bool) → Grows t t' extra → (IsFilled input t → IsFilled input t') →
         SameShape t' u → u.rows.items ≡ t'.rows.items ++ n ∷ [] → bits_of u.bits ≡ take (u.distinct * (2 * t'.width)) (bits_of t'.bits) →
         t'.distinct ≤ u.distinct → evaluated u ≡ evaluated t' → memo'.far.items ≡ memo.far.items →
-        ((i : ℕ) (e : Entry) → slice_get memo'.slots.items i ≡ Some (Some e) → (slice_get memo.slots.items i ≡ Some (Some e)) ⊎ ((key ≡ Some e.key) × (e.row ≡ n))) →
+        memo'.symbols.tests ≡ memo.symbols.tests → ((k : Key) (m : ℕ) → IsKept memo' (Some k) m → IsKept memo (Some k) m ⊎ ((key ≡ Some k) × (m ≡ n))) →
         IsKnown input r u memo'
-    known-miss t' u memo' n extra grows filled shared rows bits le same far_is slots_is =
+    known-miss t' u memo' n extra grows filled shared rows bits le same far_is tests_is kept_is =
         let shape : SameShape t u = SameShape-trans t t' u grows.shape shared in
         let m = u.distinct * (2 * t'.width) in
         let whole : t'.distinct * (2 * t'.width) ≡ length (bits_of t.bits) =
@@ -384,7 +392,7 @@ module _ (input : Input) (r : Routine) (t : Table) (memo : Memo) (x : ℕ) (can 
         let bits' : bits_of u.bits ≡ bits_of t.bits ++ take k extra =
         bits ∙ ap₂ take sum grows.bits ∙ take-append-add (bits_of t.bits) extra k in
         let rows' : u.rows.items ≡ t.rows.items ++ n ∷ [] = rows ∙ ap (λ xs. xs ++ n ∷ []) grows.rows in
-        known-next t u (take k extra) bits' shape input r memo memo' x known far_is
+        known-next t u (take k extra) bits' shape input r memo memo' x known far_is tests_is
         (λ outs solution right knows.
         let out = outs (length input.tables.now) in
         let right' : IsRight out u = right-same out t' u same shared (filled (λ outs' solution' right'. (known.knows outs' solution' right').right) outs solution right) in
@@ -393,41 +401,25 @@ module _ (input : Input) (r : Routine) (t : Table) (memo : Memo) (x : ℕ) (can 
         (represented out u row x right' (same-row_of t u x shape ∙ sym numbered) (omega (arith, within, shape.length))
         (omega (arith, ap length rows', length-append t.rows.items (n ∷ [])))) in (
           right',
-          λ i e is_e. elim (slots_is i e is_e) [
+          λ k m kept. elim (kept_is k m kept) [
             | inl old ↦ inl old
             | inr new ↦ inr (
-              subst (λ m. Represents out u m x) (sym new.1) is,
-              (subst (λ o. IfSome o (λ k'. (outs : ℕ → Out) → AreRight outs input.tables.now → Knows input outs r.ops t memo →
-                  HasKey input outs r.ops t memo.far.items x k')) new.0 has) outs right knows,
+              subst (λ row'. Represents out u row' x) (sym new.1) is,
+              (subst (λ o. IfSome o (λ k'. (outs : ℕ → Out) → AreRight outs input.tables.now → IsRight (outs (length input.tables.now)) t →
+                  HasKey input outs r.ops t memo.far.items x k')) new.0 has) outs right knows.right,
             )
           ],
         ))
 
--- ---- the instructions that are listed
-
-pub far-pushed : (ops : List Op) (far : List ℕ) (n : ℕ) → ((pc : ℕ) (op : Op) → pc < n → slice_get ops pc ≡ Some op → IsNear op ⊎ ((k : ℕ) × (slice_get far k ≡ Some pc))) →
-    (pc : ℕ) (op : Op) → pc < n + 1 → slice_get ops pc ≡ Some op → IsNear op ⊎ ((k : ℕ) × (slice_get (far ++ n ∷ []) k ≡ Some pc))
-far-pushed ops far n so_far pc op lt is = elim (cases_eq pc n) [
-  | inl last ↦ inr (length far, slice_get-last far n ∙ ap Some (sym last))
-  | inr before ↦ elim (so_far pc op (omega (arith, lt, before)) is) [
-    | inl near ↦ inl near
-    | inr listed ↦ inr (listed.0, slice_get-kept far n listed.0 pc listed.1)
-  ]
-]
-  where
-    slice_get-last : (xs : List ℕ) (y : ℕ) → slice_get (xs ++ y ∷ []) (length xs) ≡ Some y
-    slice_get-last [] y = refl
-    slice_get-last (x ∷ xs) y = slice_get-last xs y
-
-    slice_get-kept : (xs : List ℕ) (y k z : ℕ) → slice_get xs k ≡ Some z → slice_get (xs ++ y ∷ []) k ≡ Some z
-    slice_get-kept [] y k z is = absurd (none-some z is)
-    slice_get-kept (x ∷ xs) y zero z is = is
-    slice_get-kept (x ∷ xs) y (suc k) z is = slice_get-kept xs y k z is
-
-pub far-next : (ops : List Op) (far : List ℕ) (n : ℕ) → ((pc : ℕ) (op : Op) → pc < n → slice_get ops pc ≡ Some op → IsNear op ⊎ ((k : ℕ) × (slice_get far k ≡ Some pc))) →
-    ((op : Op) → slice_get ops n ≡ Some op → IsNear op) →
-    (pc : ℕ) (op : Op) → pc < n + 1 → slice_get ops pc ≡ Some op → IsNear op ⊎ ((k : ℕ) × (slice_get far k ≡ Some pc))
-far-next ops far n so_far near pc op lt is = elim (cases_eq pc n) [
-  | inl last ↦ inl (near op (ap (slice_get ops) (sym last) ∙ is))
-  | inr before ↦ so_far pc op (omega (arith, lt, before)) is
-]
+-- A memo with the same rows knows the same.
+pub known-same : (input : Input) (r : Routine) (t : Table) (memo memo' : Memo) → SameRows memo memo' → IsKnown input r t memo → IsKnown input r t memo'
+known-same input r t memo memo' same known = record {
+  covers = subst (Covers r.ops) (sym same.far) known.covers;
+  tests = ap (λ s. s.now) same.tests ∙ known.tests;
+  knows = λ outs solution right.
+      let knows = known.knows outs solution right in
+      record {
+        right = knows.right;
+        entries = λ key n kept. subst (λ far. IsEntry input outs r.ops t far key n) (sym same.far) (knows.entries key n (kept-same memo memo' same (Some key) n kept));
+      };
+}

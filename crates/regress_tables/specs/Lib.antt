@@ -7,6 +7,7 @@ pub mod Probes
 pub mod Search
 pub mod Searchable
 pub mod Slots
+pub mod Symbols
 pub mod Table
 pub mod TextSearch
 pub mod Walked

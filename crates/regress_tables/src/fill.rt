@@ -7,12 +7,12 @@ ghost use Rattle.regress_code.specs.Code.{code_routines};
 ghost use Rattle.regress_program.specs.Views.{routine_in};
 ghost use Rattle.regress_tables.specs.Bits.{bits_of};
 ghost use Rattle.regress_tables.specs.Evaluated.{CanFill, IsFilled};
-ghost use Rattle.regress_tables.specs.Memo.{IsKnown};
+ghost use Rattle.regress_tables.specs.Memo.{IsKnown, SameRows};
 ghost use Rattle.regress_tables.specs.Table.{AreTables, Grows, IsFull, IsTableOf, SameShape, evaluated, index, row_bits};
 
 use crate::cells::row_of;
 use crate::evaluate::{Input, evaluate};
-use crate::keys::key_at;
+use crate::keys::{direct_row, key_at};
 use crate::memo::{Memo, slot_of};
 use crate::table::Table;
 use regress_leaves::reading::next_read;
@@ -61,7 +61,7 @@ fn fill_row(
     input: &Input<'_, '_>,
     routine: &Routine,
     table: &mut Table,
-    memo: &mut Memo,
+    memo: &mut Memo<'_>,
     position: usize,
 ) -> Result<(), AllocError>
     requires no_reference { has_no_back_reference (code_routines input.now.code.now) ≡ true }
@@ -75,6 +75,10 @@ fn fill_row(
     ensures known { IfOk result (λ _. IsKnown input.now (routine_in input.now.code.now.program.leaves.items routine.now) table.new memo.new) }
 {
     if table.rows.len() == row_of(table.backwards, table.length, position) {
+        if let Some(number) = direct_row(input, routine, table, memo, position) {
+            table.repeat(number)?;
+            return Ok(());
+        }
         return fill_shared(input, routine, table, memo, position);
     }
     fill_both(*input, routine, table, position)?;
@@ -89,7 +93,7 @@ fn fill_shared(
     input: &Input<'_, '_>,
     routine: &Routine,
     table: &mut Table,
-    memo: &mut Memo,
+    memo: &mut Memo<'_>,
     position: usize,
 ) -> Result<(), AllocError>
     requires no_reference { has_no_back_reference (code_routines input.now.code.now) ≡ true }
@@ -119,11 +123,10 @@ fn fill_shared(
 }
 
 /// Returns the number of a row that is equal to the last one of a table: an earlier one, if one is found.
-fn first_equal(table: &Table, memo: &mut Memo) -> usize
+fn first_equal(table: &Table, memo: &mut Memo<'_>) -> usize
     requires one { length (bits_of table.now.bits) ≡ (table.now.distinct + 1) * (2 * table.now.width) }
     requires inside { table.now.distinct ≤ table.now.length }
-    ensures far { memo.new.far.items ≡ memo.old.far.items }
-    ensures slots { memo.new.slots.items ≡ memo.old.slots.items }
+    ensures rows { SameRows memo.old memo.new }
     ensures earlier { result ≤ table.now.distinct }
     ensures same { row_bits table.now result ≡ row_bits table.now table.now.distinct }
 {

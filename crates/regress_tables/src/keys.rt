@@ -1,12 +1,14 @@
 //! What rows are computed from.
-ghost use Rattle.std.specs.Prelude.{◌≡◌, ◌≤◌, ◌+◌, ◌*◌, ℕ, IfSome, false, length, true};
+ghost use Rattle.std.specs.Prelude.{◌≡◌, ◌≤◌, ◌<◌, ◌+◌, ◌*◌, ℕ, IfSome, Some, false, length, true};
 ghost use Rattle.regress_leaves.specs.Subject.{subject};
+ghost use Rattle.regress_tree.specs.Reading.{direction_if};
+ghost use Rattle.regress_program.specs.Below.{row_of};
 ghost use Rattle.regress_program.specs.Program.{Out, matcher_of};
 ghost use Rattle.regress_program.specs.Tidy.{has_no_back_reference};
 ghost use Rattle.regress_program.specs.Views.{routine_in};
 ghost use Rattle.regress_code.specs.Code.{code_routines};
 ghost use Rattle.regress_tables.specs.Evaluated.{CanFill};
-ghost use Rattle.regress_tables.specs.Memo.{HasKey, Knows};
+ghost use Rattle.regress_tables.specs.Memo.{HasKey, IsKept, SameRows};
 ghost use Rattle.regress_tables.specs.Probes.{Coded, digit};
 ghost use Rattle.regress_tables.specs.Table.{AreRight, AreTables, IsRight, evaluated, index};
 
@@ -15,6 +17,7 @@ use crate::evaluate::Input;
 use crate::memo::{Key, Memo};
 use crate::probe::{Probe, digit, probe_at};
 use crate::table::Table;
+use regress_leaves::ascii::next_ascii;
 use regress_leaves::reading::next_read;
 use regress_program::instruction::Routine;
 
@@ -23,7 +26,7 @@ pub(crate) fn key_at(
     input: &Input<'_, '_>,
     routine: &Routine,
     table: &Table,
-    memo: &Memo,
+    memo: &mut Memo<'_>,
     position: usize,
 ) -> Option<Key>
     requires no_reference { has_no_back_reference (code_routines input.now.code.now) ≡ true }
@@ -31,9 +34,11 @@ pub(crate) fn key_at(
     requires can { CanFill input.now (routine_in input.now.code.now.program.leaves.items routine.now) table.now }
     requires position { position ≤ table.now.length }
     requires at { index table.now 0 false position ≡ length (evaluated table.now) }
-    ensures { IfSome result (λ key. (outs : ℕ → Out) → AreRight outs input.now.tables.now →
+    requires tests { memo.old.symbols.tests.now ≡ input.now.code.now.program.leaves.items }
+    ensures same { SameRows memo.old memo.new }
+    ensures key { IfSome result (λ key. (outs : ℕ → Out) → AreRight outs input.now.tables.now →
         (let ops = (routine_in input.now.code.now.program.leaves.items routine.now).ops in
-        Knows input.now outs ops table.now memo.now → HasKey input.now outs ops table.now memo.now.far.items position key)) }
+        IsRight (outs (length input.now.tables.now)) table.now → HasKey input.now outs ops table.now memo.old.far.items position key)) }
 {
     let probes = probes_at(input, routine, table, &memo.far, position)?;
     match next_read(input.text, input.rules.backwards, position) {
@@ -55,12 +60,48 @@ pub(crate) fn key_at(
             }
             let from = table.number_of(row);
             Some(Key {
-                symbol: u64::from(c) + 1,
+                symbol: u64::from(memo.symbols.symbol_of(c)) + 1,
                 from,
                 probes,
             })
         }
     }
+}
+
+/// Returns the number of the next row, below that of the rows of the table, if it is found directly: by the number of the row
+/// that was filled last and an ASCII character. Each row so far has a number.
+pub(crate) fn direct_row(
+    input: &Input<'_, '_>,
+    routine: &Routine,
+    table: &Table,
+    memo: &Memo<'_>,
+    position: usize,
+) -> Option<usize>
+    requires can { CanFill input.now (routine_in input.now.code.now.program.leaves.items routine.now) table.now }
+    requires position { position ≤ table.now.length }
+    requires numbered { length table.now.rows.items ≡ row_of (direction_if table.now.backwards) table.now.length position }
+    requires tests { memo.now.symbols.tests.now ≡ input.now.code.now.program.leaves.items }
+    ensures number { IfSome result (λ number. number < table.now.distinct) }
+    ensures kept { IfSome result (λ number. (key : Key) × IsKept memo.now (Some key) number × ((outs : ℕ → Out) → AreRight outs input.now.tables.now →
+        (let ops = (routine_in input.now.code.now.program.leaves.items routine.now).ops in
+        IsRight (outs (length input.now.tables.now)) table.now → HasKey input.now outs ops table.now memo.now.far.items position key))) }
+{
+    let rows = table.rows.len();
+    if rows == 0 || memo.far.len() > 0 {
+        return None;
+    }
+    let (c, _) = next_ascii(input.text, input.rules.backwards, position)?;
+    let symbol = memo.symbols.known_symbol(c)?;
+    let from = table.rows[rows - 1] as usize;
+    let index = from * 128 + usize::from(symbol);
+    if index >= memo.direct.len() {
+        return None;
+    }
+    let next = memo.direct[index] as usize;
+    if next == 0 || next > table.distinct {
+        return None;
+    }
+    Some(next - 1)
 }
 
 /// Returns what these instructions lead to from a position, as digits, or `None` if there are too many.

@@ -19,6 +19,7 @@ mod rows;
 mod search;
 mod slots;
 mod step;
+mod symbols;
 mod table;
 mod tables;
 mod text;

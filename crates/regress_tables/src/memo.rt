@@ -1,9 +1,10 @@
 //! Rows that were filled, by what they were computed from.
-ghost use Rattle.std.specs.Prelude.{◌≡◌, ◌<◌, ℕ, ◌⊎◌, IfOk, IfSome, Some, false, slice_get, true};
+ghost use Rattle.std.specs.Prelude.{◌≡◌, ◌≢◌, ◌<◌, ℕ, ◌⊎◌, All, IfOk, IfSome, None, Some, false, slice_get, true};
 ghost use Rattle.regress_program.specs.Views.{op_in, ops_in};
-ghost use Rattle.regress_tables.specs.Memo.{Covers, IsKept, IsNear};
+ghost use Rattle.regress_tables.specs.Memo.{Covers, IsDirect, IsKept, IsNear, direct_index};
 
 use crate::evaluate::Input;
+use crate::symbols::Symbols;
 use regress_leaves::leaves::takes_one;
 use regress_program::instruction::{Instruction, Routine};
 use std::alloc::{AllocError, Global};
@@ -11,7 +12,7 @@ use std::alloc::{AllocError, Global};
 /// What the row at a position is computed from.
 #[derive(Clone, Copy)]
 pub struct Key {
-    /// The next character, plus 1; 0 if there is none.
+    /// The representative of the next character, plus 1; 0 if there is none.
     pub symbol: u64,
     /// The number of the row at the position after that character, in the direction of matching.
     pub from: usize,
@@ -30,10 +31,15 @@ pub struct Entry {
 
 /// The rows that were filled so far.
 #[derive(Drop)]
-pub(crate) struct Memo {
+pub(crate) struct Memo<'t> {
     /// The instructions that look at the text, but for those that match one character.
     pub(crate) far: Vec<usize>,
-    /// Rows by the hash of what they were computed from.
+    /// The representatives of characters.
+    pub(crate) symbols: Symbols<'t>,
+    /// Rows by the number of the row that they follow and the representative of the next character, for ASCII characters at
+    /// which no other instruction leads anywhere: 128 for each row. It is the number of the row and 1, or 0 if none was filled.
+    pub(crate) direct: Vec<u32>,
+    /// Other rows by the hash of what they were computed from.
     pub(crate) slots: Vec<Option<Entry>>,
     /// Rows by the hash of their bits.
     pub(crate) heads: Vec<usize>,
@@ -42,22 +48,32 @@ pub(crate) struct Memo {
 /// The largest number of slots.
 const SLOTS: usize = 1024;
 
-impl Memo {
+/// The largest number of rows for which those that follow are found directly.
+const DIRECT_ROWS: usize = 64;
+
+/// The number of positions for each of these rows, so that they take no more time than the text.
+const POSITIONS: usize = 64;
+
+impl<'t> Memo<'t> {
     /// Returns a memo for a routine, without a row. For a short text it has a slot for each position.
     ///
     /// # Errors
     /// Returns [`AllocError`] if an allocation fails.
     pub(crate) fn new(
         alloc: Global,
-        input: Input<'_, '_>,
+        input: Input<'_, 't>,
         routine: &Routine,
-    ) -> Result<Memo, AllocError>
+    ) -> Result<Memo<'t>, AllocError>
         ensures covers { IfOk result (λ memo. Covers (ops_in input.entry.code.now.program.leaves.items routine.now.instructions.items) memo.far.items) }
-        ensures slots { IfOk result (λ memo. (k : ℕ) (entry : Entry) → slice_get memo.slots.items k ≡ Some (Some entry) → ⊥) }
+        ensures tests { IfOk result (λ memo. memo.symbols.tests.now ≡ input.entry.code.now.program.leaves.items) }
+        ensures empty { IfOk result (λ memo. (key : Key) (row : ℕ) → IsKept memo (Some key) row → ⊥) }
     {
         let count = SLOTS.min(input.text.len() + 1);
+        let rows = DIRECT_ROWS.min(input.text.len() / POSITIONS);
         Ok(Memo {
             far: far_of(alloc, input, routine)?,
+            symbols: Symbols::new(&input.code.program.leaves),
+            direct: vec![in alloc; 0; rows * 128]?,
             slots: empty_slots(alloc, count)?,
             heads: vec![in alloc; 0; count]?,
         })
@@ -66,9 +82,16 @@ impl Memo {
     /// Returns the number of a row that was computed from this, below `rows`, or `None` if none is found.
     pub(crate) fn find(&self, key: Option<Key>, rows: usize) -> Option<usize>
         ensures row { IfSome result (λ row. row < rows) }
-        ensures found { IfSome result (λ row. IsKept self.now.slots.items key row) }
+        ensures found { IfSome result (λ row. IsKept self.now key row) }
     {
         let key = key?;
+        if let Some(index) = direct_index(key, self.direct.len()) {
+            let next = self.direct[index] as usize;
+            if next == 0 || next > rows {
+                return None;
+            }
+            return Some(next - 1);
+        }
         let slot = slot_of(hash_of(key), self.slots.len());
         if slot >= self.slots.len() {
             return None;
@@ -83,17 +106,36 @@ impl Memo {
     /// Keeps the number of a row by what it was computed from, if that is known.
     pub(crate) fn add(&mut self, key: Option<Key>, row: usize)
         ensures far { self.new.far.items ≡ self.old.far.items }
-        ensures slots { (k : ℕ) (entry : Entry) → slice_get self.new.slots.items k ≡ Some (Some entry) →
-            (slice_get self.old.slots.items k ≡ Some (Some entry)) ⊎ ((key ≡ Some entry.key) × (entry.row ≡ row)) }
+        ensures tests { self.new.symbols.tests ≡ self.old.symbols.tests }
+        ensures kept { (k : Key) (n : ℕ) → IsKept self.new (Some k) n → IsKept self.old (Some k) n ⊎ ((key ≡ Some k) × (n ≡ row)) }
     {
         let Some(key) = key else {
             return;
         };
+        if let Some(index) = direct_index(key, self.direct.len()) {
+            if row < u32::MAX as usize {
+                self.direct[index] = row as u32 + 1;
+            }
+            return;
+        }
         let slot = slot_of(hash_of(key), self.slots.len());
         if slot < self.slots.len() {
             self.slots[slot] = Some(Entry { key, row });
         }
     }
+}
+
+/// Returns the index of a key among `count` rows that are found directly, or `None` if it has none.
+fn direct_index(key: Key, count: usize) -> Option<usize>
+    ensures index { IfSome result (λ index. index ≡ direct_index key) }
+    ensures direct { IfSome result (λ _. IsDirect key) }
+    ensures within { IfSome result (λ index. index < count) }
+{
+    if key.probes != 0 || key.symbol == 0 || key.symbol > 128 || key.from >= DIRECT_ROWS {
+        return None;
+    }
+    let index = key.from * 128 + (key.symbol as usize - 1);
+    if index < count { Some(index) } else { None }
 }
 
 /// Returns the slot for a hash, of this number of slots.

@@ -1,11 +1,11 @@
-use Rattle.std.proofs.Common.{◌≡◌, ◌+◌, ◌<◌, ◌⊎◌, List, Option, Some, IfSome, length, slice_get, ap, ◌∙◌, subst, arith, length-append}
+use Rattle.std.proofs.Common.{◌+◌, ◌<◌, IfSome, Some, length, inl, inr, ap, ◌∙◌, subst, arith, length-append}
 use Rattle.regress_tree.specs.Reading.{direction_if}
 use Rattle.regress_program.specs.Views.{routine_in}
 use Rattle.regress_tables.specs.Memo.{IsKept}
 use Rattle.regress_tables.specs.Table.{evaluated, row_bits}
-use Rattle.regress_tables.specs.declared.memo.Entry.{Entry}
 use Rattle.regress_tables.proofs.FillLemmas.{SameShape-trans}
-use Rattle.regress_tables.proofs.MemoLemmas.{known-flat, known-hit, known-miss}
+use Rattle.regress_tables.proofs.KeptLemmas.{kept-same}
+use Rattle.regress_tables.proofs.MemoLemmas.{known-same, known-flat, known-hit, known-miss}
 use Rattle.regress_tables.proofs.RowLemmas.{all-numbered, length-row, one-row, row-most, row-stored}
 use Rattle.regress_tables.proofs.fill.fill_shared.Goals as goal
 
@@ -35,17 +35,21 @@ returns-in-Some-clause-known c =
     let n = c.in-Some.number in
     let r = routine_in c.args.input.now.code.now.program.leaves.items c.args.routine.now in
     let next = c.in_ok-repeat.ensures in
-    known-hit c.args.input.now r t memo c.args.position c.requires.can c.requires.position c.requires.at c.requires.known c.requires.numbered c.key_at-key.result c.key_at-key.ensures
+    let same = c.key_at-key.ensures.same in
+    let key = c.key_at-key.result in
+    known-same c.args.input.now r c.repeat.new.self memo c.key_at-key.new.memo same
+    (known-hit c.args.input.now r t memo c.args.position c.requires.can c.requires.position c.requires.at c.requires.known c.requires.numbered key c.key_at-key.ensures.key
     c.repeat.new.self n next.shape next.rows next.bits next.evaluated
     (subst (λ o. IfSome o (λ row. row < t.distinct)) c.in-Some.is c.find.ensures.row)
-    (subst (λ o. IfSome o (IsKept memo.slots.items c.key_at-key.result)) c.in-Some.is c.find.ensures.found)
+    (kept-same memo c.key_at-key.new.memo same key n (subst (λ o. IfSome o (IsKept c.key_at-key.new.memo key)) c.in-Some.is c.find.ensures.found)))
 
 pub returns-then-table-clause-known : goal.returns-then-table-clause-known
 returns-then-table-clause-known c =
     let both = c.in_ok-fill_both.ensures in
     let r = routine_in c.args.input.now.code.now.program.leaves.items c.args.routine.now in
-    known-flat c.args.input.now r c.args.table.now c.args.memo.now c.args.position c.requires.can c.requires.position c.requires.at c.requires.known
-    c.fill_both.new.table both.grows.0 both.grows.1 both.filled
+    known-same c.args.input.now r c.fill_both.new.table c.args.memo.now c.key_at-key.new.memo c.key_at-key.ensures.same
+    (known-flat c.args.input.now r c.args.table.now c.args.memo.now c.args.position c.requires.can c.requires.position c.requires.at c.requires.known
+    c.fill_both.new.table both.grows.0 both.grows.1 both.filled)
 
 pub first_equal-number-requires-clause-one : goal.first_equal-number-requires-clause-one
 first_equal-number-requires-clause-one c =
@@ -90,11 +94,14 @@ returns-clause-known c =
     let memo = c.args.memo.now in
     let n = c.first_equal-number.result in
     let both = c.in_ok-fill_both.ensures in
-    let found = c.first_equal-number.ensures in
+    let same = c.key_at-key.ensures.same in
+    let found = c.first_equal-number.ensures.rows in
     let shared = c.in_ok-share.ensures in
     let r = routine_in c.args.input.now.code.now.program.leaves.items c.args.routine.now in
-    known-miss c.args.input.now r t memo c.args.position c.requires.can c.requires.position c.requires.at c.requires.known c.requires.numbered c.key_at-key.result c.key_at-key.ensures
+    known-miss c.args.input.now r t memo c.args.position c.requires.can c.requires.position c.requires.at c.requires.known c.requires.numbered c.key_at-key.result c.key_at-key.ensures.key
     c.fill_both.new.table c.share.new.self c.add.new.self n both.grows.0 both.grows.1 both.filled shared.shape shared.rows shared.bits shared.distinct shared.evaluated
-    (c.add.ensures.far ∙ found.far)
-    (λ k e is. subst (λ (xs : List (Option Entry)). (slice_get xs k ≡ Some (Some e)) ⊎ ((c.key_at-key.result ≡ Some e.key) × (e.row ≡ n))) found.slots
-    (c.add.ensures.slots k e is))
+    (c.add.ensures.far ∙ found.far ∙ same.far) (c.add.ensures.tests ∙ found.tests ∙ same.tests)
+    (λ k m is. elim (c.add.ensures.kept k m is) [
+      | inl old ↦ inl (kept-same memo c.key_at-key.new.memo same (Some k) m (kept-same c.key_at-key.new.memo c.first_equal-number.new.memo found (Some k) m old))
+      | inr new ↦ inr new
+    ])

@@ -3,7 +3,7 @@ use Rattle.std.proofs.lemmas.List.{length-map}
 use Rattle.std.proofs.lemmas.Option.{same_Some, slice_get-map, slice_get_read, slice_get_within}
 use Rattle.regress_program.specs.Views.{op_in, ops_in}
 use Rattle.regress_tables.specs.Memo.{IsNear}
-use Rattle.regress_tables.proofs.MemoLemmas.{far-next, far-pushed}
+use Rattle.regress_tables.proofs.FarLemmas.{far-next, far-pushed}
 use Rattle.regress_tables.proofs.memo.far_of.Goals as goal
 use Rattle.regress_tables.proofs.memo.far_of.Goals.{then-is_far+in_ok-push, else-is_far}
 
