@@ -19,8 +19,8 @@ use Rattle.regress_spans.specs.declared.remark.Remark.{Remark}
 use Rattle.regress_syntax.specs.Syntax.{Pattern}
 use Rattle.regress_tree.specs.Tree.{Tree}
 use Rattle.regress_warnings.specs.Warned as warnings
-use Rattle.regex_command.specs.Remarks.{AreRemarks, differences_in}
-use Rattle.regex_command.specs.Patterns.{HasDifferences, HasWarnings, IsListed, IsListedNext, IsReport, MayFailToLint, line_of}
+use Rattle.regex_command.specs.Remarks.{AreRemarks}
+use Rattle.regex_command.specs.Patterns.{differences_in, HasDifferences, HasWarnings, IsListed, IsListedNext, IsReport, MayFailToLint, line_of}
 use Rattle.regex_command.specs.Size.{IsSizeWarning, said_of_size}
 use Rattle.regex_command.specs.declared.size.SizeWarning.{SizeWarning}
 use Rattle.regress.specs.Unicode.{unicode_setting}

@@ -7,6 +7,9 @@ use Rattle.regex_options.specs.Request.{Form, lines, page}
 use Rattle.regress.specs.Compiled.{IsCompiledIn, outcomes_of}
 use Rattle.regress.specs.Failures.{IsTooLarge}
 use Rattle.regress.specs.declared.pattern.Regex.{Regex}
+use Rattle.regress_base.specs.declared.types.Flags.{Flags}
+use Rattle.regress_differences.specs.CaseMode.{widest_flags}
+use Rattle.regress_differences.specs.Kinds as differences
 use Rattle.regress_display.specs.Request as display
 use Rattle.regress_display.specs.Fault.{IsFaultOutput}
 use Rattle.regress_display.specs.Request.{Request}
@@ -20,15 +23,17 @@ use Rattle.regress_found.specs.declared.found.Match.{Match}
 use Rattle.regress_parse.specs.Accepted.{IsAcceptedIn}
 use Rattle.regress_parse.specs.Rejected.{NoneIsAcceptedIn}
 use Rattle.regress_front.specs.declared.parse.Dialect.{Dialect}
+use Rattle.regress_front.specs.declared.parse.Dialect.TheVariants.{Regress, Ecma}
 use Rattle.regress_spans.specs.Paired.{spanned_in}
+use Rattle.regress_parse.specs.declared.span.Span.{Span}
 use Rattle.regress_spans.specs.Remarks.{Said}
 use Rattle.regress_syntax.specs.Syntax.{Pattern}
 use Rattle.regress_tree.specs.Steps.{Setting}
+use Rattle.regress_tree.specs.Tree.{Tree}
 use Rattle.regress_warnings.specs.Warned as warnings
 use Rattle.regex_lines.specs.Ending.{IsCostlyPatternIn, IsLate, options_in}
 use Rattle.regex_lines.specs.declared.failure.Failure.TheVariants.{Argument, Memory, Output, Closed, Syntax, TooLarge, OutOfSteps, Unreadable, Incomplete, PatternNotUtf8, TooLong}
 use Rattle.regex_lines.specs.declared.failure.Failure.{Failure}
-use Rattle.regex_command.specs.Remarks.{differences_in}
 use Rattle.regex_command.specs.Size.{IsSizeWarning, said_of_size}
 use Rattle.regex_command.specs.declared.size.SizeWarning.{SizeWarning}
 
@@ -80,6 +85,11 @@ IsListedNext before line after = (shown : List ℕ) × (after ≡ before ++ (lin
 -- the lines of these remarks, each with what is shown below it
 abbrev pub IsListed : List Said → List ℕ → Type 0
 IsListed remarks bytes = FoldsTo IsListedNext [] (map line_of remarks) bytes
+
+-- What is said of differences from ECMA-262 in these nodes, which have spans. In the dialect `Ecma` that is nothing.
+abbrev pub differences_in : Dialect → (source : List ℕ) → Flags → List (Tree × Span) → List Said
+differences_in Regress source flags nodes = differences.all_said (widest_flags flags source) source nodes
+differences_in Ecma source flags nodes = []
 
 -- the bytes that a match spans
 abbrev pub range_of : Match → Range ℕ

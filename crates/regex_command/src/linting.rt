@@ -9,8 +9,8 @@ ghost use Rattle.regex_lines.specs.Ending.{IsLate, OrOutput, setting_in};
 ghost use Rattle.regress_parse.specs.Settled.{IsFaultIn};
 ghost use Rattle.regress_front.specs.declared.parse.Dialect.{Dialect};
 ghost use Rattle.regress_tree.specs.Steps.{Setting};
-ghost use Rattle.regex_command.specs.Patterns.{IsAcceptedPattern, IsListed, IsListedNext, IsReport, MayFailToLint, line_of};
-ghost use Rattle.regex_command.specs.Remarks.{AreRemarks, differences_in};
+ghost use Rattle.regex_command.specs.Patterns.{differences_in, IsAcceptedPattern, IsListed, IsListedNext, IsReport, MayFailToLint, line_of};
+ghost use Rattle.regex_command.specs.Remarks.{AreRemarks};
 ghost use Rattle.regex_command.specs.Size.{IsSizeWarning, said_of_size};
 ghost use Rattle.regex_command.specs.declared.size.SizeWarning.{SizeWarning};
 
