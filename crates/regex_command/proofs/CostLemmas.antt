@@ -4,8 +4,9 @@ use Rattle.regress.specs.Costs.{AllCostLimit, factor_of}
 use Rattle.regress.specs.declared.failure.SearchError.{SearchError}
 use Rattle.regress.specs.declared.failure.SearchError.TheVariants as errors
 use Rattle.regress.specs.declared.pattern.Regex.{Regex}
+use Rattle.regress_front.specs.declared.parse.Dialect.{Dialect}
 use Rattle.regress_tree.specs.Steps.{Setting}
-use Rattle.regex_lines.specs.Ending.{IsOwn, search_failure}
+use Rattle.regex_lines.specs.Ending.{IsOwnIn, search_failure}
 use Rattle.regex_command.specs.Patterns.{IsAcceptedPattern, MayFailToFind}
 use Rattle.regex_command.specs.Printed.{IsRejected}
 use Rattle.regex_lines.specs.declared.failure.Failure.{Failure}
@@ -13,25 +14,25 @@ use Rattle.regex_lines.specs.declared.failure.Failure.TheVariants.{Argument, Mem
 
 module _ (r : Regex) (text : List ℕ) where
   -- a search of `explain`
-  pub costly_find : (setting : Setting) (source : List ℕ) → IsOwn setting source r → (error : SearchError) →
+  pub costly_find : (dialect : Dialect) (setting : Setting) (source : List ℕ) → IsOwnIn dialect setting source r → (error : SearchError) →
       (error ≡ errors.OutOfSteps → factor_of r ≡ None) → (error ≡ errors.OutOfSteps → AllCostLimit r text 0) →
-      MayFailToFind setting source (search_failure error)
-  costly_find setting source own errors.Memory linear costs = tt
-  costly_find setting source own errors.OutOfSteps linear costs =
+      MayFailToFind dialect setting source (search_failure error)
+  costly_find dialect setting source own errors.Memory linear costs = tt
+  costly_find dialect setting source own errors.OutOfSteps linear costs =
       (r, own, record { linear = linear refl; text = text; costs = inr (costs refl) })
-  costly_find setting source own errors.TooMuchMemory linear costs = tt
+  costly_find dialect setting source own errors.TooMuchMemory linear costs = tt
 
 -- an accepted pattern
-pub found_large : (setting : Setting) (source : List ℕ) → IsAcceptedPattern setting (chars source) → (failure : Failure) → IsRejected setting source failure →
-    MayFailToFind setting source failure
-found_large setting source accepted Argument h = absurd h
-found_large setting source accepted Memory h = tt
-found_large setting source accepted Output h = absurd h
-found_large setting source accepted Closed h = absurd h
-found_large setting source accepted (Syntax pattern message position) h = absurd (h accepted.0 accepted.1)
-found_large setting source accepted TooLarge h = h
-found_large setting source accepted OutOfSteps h = absurd h
-found_large setting source accepted (Unreadable unread) h = absurd h
-found_large setting source accepted Incomplete h = absurd h
-found_large setting source accepted (PatternNotUtf8 name offset) h = absurd h
-found_large setting source accepted (TooLong name) h = absurd h
+pub found_large : (dialect : Dialect) (setting : Setting) (source : List ℕ) → IsAcceptedPattern dialect setting (chars source) → (failure : Failure) →
+    IsRejected dialect setting source failure → MayFailToFind dialect setting source failure
+found_large dialect setting source accepted Argument h = absurd h
+found_large dialect setting source accepted Memory h = tt
+found_large dialect setting source accepted Output h = absurd h
+found_large dialect setting source accepted Closed h = absurd h
+found_large dialect setting source accepted (Syntax pattern message position) h = absurd (h accepted.0 accepted.1)
+found_large dialect setting source accepted TooLarge h = h
+found_large dialect setting source accepted OutOfSteps h = absurd h
+found_large dialect setting source accepted (Unreadable unread) h = absurd h
+found_large dialect setting source accepted Incomplete h = absurd h
+found_large dialect setting source accepted (PatternNotUtf8 name offset) h = absurd h
+found_large dialect setting source accepted (TooLong name) h = absurd h

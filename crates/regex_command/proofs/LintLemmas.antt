@@ -9,19 +9,18 @@ use Rattle.std.proofs.lemmas.List.{map-append, take_all, take_more}
 use Rattle.regress_arguments.specs.Output.{Took}
 use Rattle.regress_base.specs.declared.types.Flags.{Flags}
 use Rattle.regress_base.specs.Table.{Table}
-use Rattle.regress_differences.specs.CaseMode.{widest_flags}
-use Rattle.regress_differences.specs.Kinds as differences
-use Rattle.regress_parse.specs.Accepted.{IsAccepted}
+use Rattle.regress_front.specs.declared.parse.Dialect.{Dialect}
+use Rattle.regress_parse.specs.Accepted.{IsAcceptedIn}
 use Rattle.regress_parse.specs.declared.span.Span.{Span}
 use Rattle.regress_ucd.specs.UnicodeTable.{unicode_table}
-use Rattle.regress_spans.specs.Paired.{postorder, spanned_of}
+use Rattle.regress_spans.specs.Paired.{postorder, spanned_in}
 use Rattle.regress_spans.specs.Remarks.{Said, said, said_by}
 use Rattle.regress_spans.specs.declared.remark.Remark.{Remark}
 use Rattle.regress_syntax.specs.Syntax.{Pattern}
 use Rattle.regress_tree.specs.Tree.{Tree}
 use Rattle.regress_warnings.specs.Warned as warnings
 use Rattle.regex_command.specs.Remarks.{AreRemarks}
-use Rattle.regex_command.specs.Patterns.{HasDifferences, HasWarnings, IsListed, IsListedNext, IsReport, MayFailToLint, line_of}
+use Rattle.regex_command.specs.Patterns.{differences_in, HasDifferences, HasWarnings, IsListed, IsListedNext, IsReport, MayFailToLint, line_of}
 use Rattle.regex_command.specs.Size.{IsSizeWarning, said_of_size}
 use Rattle.regex_command.specs.declared.size.SizeWarning.{SizeWarning}
 use Rattle.regress.specs.Unicode.{unicode_setting}
@@ -70,24 +69,24 @@ pub all_listed : (remarks : List Remark) (i : ℕ) (first bytes : List ℕ) → 
 all_listed remarks i first bytes all steps =
     subst (λ (some : List Remark). FoldsTo IsListedNext first (map line_of (said_by some)) bytes) (take_all i remarks all) steps
 
-module _ (flags : Flags) (points text : List ℕ) (table : Table) (characters : points ≡ chars text) (same : table ≡ unicode_table) where
+module _ (dialect : Dialect) (flags : Flags) (points text : List ℕ) (table : Table) (characters : points ≡ chars text) (same : table ≡ unicode_table) where
   -- the remarks on the pattern, and that on its size
   pub reports : (before remarks : List Said) (parsed : Flags) (t : Tree) (spans : List Span) (r : Result Bool Failure) (old new : Option (List ℕ)) →
-      AreRemarks points parsed t spans before → parsed ≡ flags →
-      (p : Pattern) × (accepted : IsAccepted (record { flags = flags; table = table }) points p)
-      × (zip (postorder t) spans ≡ spanned_of (record { flags = flags; table = table }) points p accepted.derived) →
+      AreRemarks dialect points parsed t spans before → parsed ≡ flags →
+      (p : Pattern) × (accepted : IsAcceptedIn dialect (record { flags = flags; table = table }) points p)
+      × (zip (postorder t) spans ≡ spanned_in dialect (record { flags = flags; table = table }) points p accepted.derived) →
       (n : ℕ) → n ≡ length points →
-      (size : Option SizeWarning) × IsSizeWarning (unicode_setting flags) text size × (remarks ≡ before ++ said_of_size n size) →
+      (size : Option SizeWarning) × IsSizeWarning dialect (unicode_setting flags) text size × (remarks ≡ before ++ said_of_size n size) →
       IfOk r (λ _. Took old new (IsListed remarks)) → IfOk r (λ clean. clean ≡ (length remarks == 0)) →
-      IfOk r (λ clean. Took old new (IsReport clean (unicode_setting flags) text))
+      IfOk r (λ clean. Took old new (IsReport dialect clean (unicode_setting flags) text))
   reports before remarks parsed t spans (Ok clean) old new are same_flags (p, accepted, paired) n count (size, sized, is) (bytes, listed, appends) is_clean =
-      let nodes = spanned_of (record { flags = flags; table = table }) points p accepted.derived in
-      let found = differences.all_said (widest_flags flags points) points nodes in
+      let nodes = spanned_in dialect (record { flags = flags; table = table }) points p accepted.derived in
+      let found = differences_in dialect points flags nodes in
       let warned = warnings.all_said flags.unicode_sets points nodes in
       let first : before ≡ found ++ warned =
       are
       ∙ ap₂ (λ (f : Flags) (xs : List (Tree × Span)).
-      differences.all_said (widest_flags f points) points xs ++ warnings.all_said f.unicode_sets points xs) same_flags paired in
+      differences_in dialect points f xs ++ warnings.all_said f.unicode_sets points xs) same_flags paired in
       let all : remarks ≡ found ++ warned ++ said_of_size (length (chars text)) size =
       is ∙ ap₂ (λ (xs : List Said) (n : ℕ). xs ++ said_of_size n size) first (count ∙ ap length characters) in (
         bytes,
@@ -95,8 +94,10 @@ module _ (flags : Flags) (points text : List ℕ) (table : Table) (characters : 
           found = found;
           warned = warned;
           size = size;
-          differ = under_unicode flags points (chars text) table characters same (λ setting source. HasDifferences setting source found) (p, accepted, refl);
-          warns = under_unicode flags points (chars text) table characters same (λ setting source. HasWarnings setting source warned) (p, accepted, refl);
+          differ = under_unicode flags points (chars text) table characters same
+              (λ setting source. HasDifferences dialect setting source found) (p, accepted, refl);
+          warns = under_unicode flags points (chars text) table characters same
+              (λ setting source. HasWarnings dialect setting source warned) (p, accepted, refl);
           sized = sized;
           listed = subst (λ (some : List Said). IsListed some bytes) all listed;
           is_clean = is_clean ∙ ap (λ (some : List Said). length some == 0) all;
@@ -106,7 +107,8 @@ module _ (flags : Flags) (points text : List ℕ) (table : Table) (characters : 
   reports before remarks parsed t spans (Err failure) old new are same_flags accepted n count sized took is_clean = tt
 
 -- A failure that may occur for a pattern under the setting may do so over all of Unicode.
-pub lint_under_unicode : (flags : Flags) (points source : List ℕ) (table : Table) → points ≡ source → table ≡ unicode_table → (failure : Failure) →
-    MayFailToLint (record { flags = flags; table = table }) points failure → MayFailToLint (unicode_setting flags) source failure
-lint_under_unicode flags points source table characters same failure h =
-    under_unicode flags points source table characters same (λ setting source. MayFailToLint setting source failure) h
+pub lint_under_unicode : (dialect : Dialect) (flags : Flags) (points source : List ℕ) (table : Table) → points ≡ source → table ≡ unicode_table →
+    (failure : Failure) →
+    MayFailToLint dialect (record { flags = flags; table = table }) points failure → MayFailToLint dialect (unicode_setting flags) source failure
+lint_under_unicode dialect flags points source table characters same failure h =
+    under_unicode flags points source table characters same (λ setting source. MayFailToLint dialect setting source failure) h

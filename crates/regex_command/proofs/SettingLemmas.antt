@@ -3,8 +3,9 @@ use Rattle.std.proofs.Common.{◌≡◌, ℕ, List, subst}
 use Rattle.std.specs.Prelude.{⊤}
 use Rattle.regress_base.specs.declared.types.Flags.{Flags}
 use Rattle.regress_base.specs.Table.{Table}
-use Rattle.regress_parse.specs.Rejected.{NoneIsAccepted}
-use Rattle.regress_parse.specs.Settled.{IsFaultOf}
+use Rattle.regress_front.specs.declared.parse.Dialect.{Dialect}
+use Rattle.regress_parse.specs.Rejected.{NoneIsAcceptedIn}
+use Rattle.regress_parse.specs.Settled.{IsFaultIn}
 use Rattle.regress_parse.specs.declared.fault.PlacedFault.{PlacedFault}
 use Rattle.regress_parse.specs.declared.fault.PlacedFault.TheVariants as placed
 use Rattle.regress_tree.specs.Steps.{Setting}
@@ -21,7 +22,7 @@ abbrev pub OnSyntax : PlacedFault → Type 0 → Type 0
 OnSyntax (placed.Syntax kind error position) P = P
 OnSyntax (placed.Memory error) P = ⊤
 
-pub rejected_by : (setting : Setting) (source : List ℕ) (fault : PlacedFault) → IsFaultOf setting source fault →
-    OnSyntax fault (NoneIsAccepted setting source)
-rejected_by setting source (placed.Syntax kind error position) is = is.rejected
-rejected_by setting source (placed.Memory error) is = tt
+pub rejected_by : (dialect : Dialect) (setting : Setting) (source : List ℕ) (fault : PlacedFault) → IsFaultIn dialect setting source fault →
+    OnSyntax fault (NoneIsAcceptedIn dialect setting source)
+rejected_by dialect setting source (placed.Syntax kind error position) is = is.rejected
+rejected_by dialect setting source (placed.Memory error) is = tt

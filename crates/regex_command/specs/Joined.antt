@@ -5,7 +5,7 @@ use Rattle.regex_options.specs.Plain.{matching, replacing}
 use Rattle.regex_options.specs.Request.{Action, Request, explain, lint, search, show}
 use Rattle.regex_options.specs.declared.source.PatternForm.{PatternForm}
 use Rattle.regress_escape.specs.Escape.{escaped}
-use Rattle.regex_command.specs.Patterns.{IsAcceptedPatternIn}
+use Rattle.regex_command.specs.Patterns.{IsAcceptedPattern}
 use Rattle.regex_lines.specs.Ending.{setting_in}
 
 -- the pattern of a text, or the pattern itself
@@ -63,4 +63,4 @@ module _ (request : Request) (patterns : List (List ℕ)) where
     pub taken : are_several patterns ≡ true → takes_several request.action ≡ true
     pub closed : are_several patterns ≡ true → request.form.fixed ≡ false → All IsClosed patterns
     pub accepted : are_parts request.form patterns ≡ true →
-        All (λ pattern. IsAcceptedPatternIn request.dialect (setting_in request.dialect request.flags) (chars pattern)) patterns
+        All (λ pattern. IsAcceptedPattern request.dialect (setting_in request.dialect request.flags) (chars pattern)) patterns

@@ -7,7 +7,6 @@ use Rattle.regex_options.specs.Request.{Action, Ask, Request, apply, escape, exp
 use Rattle.regex_options.specs.declared.request.View.{View}
 use Rattle.regress.specs.Compiled.{IsCompiledIn}
 use Rattle.regress.specs.Failures.{IsTooLarge}
-use Rattle.regress.specs.Unicode.{unicode_setting}
 use Rattle.regress.specs.declared.pattern.Regex.{Regex}
 use Rattle.regress_arguments.specs.Output.{Took}
 use Rattle.regress_base.specs.declared.types.Flags.{Flags}
@@ -17,7 +16,6 @@ use Rattle.regress_display.specs.Shown.{IsFirstOutput}
 use Rattle.regress_escape.specs.Escape.{escaped}
 use Rattle.regress_front.specs.Rejected.{NoneIsAcceptedIn}
 use Rattle.regress_front.specs.declared.parse.Dialect.{Dialect}
-use Rattle.regress_front.specs.declared.parse.Dialect.TheVariants.{Regress}
 use Rattle.regress_tree.specs.Steps.{Setting}
 use Rattle.regex_lines.specs.Ending.{IsCostlyPatternIn, IsLate, IsSearchFailure, MayFailToRead, options_in, setting_in}
 use Rattle.regex_command.specs.Joined.{AreJoinable, are_parts, are_several, joined, refers, takes_several}
@@ -49,22 +47,18 @@ abbrev pub AreUnread : List Source → Failure → Type 0
 AreUnread sources failure = Any (λ source. IsUnread source failure) sources
 
 -- No pattern is accepted, or it is too large, or memory is short.
-abbrev pub IsRejectedIn : Dialect → Setting → (text : List ℕ) → Failure → Type 0
-IsRejectedIn dialect setting text Argument = ⊥
-IsRejectedIn dialect setting text Memory = ⊤
-IsRejectedIn dialect setting text Output = ⊥
-IsRejectedIn dialect setting text Closed = ⊥
-IsRejectedIn dialect setting text (Syntax pattern message position) = NoneIsAcceptedIn dialect setting (chars text)
-IsRejectedIn dialect setting text TooLarge = IsTooLarge setting (chars text) (options_in dialect)
-IsRejectedIn dialect setting text OutOfSteps = ⊥
-IsRejectedIn dialect setting text (Unreadable unread) = ⊥
-IsRejectedIn dialect setting text Incomplete = ⊥
-IsRejectedIn dialect setting text (PatternNotUtf8 name offset) = ⊥
-IsRejectedIn dialect setting text (TooLong name) = ⊥
-
--- The same in the default dialect.
-abbrev pub IsRejected : Setting → (text : List ℕ) → Failure → Type 0
-IsRejected = IsRejectedIn Regress
+abbrev pub IsRejected : Dialect → Setting → (text : List ℕ) → Failure → Type 0
+IsRejected dialect setting text Argument = ⊥
+IsRejected dialect setting text Memory = ⊤
+IsRejected dialect setting text Output = ⊥
+IsRejected dialect setting text Closed = ⊥
+IsRejected dialect setting text (Syntax pattern message position) = NoneIsAcceptedIn dialect setting (chars text)
+IsRejected dialect setting text TooLarge = IsTooLarge setting (chars text) (options_in dialect)
+IsRejected dialect setting text OutOfSteps = ⊥
+IsRejected dialect setting text (Unreadable unread) = ⊥
+IsRejected dialect setting text Incomplete = ⊥
+IsRejected dialect setting text (PatternNotUtf8 name offset) = ⊥
+IsRejected dialect setting text (TooLong name) = ⊥
 
 abbrev pub IsSyntaxError : Failure → Type 0
 IsSyntaxError (Syntax pattern message position) = ⊤
@@ -74,7 +68,7 @@ module _ (request : Request) (patterns : List (List ℕ)) (failure : Failure) wh
   -- A pattern that becomes a part of another one is rejected.
   abbrev pub HasRejectedPart : Type 0
   HasRejectedPart = (are_parts request.form patterns ≡ true)
-      × Any (λ pattern. IsRejectedIn request.dialect (setting_in request.dialect request.flags) pattern failure) patterns
+      × Any (λ pattern. IsRejected request.dialect (setting_in request.dialect request.flags) pattern failure) patterns
 
   -- There are several patterns where one is taken, or one of them refers to a group.
   abbrev pub AreBadSeveral : Type 0
@@ -99,7 +93,7 @@ LacksPattern request failure =
 -- inputs were not read.
 abbrev pub IsDue : Dialect → Setting → (text : List ℕ) → Failure → Type 0
 IsDue dialect setting text failure =
-    IsRejectedIn dialect setting text failure ⊎ IsSearchFailure (IsCostlyPatternIn dialect setting text) failure ⊎ (failure ≡ Incomplete)
+    IsRejected dialect setting text failure ⊎ IsSearchFailure (IsCostlyPatternIn dialect setting text) failure ⊎ (failure ≡ Incomplete)
 
 -- a job that changes lines
 abbrev pub changes : Job → Bool
@@ -144,13 +138,14 @@ abbrev pub PrintsEscaped : (old new : Option (List ℕ)) → (text : List ℕ) �
 PrintsEscaped old new text = Took old new (λ bytes. (pattern : List ℕ) × (chars pattern ≡ escaped (chars text)) × (bytes ≡ pattern ++ codes "\n"))
 
 -- the tree of a pattern, and how it is shown
-abbrev pub view_of : View → Flags → (text : List ℕ) → trees.Request
-view_of view flags text = record {
+abbrev pub view_of : View → Dialect → Flags → (text : List ℕ) → trees.Request
+view_of view dialect flags text = record {
   format = view.format;
   stage = view.stage;
   table = table_asked view.small;
   pattern = chars text;
   flags = flags;
+  dialect = dialect;
 }
 
 module _ (dialect : Dialect) (flags : Flags) (text : List ℕ) where
@@ -159,24 +154,24 @@ module _ (dialect : Dialect) (flags : Flags) (text : List ℕ) where
   abbrev pub Does : Action → (input old new : Option (List ℕ)) → (found : Bool) → Type 0
   Does (search job multiline files) input old new found =
       PrintsAll dialect (setting_in dialect flags) text job multiline files input old new found
-  Does (show view) input old new found = Took old new (IsTreeOutput found (view_of view flags text))
-  Does lint input old new found = Took old new (IsReport found (unicode_setting flags) text)
-  Does (explain form) input old new found = Took old new (IsExplanationIn form found (unicode_setting flags) text)
+  Does (show view) input old new found = Took old new (IsTreeOutput found (view_of view dialect flags text))
+  Does lint input old new found = Took old new (IsReport dialect found (setting_in dialect flags) text)
+  Does (explain form) input old new found = Took old new (IsExplanationIn dialect form found (setting_in dialect flags) text)
 
   -- What may be written before a failure: what a search writes before it, or the first of two trees.
   abbrev pub Begins : Action → (input old new : Option (List ℕ)) → Failure → Type 0
   Begins (search job multiline files) input old new failure =
       PrintsFirst dialect (setting_in dialect flags) text job multiline files input old new failure
-  Begins (show view) input old new failure = Took old new (IsFirstOutput (view_of view flags text))
+  Begins (show view) input old new failure = Took old new (IsFirstOutput (view_of view dialect flags text))
   Begins lint input old new failure = ⊥
   Begins (explain form) input old new failure = ⊥
 
   -- A failure is due: a syntax error only for a search or a report whose pattern is rejected.
   abbrev pub MayFailAt : Action → Failure → Type 0
   MayFailAt (search job multiline files) failure = IsDue dialect (setting_in dialect flags) text failure
-  MayFailAt (show view) failure = IsShowFailure (view_of view flags text) failure
-  MayFailAt lint failure = MayFailToLint (unicode_setting flags) (chars text) failure
-  MayFailAt (explain form) failure = MayFailToExplain form (unicode_setting flags) text failure
+  MayFailAt (show view) failure = IsShowFailure (view_of view dialect flags text) failure
+  MayFailAt lint failure = MayFailToLint dialect (setting_in dialect flags) (chars text) failure
+  MayFailAt (explain form) failure = MayFailToExplain dialect form (setting_in dialect flags) text failure
 
 -- What is written: a text about the program, an escaped text, or the output for a pattern.
 abbrev pub Prints : (input old new : Option (List ℕ)) → (found : Bool) → Ask → Type 0

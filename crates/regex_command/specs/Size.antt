@@ -3,24 +3,27 @@ use Rattle.std.specs.Prelude.{◌≡◌, ◌≢◌, ℕ, List, [], ◌∷◌, ch
 use Rattle.regress.specs.Costs.{nonlinear_of}
 use Rattle.regress.specs.Failures.{IsTooLarge}
 use Rattle.regress.specs.declared.pattern.Regex.{Regex}
+use Rattle.regress_front.specs.declared.parse.Dialect.{Dialect}
 use Rattle.regress_match.specs.declared.nonlinear.Nonlinear.TheVariants.{BackReference, CapturingLookaround, TooManyInstructions}
+use Rattle.regress_front.specs.declared.parse.Dialect.{Dialect}
 use Rattle.regress_match.specs.declared.nonlinear.Nonlinear.{Nonlinear}
 use Rattle.regress_spans.specs.Remarks.{Said}
 use Rattle.regress_tree.specs.Steps.{Setting}
-use Rattle.regex_lines.specs.Ending.{IsOwn, options_in}
+use Rattle.regex_lines.specs.Ending.{IsOwnIn, options_in}
 use Rattle.regex_command.specs.declared.size.SizeWarning.TheVariants.{ManyInstructions, TooLarge}
 use Rattle.regex_command.specs.declared.size.SizeWarning.{SizeWarning}
 
--- P holds of the regular expression that the program compiles from a pattern.
-abbrev pub HasOwn : Setting → (text : List ℕ) → (P : Regex → Type 0) → Type 0
-HasOwn setting text P = (r : Regex) × IsOwn setting text r × P r
+module _ (dialect : Dialect) where
+  -- P holds of the regular expression that the program compiles from a pattern.
+  abbrev pub HasOwn : Setting → (text : List ℕ) → (P : Regex → Type 0) → Type 0
+  HasOwn setting text P = (r : Regex) × IsOwnIn dialect setting text r × P r
 
--- The pattern has this warning: the number of instructions, and nothing else, is why searches are not linear; or it is too
--- large to be compiled. It has none if neither holds.
-abbrev pub IsSizeWarning : Setting → (text : List ℕ) → Option SizeWarning → Type 0
-IsSizeWarning setting text None = HasOwn setting text (λ r. nonlinear_of r ≢ Some TooManyInstructions)
-IsSizeWarning setting text (Some ManyInstructions) = HasOwn setting text (λ r. nonlinear_of r ≡ Some TooManyInstructions)
-IsSizeWarning setting text (Some TooLarge) = IsTooLarge setting (chars text) (options_in Regress)
+  -- The pattern has this warning: the number of instructions, and nothing else, is why searches are not linear; or it is too
+  -- large to be compiled. It has none if neither holds.
+  abbrev pub IsSizeWarning : Setting → (text : List ℕ) → Option SizeWarning → Type 0
+  IsSizeWarning setting text None = HasOwn setting text (λ r. nonlinear_of r ≢ Some TooManyInstructions)
+  IsSizeWarning setting text (Some ManyInstructions) = HasOwn setting text (λ r. nonlinear_of r ≡ Some TooManyInstructions)
+  IsSizeWarning setting text (Some TooLarge) = IsTooLarge setting (chars text) (options_in dialect)
 
 -- what is warned of if searches are not linear for this reason
 abbrev pub instructions_warning : Option Nonlinear → Option SizeWarning

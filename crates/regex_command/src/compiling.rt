@@ -1,10 +1,9 @@
 //! Compiles a pattern.
 ghost use Rattle.std.specs.Prelude.{All, IfOk, IfErr, chars, map, string_bytes};
 ghost use Rattle.std.specs.List.{Any};
-ghost use Rattle.regress.specs.Unicode.{unicode_setting};
-ghost use Rattle.regex_lines.specs.Ending.{IsOwn, IsOwnIn, setting_in};
-ghost use Rattle.regex_command.specs.Patterns.{IsAcceptedPatternIn};
-ghost use Rattle.regex_command.specs.Printed.{IsRejected, IsRejectedIn};
+ghost use Rattle.regex_lines.specs.Ending.{IsOwnIn, setting_in};
+ghost use Rattle.regex_command.specs.Patterns.{IsAcceptedPattern};
+ghost use Rattle.regex_command.specs.Printed.{IsRejected};
 
 use crate::pattern::Pattern;
 use regex_lines::Failure;
@@ -21,48 +20,43 @@ pub(crate) fn compile_each<'f>(
     flags: Flags,
     patterns: &[String],
 ) -> Result<(), Failure<'f>>
-    ensures accepted { IfOk result (λ _. All (λ pattern. IsAcceptedPatternIn dialect (setting_in dialect flags) (chars pattern)) (map string_bytes patterns.now)) }
-    ensures rejected { IfErr result (λ failure. Any (λ pattern. IsRejectedIn dialect (setting_in dialect flags) pattern failure) (map string_bytes patterns.now)) }
+    ensures accepted { IfOk result (λ _. All (λ pattern. IsAcceptedPattern dialect (setting_in dialect flags) (chars pattern)) (map string_bytes patterns.now)) }
+    ensures rejected { IfErr result (λ failure. Any (λ pattern. IsRejected dialect (setting_in dialect flags) pattern failure) (map string_bytes patterns.now)) }
 {
     for pattern in patterns {
         let text = pattern.as_str();
-        compile_alone(alloc, dialect, Pattern { text, flags })?;
+        compile_alone(
+            alloc,
+            Pattern {
+                text,
+                flags,
+                dialect,
+            },
+        )?;
     }
     Ok(())
 }
 
 /// Compiles a pattern, and returns why it is rejected.
-fn compile_alone<'f>(
-    alloc: Global,
-    dialect: Dialect,
-    pattern: Pattern<'_>,
-) -> Result<(), Failure<'f>>
-    ensures accepted { IfOk result (λ _. IsAcceptedPatternIn dialect (setting_in dialect pattern.entry.flags) (chars pattern.entry.text.now)) }
-    ensures rejected { IfErr result (IsRejectedIn dialect (setting_in dialect pattern.entry.flags) pattern.entry.text.now) }
+fn compile_alone<'f>(alloc: Global, pattern: Pattern<'_>) -> Result<(), Failure<'f>>
+    ensures accepted { let setting = setting_in pattern.entry.dialect pattern.entry.flags in
+        IfOk result (λ _. IsAcceptedPattern pattern.entry.dialect setting (chars pattern.entry.text.now)) }
+    ensures rejected { let setting = setting_in pattern.entry.dialect pattern.entry.flags in
+        IfErr result (IsRejected pattern.entry.dialect setting pattern.entry.text.now) }
 {
-    let _ = compiled_in(alloc, dialect, pattern)?;
+    let _ = compiled(alloc, pattern)?;
     Ok(())
 }
 
-/// Compiles a pattern of the default dialect over all of Unicode.
+/// Compiles a pattern over all of Unicode.
 pub(crate) fn compiled<'f>(alloc: Global, pattern: Pattern<'_>) -> Result<Regex, Failure<'f>>
-    ensures own { IfOk result (IsOwn (unicode_setting pattern.entry.flags) pattern.entry.text.now) }
-    ensures failed { IfErr result (IsRejected (unicode_setting pattern.entry.flags) pattern.entry.text.now) }
-{
-    compiled_in(alloc, Dialect::Regress, pattern)
-}
-
-/// Compiles a pattern of a dialect over all of Unicode.
-pub(crate) fn compiled_in<'f>(
-    alloc: Global,
-    dialect: Dialect,
-    pattern: Pattern<'_>,
-) -> Result<Regex, Failure<'f>>
-    ensures own { IfOk result (IsOwnIn dialect (setting_in dialect pattern.entry.flags) pattern.entry.text.now) }
-    ensures failed { IfErr result (IsRejectedIn dialect (setting_in dialect pattern.entry.flags) pattern.entry.text.now) }
+    ensures own { let setting = setting_in pattern.entry.dialect pattern.entry.flags in
+        IfOk result (IsOwnIn pattern.entry.dialect setting pattern.entry.text.now) }
+    ensures failed { let setting = setting_in pattern.entry.dialect pattern.entry.flags in
+        IfErr result (IsRejected pattern.entry.dialect setting pattern.entry.text.now) }
 {
     let options = Options {
-        dialect,
+        dialect: pattern.dialect,
         ..Options::default()
     };
     let tables = Arc::new(alloc, unicode_tables(alloc)?)?;

@@ -1,9 +1,8 @@
 //! `explain`.
 ghost use Rattle.std.specs.Prelude.{◌≡◌, ◌++◌, ℕ, List, true, Ok, IfOk, IfErr, chars, codes, map, option_map, string_bytes};
 ghost use Rattle.regress_arguments.specs.Output.{Took};
-ghost use Rattle.regress.specs.Unicode.{unicode_setting};
 ghost use Rattle.regress.specs.Compiled.{match_of};
-ghost use Rattle.regex_lines.specs.Ending.{OrOutput};
+ghost use Rattle.regex_lines.specs.Ending.{OrOutput, setting_in};
 ghost use Rattle.regress_explain.specs.Page.{IsPageOf};
 ghost use Rattle.regex_command.specs.Patterns.{AreMatchRanges, HasForm, IsAcceptedPattern, IsExplanationIn, MayFailToExplain, MayFailToFind, range_of};
 ghost use Rattle.regex_options.specs.Request.{asked_form};
@@ -16,7 +15,7 @@ use regress::Match;
 use regress_base::util::code_points;
 use regress_explain::{Matched, explain, page};
 use regress_parse::SpannedRegex;
-use regress_spans::try_parse_with_spans;
+use regress_spans::try_parse_with_spans_in;
 use regress_ucd::unicode_tables;
 use std::alloc::{AllocError, Global};
 use std::io::Write;
@@ -31,14 +30,14 @@ pub(crate) fn print_explanation<'f, W: Write, E: Write>(
     err: &mut E,
 ) -> Result<bool, Failure<'f>>
     ensures explained { IfOk result (λ accepted. Took (W.contents out.old) (W.contents out.new)
-        (IsExplanationIn (asked_form form.entry) accepted (unicode_setting pattern.entry.flags) pattern.entry.text.now)) }
+        (IsExplanationIn pattern.entry.dialect (asked_form form.entry) accepted (setting_in pattern.entry.dialect pattern.entry.flags) pattern.entry.text.now)) }
     ensures quiet { result ≡ Ok true → err.new ≡ err.old }
     ensures first { IfErr result (OrOutput (out.new ≡ out.old)) }
-    ensures due { IfErr result (MayFailToExplain (asked_form form.entry) (unicode_setting pattern.entry.flags) pattern.entry.text.now) }
+    ensures due { IfErr result (MayFailToExplain pattern.entry.dialect (asked_form form.entry) (setting_in pattern.entry.dialect pattern.entry.flags) pattern.entry.text.now) }
 {
     let points = code_points(alloc, pattern.text)?;
     let tables = unicode_tables(alloc)?;
-    match try_parse_with_spans(alloc, &points, pattern.flags, &tables) {
+    match try_parse_with_spans_in(alloc, &points, pattern.flags, &tables, pattern.dialect) {
         Ok(parsed) => {
             let text = explanation(alloc, pattern, form, &points, &parsed)?;
             print(text.as_bytes(), out)?;
@@ -56,10 +55,10 @@ fn explanation<'f>(
     points: &[u32],
     parsed: &SpannedRegex,
 ) -> Result<String, Failure<'f>>
-    requires accepted { IsAcceptedPattern (unicode_setting pattern.flags) (chars pattern.text.now) }
+    requires accepted { IsAcceptedPattern pattern.dialect (setting_in pattern.dialect pattern.flags) (chars pattern.text.now) }
     requires characters { points.now ≡ chars pattern.text.now }
-    ensures form { IfOk result (λ text. HasForm (asked_form form.entry) (unicode_setting pattern.entry.flags) pattern.entry.text.now (string_bytes text)) }
-    ensures due { IfErr result (MayFailToExplain (asked_form form.entry) (unicode_setting pattern.entry.flags) pattern.entry.text.now) }
+    ensures form { IfOk result (λ text. HasForm pattern.entry.dialect (asked_form form.entry) (setting_in pattern.entry.dialect pattern.entry.flags) pattern.entry.text.now (string_bytes text)) }
+    ensures due { IfErr result (MayFailToExplain pattern.entry.dialect (asked_form form.entry) (setting_in pattern.entry.dialect pattern.entry.flags) pattern.entry.text.now) }
 {
     match form {
         Form::Lines => Ok(explain(alloc, points, parsed)?),
@@ -101,9 +100,9 @@ struct Found {
 
 /// Returns all matches of an accepted pattern in a text.
 fn found_in<'f>(alloc: Global, pattern: Pattern<'_>, text: &str) -> Result<Found, Failure<'f>>
-    requires { IsAcceptedPattern (unicode_setting pattern.flags) (chars pattern.text.now) }
-    ensures ranges { IfOk result (λ found. AreMatchRanges (unicode_setting pattern.entry.flags) pattern.entry.text.now text.now found.ranges.items) }
-    ensures due { IfErr result (MayFailToFind (unicode_setting pattern.entry.flags) pattern.entry.text.now) }
+    requires { IsAcceptedPattern pattern.dialect (setting_in pattern.dialect pattern.flags) (chars pattern.text.now) }
+    ensures ranges { IfOk result (λ found. AreMatchRanges pattern.entry.dialect (setting_in pattern.entry.dialect pattern.entry.flags) pattern.entry.text.now text.now found.ranges.items) }
+    ensures due { IfErr result (MayFailToFind pattern.entry.dialect (setting_in pattern.entry.dialect pattern.entry.flags) pattern.entry.text.now) }
 {
     let regex = compiled(alloc, pattern)?;
     let matches = regex.find_all(alloc, text)?;

@@ -1,14 +1,15 @@
 //! `lint`.
-ghost use Rattle.std.specs.Prelude.{◌≡◌, ◌==◌, ◌++◌, ℕ, List, IfOk, IfErr, OnOk, Option, chars, length, string_bytes, map};
+ghost use Rattle.std.specs.Prelude.{◌≡◌, ◌==◌, ◌++◌, ℕ, List, IfOk, IfErr, OnOk, Option, chars, length, string_bytes, map, zip};
 ghost use Rattle.std.specs.List.{FoldsTo};
-ghost use Rattle.regress.specs.Unicode.{unicode_setting};
 ghost use Rattle.regress_arguments.specs.Output.{Took};
+ghost use Rattle.regress_spans.specs.Paired.{postorder};
 ghost use Rattle.regress_spans.specs.Remarks.{said, said_by};
 ghost use Rattle.regress_tree.specs.Tree.{tree};
-ghost use Rattle.regex_lines.specs.Ending.{IsLate, OrOutput};
-ghost use Rattle.regress_parse.specs.Settled.{IsFaultOf};
+ghost use Rattle.regex_lines.specs.Ending.{IsLate, OrOutput, setting_in};
+ghost use Rattle.regress_parse.specs.Settled.{IsFaultIn};
+ghost use Rattle.regress_front.specs.declared.parse.Dialect.{Dialect};
 ghost use Rattle.regress_tree.specs.Steps.{Setting};
-ghost use Rattle.regex_command.specs.Patterns.{IsAcceptedPattern, IsListed, IsListedNext, IsReport, MayFailToLint, line_of};
+ghost use Rattle.regex_command.specs.Patterns.{differences_in, IsAcceptedPattern, IsListed, IsListedNext, IsReport, MayFailToLint, line_of};
 ghost use Rattle.regex_command.specs.Remarks.{AreRemarks};
 ghost use Rattle.regex_command.specs.Size.{IsSizeWarning, said_of_size};
 ghost use Rattle.regex_command.specs.declared.size.SizeWarning.{SizeWarning};
@@ -16,11 +17,12 @@ ghost use Rattle.regex_command.specs.declared.size.SizeWarning.{SizeWarning};
 use crate::pattern::Pattern;
 use crate::size::size_remark;
 use regex_lines::{Failure, print};
+use regress::Dialect;
 use regress_arguments::write_with_carets;
 use regress_base::util::code_points;
 use regress_differences::remarks_of as differences;
 use regress_parse::PlacedFault;
-use regress_spans::{Remark, Span, SpannedRegex, try_parse_with_spans};
+use regress_spans::{Remark, Span, SpannedRegex, try_parse_with_spans_in};
 use regress_ucd::unicode_tables;
 use regress_warnings::remarks_of as warnings;
 use std::alloc::{AllocError, Global};
@@ -29,23 +31,23 @@ use std::io::Write;
 /// How many code points of the pattern are shown at most before a position, and after it. A line has room for fewer.
 const REACH: usize = 200;
 
-/// Writes what may match otherwise than in ECMA-262, then what is warned of in the parts of a pattern, and then what in its
-/// size. Returns whether nothing is written.
+/// Writes what in the dialect `Regress` may match otherwise than in ECMA-262, then what is warned of in the parts of a
+/// pattern, and then what in its size. Returns whether nothing is written.
 pub(crate) fn print_lint<'f, W: Write>(
     alloc: Global,
     pattern: Pattern<'_>,
     out: &mut W,
 ) -> Result<bool, Failure<'f>>
     ensures reported { IfOk result (λ clean. Took (W.contents out.old) (W.contents out.new)
-        (IsReport clean (unicode_setting pattern.entry.flags) pattern.entry.text.now)) }
+        (IsReport pattern.entry.dialect clean (setting_in pattern.entry.dialect pattern.entry.flags) pattern.entry.text.now)) }
     ensures first { IfErr result (OrOutput (out.new ≡ out.old)) }
-    ensures due { IfErr result (MayFailToLint (unicode_setting pattern.entry.flags) (chars pattern.entry.text.now)) }
+    ensures due { IfErr result (MayFailToLint pattern.entry.dialect (setting_in pattern.entry.dialect pattern.entry.flags) (chars pattern.entry.text.now)) }
 {
     let points = code_points(alloc, pattern.text)?;
     let tables = unicode_tables(alloc)?;
-    match try_parse_with_spans(alloc, &points, pattern.flags, &tables) {
+    match try_parse_with_spans_in(alloc, &points, pattern.flags, &tables, pattern.dialect) {
         Ok(parsed) => {
-            let mut remarks = remarks_on(alloc, &points, &parsed)?;
+            let mut remarks = remarks_on(alloc, pattern.dialect, &points, &parsed)?;
             add_size_remark(alloc, pattern, points.len(), &mut remarks)?;
             print_remarks(alloc, &points, &remarks, out)
         }
@@ -55,7 +57,7 @@ pub(crate) fn print_lint<'f, W: Write>(
 
 /// Returns why a pattern is rejected.
 fn rejection<'f>(alloc: Global, fault: PlacedFault, pattern: &str) -> Failure<'f>
-    ensures { (setting : Setting) (source : List ℕ) → IsFaultOf setting source fault → MayFailToLint setting source result }
+    ensures { (dialect : Dialect) (setting : Setting) (source : List ℕ) → IsFaultIn dialect setting source fault → MayFailToLint dialect setting source result }
 {
     match fault {
         PlacedFault::Syntax {
@@ -81,9 +83,9 @@ fn add_size_remark<'f>(
     length: usize,
     remarks: &mut Vec<Remark>,
 ) -> Result<(), Failure<'f>>
-    requires { IsAcceptedPattern (unicode_setting pattern.flags) (chars pattern.text.now) }
+    requires { IsAcceptedPattern pattern.dialect (setting_in pattern.dialect pattern.flags) (chars pattern.text.now) }
     ensures added { OnOk result ((warning : Option SizeWarning)
-        × IsSizeWarning (unicode_setting pattern.entry.flags) pattern.entry.text.now warning
+        × IsSizeWarning pattern.entry.dialect (setting_in pattern.entry.dialect pattern.entry.flags) pattern.entry.text.now warning
         × (said_by remarks.new.items ≡ said_by remarks.old.items ++ said_of_size length warning)) }
     ensures late { IfErr result IsLate }
 {
@@ -96,15 +98,32 @@ fn add_size_remark<'f>(
 /// Returns what is said of the differences of a parsed pattern, and then of what is warned of.
 fn remarks_on(
     alloc: Global,
+    dialect: Dialect,
     pattern: &[u32],
     parsed: &SpannedRegex,
 ) -> Result<Vec<Remark>, AllocError>
-    ensures { IfOk result (λ remarks. AreRemarks pattern.now parsed.now.regex.flags (tree parsed.now.regex.node) parsed.now.spans.items (said_by remarks.items)) }
+    ensures { IfOk result (λ remarks. AreRemarks dialect pattern.now parsed.now.regex.flags (tree parsed.now.regex.node) parsed.now.spans.items (said_by remarks.items)) }
 {
-    let mut remarks = differences(alloc, pattern, parsed)?;
+    let mut remarks = differences_in(alloc, dialect, pattern, parsed)?;
     let mut others = warnings(alloc, pattern, parsed)?;
     remarks.append(&mut others)?;
     Ok(remarks)
+}
+
+/// Returns what is said of the differences of a parsed pattern: nothing in the dialect `Ecma`.
+fn differences_in(
+    alloc: Global,
+    dialect: Dialect,
+    pattern: &[u32],
+    parsed: &SpannedRegex,
+) -> Result<Vec<Remark>, AllocError>
+    ensures { IfOk result (λ remarks. said_by remarks.items
+        ≡ differences_in dialect pattern.now parsed.now.regex.flags (zip (postorder (tree parsed.now.regex.node)) parsed.now.spans.items)) }
+{
+    match dialect {
+        Dialect::Regress => differences(alloc, pattern, parsed),
+        Dialect::Ecma => Ok(Vec::new(alloc)),
+    }
 }
 
 /// Writes the remarks, and returns whether there is none.

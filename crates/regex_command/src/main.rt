@@ -24,7 +24,7 @@ mod pattern;
 mod showing;
 mod size;
 
-use compiling::compiled_in;
+use compiling::compiled;
 use explaining::print_explanation;
 use linting::print_lint;
 use pattern::{Pattern, pattern_text};
@@ -34,7 +34,6 @@ use regex_options::{
     Topic, UsageError, View, allows_color, interpret, parse_arguments, topic_text,
     write_usage_error,
 };
-use regress::Dialect;
 use regress_arguments::{ArgumentsError, arguments};
 use regress_display::Request as TreeRequest;
 use regress_escape::escape;
@@ -237,10 +236,10 @@ fn apply<'a, R: Files + AllocGlobal, I: Read + Drop, W: Write, E: Write>(
     let pattern = Pattern {
         text: &text,
         flags: request.flags,
+        dialect: request.dialect,
     };
     let wanted = Wanted {
         pattern,
-        dialect: request.dialect,
         action: request.action,
     };
     apply_to(rt, wanted, input, out, err)
@@ -250,8 +249,6 @@ fn apply<'a, R: Files + AllocGlobal, I: Read + Drop, W: Write, E: Write>(
 #[derive(Clone, Copy)]
 struct Wanted<'p, 'a> {
     pattern: Pattern<'p>,
-    /// The dialect of a pattern that is searched for.
-    dialect: Dialect,
     action: Action<'a>,
 }
 
@@ -263,23 +260,18 @@ fn apply_to<'a, R: Files + AllocGlobal, I: Read + Drop, W: Write, E: Write>(
     out: &mut W,
     err: &mut E,
 ) -> Result<bool, Failure<'a>>
-    ensures found { IfOk result (Does wanted.entry.dialect wanted.entry.pattern.flags wanted.entry.pattern.text.now (action wanted.entry.action) (I.remaining input)
+    ensures found { IfOk result (Does wanted.entry.pattern.dialect wanted.entry.pattern.flags wanted.entry.pattern.text.now (action wanted.entry.action) (I.remaining input)
         (W.contents out.old) (W.contents out.new)) }
-    ensures first { IfErr result (λ failure. OrOutput ((out.new ≡ out.old) ⊎ Begins wanted.entry.dialect wanted.entry.pattern.flags wanted.entry.pattern.text.now
+    ensures first { IfErr result (λ failure. OrOutput ((out.new ≡ out.old) ⊎ Begins wanted.entry.pattern.dialect wanted.entry.pattern.flags wanted.entry.pattern.text.now
         (action wanted.entry.action) (I.remaining input) (W.contents out.old) (W.contents out.new) failure) failure) }
-    ensures due { IfErr result (MayFailAt wanted.entry.dialect wanted.entry.pattern.flags wanted.entry.pattern.text.now (action wanted.entry.action)) }
+    ensures due { IfErr result (MayFailAt wanted.entry.pattern.dialect wanted.entry.pattern.flags wanted.entry.pattern.text.now (action wanted.entry.action)) }
     ensures quiet { result ≡ Ok true → IsQuietFound (err.new ≡ err.old) (action wanted.entry.action) }
     ensures quiet_none { IsQuietAt (result ≡ Ok false) (err.new ≡ err.old) (action wanted.entry.action) }
 {
     let pattern = wanted.pattern;
     match wanted.action {
         Action::Search(search) => {
-            let dialect = wanted.dialect;
-            let wanted = PatternSearch {
-                pattern,
-                dialect,
-                search,
-            };
+            let wanted = PatternSearch { pattern, search };
             print_search(rt, wanted, input, out, err)
         }
         Action::Show(view) => print_tree(rt.alloc(), view_of(view, pattern), out, err),
@@ -290,12 +282,13 @@ fn apply_to<'a, R: Files + AllocGlobal, I: Read + Drop, W: Write, E: Write>(
 
 /// Returns what to show of a pattern.
 fn view_of(view: View, pattern: Pattern<'_>) -> TreeRequest<'_>
-    ensures request { requested result ≡ view_of view pattern.entry.flags pattern.entry.text.now }
+    ensures request { requested result ≡ view_of view pattern.entry.dialect pattern.entry.flags pattern.entry.text.now }
     ensures format { result.format ≡ view.format }
 {
     TreeRequest {
         pattern: pattern.text,
         flags: pattern.flags,
+        dialect: pattern.dialect,
         format: view.format,
         stage: view.stage,
         small: view.small,
@@ -306,7 +299,6 @@ fn view_of(view: View, pattern: Pattern<'_>) -> TreeRequest<'_>
 #[derive(Clone, Copy)]
 struct PatternSearch<'p, 'a> {
     pattern: Pattern<'p>,
-    dialect: Dialect,
     search: Search<'a>,
 }
 
@@ -322,15 +314,15 @@ fn print_search<'a, R: Files + AllocGlobal, I: Read + Drop, W: Write, E: Write>(
     out: &mut W,
     err: &mut E,
 ) -> Result<bool, Failure<'a>>
-    ensures all { IfOk result (PrintsAll wanted.entry.dialect (setting_in wanted.entry.dialect wanted.entry.pattern.flags) wanted.entry.pattern.text.now (job wanted.entry.search.task)
+    ensures all { IfOk result (PrintsAll wanted.entry.pattern.dialect (setting_in wanted.entry.pattern.dialect wanted.entry.pattern.flags) wanted.entry.pattern.text.now (job wanted.entry.search.task)
         wanted.entry.search.multiline (map string_bytes wanted.entry.search.files.now) (I.remaining input) (W.contents out.old) (W.contents out.new)) }
-    ensures first { IfErr result (λ failure. OrOutput ((out.new ≡ out.old) ⊎ PrintsFirst wanted.entry.dialect (setting_in wanted.entry.dialect wanted.entry.pattern.flags) wanted.entry.pattern.text.now
+    ensures first { IfErr result (λ failure. OrOutput ((out.new ≡ out.old) ⊎ PrintsFirst wanted.entry.pattern.dialect (setting_in wanted.entry.pattern.dialect wanted.entry.pattern.flags) wanted.entry.pattern.text.now
         (job wanted.entry.search.task) wanted.entry.search.multiline (map string_bytes wanted.entry.search.files.now) (I.remaining input) (W.contents out.old) (W.contents out.new) failure) failure) }
-    ensures due { IfErr result (IsDue wanted.entry.dialect (setting_in wanted.entry.dialect wanted.entry.pattern.flags) wanted.entry.pattern.text.now) }
+    ensures due { IfErr result (IsDue wanted.entry.pattern.dialect (setting_in wanted.entry.pattern.dialect wanted.entry.pattern.flags) wanted.entry.pattern.text.now) }
     ensures quiet { result ≡ Ok true → is_silent (job wanted.entry.search.task) ≡ false → err.new ≡ err.old }
     ensures quiet_none { result ≡ Ok false → err.new ≡ err.old }
 {
-    let regex = compiled_in(rt.alloc(), wanted.dialect, wanted.pattern)?;
+    let regex = compiled(rt.alloc(), wanted.pattern)?;
     let Searched { result, unread } = search_all(rt, &regex, wanted.search, input, out);
     let flushed = flush(out);
     report_unread(&unread, err);

@@ -9,16 +9,18 @@ use crate::checking::check_patterns;
 use crate::joining::joined;
 use regex_lines::{Failure, read_failure};
 use regex_options::{PatternSource, Patterns, Request};
+use regress::Dialect;
 use regress_base::types::Flags;
 use std::alloc::{AllocError, Global};
 use std::fs::{File, Files};
 use std::io::Read;
 
-/// A pattern and its flags.
+/// A pattern, its flags and its dialect.
 #[derive(Clone, Copy)]
 pub(crate) struct Pattern<'p> {
     pub(crate) text: &'p str,
     pub(crate) flags: Flags,
+    pub(crate) dialect: Dialect,
 }
 
 /// Returns the pattern that is searched for.

@@ -7,7 +7,7 @@ ghost use Rattle.regress_display.specs.Shown.{IsFirstOutput};
 ghost use Rattle.regex_lines.specs.Ending.{OrOutput};
 ghost use Rattle.regex_command.specs.Patterns.{HasFaultOutput, IsTreeOutput, IsFaultWritten, IsQuietFor, IsShowFailure};
 ghost use Rattle.regex_lines.specs.declared.failure.Failure.TheVariants.{Output};
-ghost use Rattle.regress_parse.specs.Settled.{IsSyntaxError};
+ghost use Rattle.regress_parse.specs.Settled.{IsSyntaxErrorIn};
 
 use regex_lines::{Failure, write_syntax_error};
 use regress_display::{Format, Request, ShowError, show, write_json_fault};
@@ -68,7 +68,7 @@ fn print_fault<'f, W: Write, E: Write>(
     out: &mut W,
     err: &mut E,
 ) -> Result<bool, Failure<'f>>
-    requires { IsSyntaxError (setting_of_request (requested request)) (requested request).pattern fault.kind.now
+    requires { IsSyntaxErrorIn request.dialect (setting_of_request (requested request)) (requested request).pattern fault.kind.now
         (string_bytes fault.error.now.text) fault.position }
     ensures shown { IfOk result (λ accepted. (accepted ≡ false) × Took (W.contents out.old) (W.contents out.new)
         (IsFaultWritten request.entry.format (requested request.entry))) }
@@ -96,7 +96,7 @@ fn print_json_fault<'f, W: Write>(
     request: Request<'_>,
     out: &mut W,
 ) -> Result<bool, Failure<'f>>
-    requires { IsSyntaxError (setting_of_request (requested request)) (requested request).pattern fault.kind.now
+    requires { IsSyntaxErrorIn request.dialect (setting_of_request (requested request)) (requested request).pattern fault.kind.now
         (string_bytes fault.error.now.text) fault.position }
     ensures shown { IfOk result (λ accepted. (accepted ≡ false)
         × Took (W.contents out.old) (W.contents out.new) (IsFaultOutput (requested request.entry))) }

@@ -1,8 +1,7 @@
 //! What `lint` says of the size of a pattern.
 ghost use Rattle.std.specs.Prelude.{◌≡◌, IfOk, IfErr, Option, chars, option_map};
-ghost use Rattle.regress.specs.Unicode.{unicode_setting};
 ghost use Rattle.regress_spans.specs.Remarks.{said};
-ghost use Rattle.regex_lines.specs.Ending.{IsLate};
+ghost use Rattle.regex_lines.specs.Ending.{IsLate, setting_in};
 ghost use Rattle.regex_command.specs.Patterns.{IsAcceptedPattern};
 ghost use Rattle.regex_command.specs.Size.{IsSizeWarning, instructions_warning, name_of, said_of, text_of};
 
@@ -29,9 +28,9 @@ pub(crate) fn size_remark<'f>(
     pattern: Pattern<'_>,
     length: usize,
 ) -> Result<Option<Remark>, Failure<'f>>
-    requires { IsAcceptedPattern (unicode_setting pattern.flags) (chars pattern.text.now) }
+    requires { IsAcceptedPattern pattern.dialect (setting_in pattern.dialect pattern.flags) (chars pattern.text.now) }
     ensures said { IfOk result (λ remark. (warning : Option SizeWarning)
-        × IsSizeWarning (unicode_setting pattern.entry.flags) pattern.entry.text.now warning
+        × IsSizeWarning pattern.entry.dialect (setting_in pattern.entry.dialect pattern.entry.flags) pattern.entry.text.now warning
         × (option_map said remark ≡ option_map (said_of length) warning)) }
     ensures late { IfErr result IsLate }
 {
@@ -43,8 +42,8 @@ pub(crate) fn size_remark<'f>(
 
 /// Returns what is warned of in the size of an accepted pattern.
 fn size_warning<'f>(alloc: Global, pattern: Pattern<'_>) -> Result<Option<SizeWarning>, Failure<'f>>
-    requires { IsAcceptedPattern (unicode_setting pattern.flags) (chars pattern.text.now) }
-    ensures warning { IfOk result (IsSizeWarning (unicode_setting pattern.entry.flags) pattern.entry.text.now) }
+    requires { IsAcceptedPattern pattern.dialect (setting_in pattern.dialect pattern.flags) (chars pattern.text.now) }
+    ensures warning { IfOk result (IsSizeWarning pattern.entry.dialect (setting_in pattern.entry.dialect pattern.entry.flags) pattern.entry.text.now) }
     ensures late { IfErr result IsLate }
 {
     match compiled(alloc, pattern) {

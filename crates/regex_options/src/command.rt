@@ -204,7 +204,7 @@ examples:
 usage: regex lint [OPTION..] PATTERN
 
 Writes where PATTERN may match otherwise than in ECMA-262, and what in it may
-be a mistake, and why.
+be a mistake, and why. With --dialect=ecma it writes only the latter.
 
 ",
         examples: "\

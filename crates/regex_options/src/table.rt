@@ -305,7 +305,7 @@ pub const OPTIONS: [OptionEntry; 32] = [
             default: None,
             kind: "NAME (regress or ecma)",
         }),
-        scope: OF_LINES,
+        scope: OF_PATTERNS,
         line: "      --dialect NAME        the dialect of PATTERN: regress, or ecma, in which\n                            less differs from JavaScript; regress by default\n",
     },
     OptionEntry {

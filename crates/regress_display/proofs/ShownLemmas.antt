@@ -6,15 +6,17 @@ use Rattle.regress_arguments.specs.Output.{Took}
 use Rattle.regress_arguments.proofs.lemmas.Output.{appends_both}
 use Rattle.regress_base.specs.declared.types.Flags.{Flags}
 use Rattle.regress_base.specs.Table.{Table}
+use Rattle.regress_lexer.specs.Dialects.{flags_in_force}
 use Rattle.regress_lexer.specs.Source.{Source}
+use Rattle.regress_lexer.specs.declared.dialect.Dialect.{Dialect}
 use Rattle.regress_parse.specs.Accepted as parse
 use Rattle.regress_parse.specs.declared.fault.PlacedFault.{PlacedFault}
 use Rattle.regress_parse.specs.declared.fault.PlacedFault.TheVariants as fault
 use Rattle.regress_parse.specs.TreeOf.{tree_of}
-use Rattle.regress_parse.specs.Spans.{spans_of}
+use Rattle.regress_parse.specs.Spans.{spans_in}
 use Rattle.regress_parse.specs.declared.span.Span.{Span}
 use Rattle.regress_parse.specs.declared.pattern.SpannedRegex.{SpannedRegex}
-use Rattle.regress_parse.specs.Settled.{IsFaultOf}
+use Rattle.regress_parse.specs.Settled.{IsFaultIn}
 use Rattle.regress_syntax.specs.Syntax.{Pattern}
 use Rattle.regress_tree.specs.Steps.{Setting}
 use Rattle.regress_tree.specs.Tree.{Tree, tree}
@@ -50,29 +52,29 @@ shows_both format flags t spans (Ok done) old between new (first, one, before) (
 shows_both format flags t spans (Err failure) old between new before after = tt
 
 -- the spans of the tree's own nodes
-pub spanned_parsed : (shown : Bool) (setting : Setting) (source : Source) (r : Result SpannedRegex PlacedFault) →
-    IfOk r (λ s. (p : Pattern) × (accepted : parse.IsAccepted setting source p) × (tree s.regex.node ≡ tree_of setting.table p)
-    × (s.spans.items ≡ spans_of setting source p accepted.derived)) → IfOk r (IsParsed shown setting source)
-spanned_parsed shown setting source (Ok s) (p, accepted, same, spans) = record {
+pub spanned_parsed : (shown : Bool) (dialect : Dialect) (setting : Setting) (source : Source) (r : Result SpannedRegex PlacedFault) →
+    IfOk r (λ s. (p : Pattern) × (accepted : parse.IsAcceptedIn dialect setting source p) × (tree s.regex.node ≡ tree_of setting.table p)
+    × (s.spans.items ≡ spans_in dialect setting source p accepted.derived)) → IfOk r (IsParsed shown dialect setting source)
+spanned_parsed shown dialect setting source (Ok s) (p, accepted, same, spans) = record {
   pattern = p;
   accepted = accepted;
   parsed = same;
   spans = λ _. spans;
 }
-spanned_parsed shown setting source (Err fault) spanned = tt
+spanned_parsed shown dialect setting source (Err fault) spanned = tt
 
 -- the result of parsing with the requested table
-module _ (shown : Bool) (flags : Flags) (source : Source) (r : Result SpannedRegex PlacedFault) where
+module _ (shown : Bool) (dialect : Dialect) (flags : Flags) (source : Source) (r : Result SpannedRegex PlacedFault) where
   abbrev setting : Table → Setting
-  setting table = record { flags = flags; table = table }
+  setting table = record { flags = flags_in_force dialect flags; table = table }
 
-  pub parsed_asked : (small : Bool) (table : Table) → table ≡ table_asked small → IfOk r (IsParsed shown (setting table) source) →
-      IfOk r (IsParsed shown (setting (table_asked small)) source)
-  parsed_asked small table same parsed = subst (λ (x : Table). IfOk r (IsParsed shown (setting x) source)) same parsed
+  pub parsed_asked : (small : Bool) (table : Table) → table ≡ table_asked small → IfOk r (IsParsed shown dialect (setting table) source) →
+      IfOk r (IsParsed shown dialect (setting (table_asked small)) source)
+  parsed_asked small table same parsed = subst (λ (x : Table). IfOk r (IsParsed shown dialect (setting x) source)) same parsed
 
-  pub rejected_asked : (small : Bool) (table : Table) → table ≡ table_asked small → IfErr r (IsFaultOf (setting table) source) →
-      IfErr r (IsFaultOf (setting (table_asked small)) source)
-  rejected_asked small table same rejected = subst (λ (x : Table). IfErr r (IsFaultOf (setting x) source)) same rejected
+  pub rejected_asked : (small : Bool) (table : Table) → table ≡ table_asked small → IfErr r (IsFaultIn dialect (setting table) source) →
+      IfErr r (IsFaultIn dialect (setting (table_asked small)) source)
+  rejected_asked small table same rejected = subst (λ (x : Table). IfErr r (IsFaultIn dialect (setting x) source)) same rejected
 
 -- Other spans are shown alike, unless spans are part of the output.
 module _ (flags : Flags) (t : Tree) (spans others : List Span) (bytes : List ℕ) where
@@ -98,40 +100,43 @@ module _ (flags : Flags) (t : Tree) (spans others : List Span) (bytes : List ℕ
 
 -- an accepted pattern
 module _ (request : Request) (parsed : SpannedRegex) (old new : Option (List ℕ))
-    (is_parsed : IsParsed (shows_spans request.format request.stage) (setting_of_request request) request.pattern parsed) where
+    (is_parsed : IsParsed (shows_spans request.format request.stage) request.dialect (setting_of_request request) request.pattern parsed) where
+  abbrev flags_of_request : Flags
+  flags_of_request = flags_in_force request.dialect request.flags
+
   abbrev own : List Span
-  own = spans_of (setting_of_request request) request.pattern is_parsed.pattern is_parsed.accepted.derived
+  own = spans_in request.dialect (setting_of_request request) request.pattern is_parsed.pattern is_parsed.accepted.derived
 
   pub shows_output : (r : Result (Unit {0}) ShowError) →
-      OnOk r (Took old new (IsShown request.stage request.format request.flags (tree parsed.regex.node) parsed.spans.items)) →
+      OnOk r (Took old new (IsShown request.stage request.format flags_of_request (tree parsed.regex.node) parsed.spans.items)) →
       OnOk r (Took old new (IsOutput request))
   shows_output (Ok done) (bytes, shown, appends) = (
     bytes,
     record {
       pattern = is_parsed.pattern;
       accepted = is_parsed.accepted;
-      shown = subst (λ (t : Tree). IsShown request.stage request.format request.flags t own bytes) is_parsed.parsed
-          (same_shown request.flags (tree parsed.regex.node) parsed.spans.items own bytes request.stage request.format is_parsed.spans shown);
+      shown = subst (λ (t : Tree). IsShown request.stage request.format flags_of_request t own bytes) is_parsed.parsed
+          (same_shown flags_of_request (tree parsed.regex.node) parsed.spans.items own bytes request.stage request.format is_parsed.spans shown);
     },
     appends,
   )
   shows_output (Err failure) took = tt
 
-  first_output : Took old new (IsFirstShown request.stage request.format request.flags (tree parsed.regex.node) parsed.spans.items) →
+  first_output : Took old new (IsFirstShown request.stage request.format flags_of_request (tree parsed.regex.node) parsed.spans.items) →
       Took old new (IsFirstOutput request)
   first_output (bytes, shown, appends) = (
     bytes,
     record {
       pattern = is_parsed.pattern;
       accepted = is_parsed.accepted;
-      shown = subst (λ (t : Tree). IsFirstShown request.stage request.format request.flags t own bytes) is_parsed.parsed
-          (same_first request.flags (tree parsed.regex.node) parsed.spans.items own bytes request.stage request.format is_parsed.spans shown);
+      shown = subst (λ (t : Tree). IsFirstShown request.stage request.format flags_of_request t own bytes) is_parsed.parsed
+          (same_first flags_of_request (tree parsed.regex.node) parsed.spans.items own bytes request.stage request.format is_parsed.spans shown);
     },
     appends,
   )
 
   pub leaves_output : (nothing : Type 0) (r : Result (Unit {0}) ShowError) →
-      IfErr r (Leaves nothing (Took old new (IsFirstShown request.stage request.format request.flags (tree parsed.regex.node) parsed.spans.items))) →
+      IfErr r (Leaves nothing (Took old new (IsFirstShown request.stage request.format flags_of_request (tree parsed.regex.node) parsed.spans.items))) →
       IfErr r (Leaves nothing (Took old new (IsFirstOutput request)))
   leaves_output nothing (Ok done) h = tt
   leaves_output nothing (Err (Syntax kind e position)) h = h

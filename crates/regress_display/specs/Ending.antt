@@ -2,7 +2,7 @@
 use Rattle.std.specs.Prelude.{◌⊎◌, string_bytes}
 use Rattle.regress_parse.specs.declared.fault.PlacedFault.{PlacedFault}
 use Rattle.regress_parse.specs.declared.fault.PlacedFault.TheVariants as fault
-use Rattle.regress_parse.specs.Settled.{IsSyntaxError}
+use Rattle.regress_parse.specs.Settled.{IsSyntaxErrorIn}
 use Rattle.regress_display.specs.Request.{IsAcceptedPattern, setting_of_request, Request}
 use Rattle.regress_display.specs.declared.error.ShowError.{ShowError}
 use Rattle.regress_display.specs.declared.error.ShowError.TheVariants.{Syntax, Memory, Output}
@@ -14,7 +14,8 @@ error_of (fault.Memory e) = Memory
 
 -- A syntax error is reported only for a rejected pattern, and an output error only for an accepted one.
 abbrev pub IsDue : Request → ShowError → Type 0
-IsDue request (Syntax kind e position) = IsSyntaxError (setting_of_request request) request.pattern kind (string_bytes e.text) position
+IsDue request (Syntax kind e position) =
+    IsSyntaxErrorIn request.dialect (setting_of_request request) request.pattern kind (string_bytes e.text) position
 IsDue request Memory = Unit {0}
 IsDue request Output = IsAcceptedPattern request
 

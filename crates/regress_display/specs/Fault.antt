@@ -3,7 +3,7 @@ use Rattle.std.specs.Prelude.{ℕ, ◌+◌, Bool, not, List, take, ◌==◌, ◌
 use Rattle.std.specs.List.{count_by, suffix_len}
 use Rattle.std.specs.Fmt.{decimal, digits}
 use Rattle.regress_lexer.specs.FaultKinds.{name_of}
-use Rattle.regress_parse.specs.Settled.{IsSyntaxError}
+use Rattle.regress_parse.specs.Settled.{IsSyntaxErrorIn}
 use Rattle.regress_lexer.specs.declared.fault.FaultKind.{FaultKind}
 use Rattle.regress_display.specs.Request.{setting_of_request, Request}
 
@@ -50,5 +50,5 @@ pub record IsFaultOutput (request : Request) (bytes : List ℕ) : Type 0 where
   pub kind : FaultKind
   pub text : List ℕ
   pub position : ℕ
-  pub fault : IsSyntaxError (setting_of_request request) request.pattern kind text position
+  pub fault : IsSyntaxErrorIn request.dialect (setting_of_request request) request.pattern kind text position
   pub written : bytes ≡ fault_json kind text request.pattern position ++ codes "\n"

@@ -2,6 +2,8 @@
 use Rattle.std.specs.Prelude.{ℕ, Bool, List, if◌then◌else◌, chars}
 use Rattle.regress_base.specs.Table.{Table}
 use Rattle.regress_base.specs.declared.types.Flags.{Flags}
+use Rattle.regress_lexer.specs.Dialects.{flags_in_force}
+use Rattle.regress_lexer.specs.declared.dialect.Dialect.{Dialect}
 use Rattle.regress_parse.specs.Accepted as parse
 use Rattle.regress_parse.specs.Rejected as rejected
 use Rattle.regress_syntax.specs.Syntax.{Pattern}
@@ -19,6 +21,7 @@ pub record Request : Type 0 where
   pub table : Table
   pub pattern : List ℕ
   pub flags : Flags
+  pub dialect : Dialect
 
 -- the small table, or that of all of Unicode
 abbrev pub table_asked : Bool → Table
@@ -32,15 +35,16 @@ requested r = record {
   table = table_asked r.small;
   pattern = chars r.pattern.now;
   flags = r.flags;
+  dialect = r.dialect;
 }
 
--- the request's flags and table
+-- the flags in force, and the request's table
 abbrev pub setting_of_request : Request → Setting
-setting_of_request request = record { flags = request.flags; table = request.table }
+setting_of_request request = record { flags = flags_in_force request.dialect request.flags; table = request.table }
 
--- The requested text denotes this pattern under its flags and table.
+-- In the requested dialect the text denotes this pattern, under its flags and table.
 abbrev pub IsAccepted : Request → Pattern → Type 0
-IsAccepted request p = parse.IsAccepted (setting_of_request request) request.pattern p
+IsAccepted request p = parse.IsAcceptedIn request.dialect (setting_of_request request) request.pattern p
 
 -- The requested text denotes some pattern.
 abbrev pub IsAcceptedPattern : Request → Type 0
@@ -48,4 +52,4 @@ IsAcceptedPattern request = (p : Pattern) × IsAccepted request p
 
 -- The requested text denotes no pattern.
 abbrev pub NoneIsAccepted : Request → Type 0
-NoneIsAccepted request = rejected.NoneIsAccepted (setting_of_request request) request.pattern
+NoneIsAccepted request = rejected.NoneIsAcceptedIn request.dialect (setting_of_request request) request.pattern

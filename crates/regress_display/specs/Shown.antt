@@ -2,6 +2,7 @@
 use Rattle.std.specs.Prelude.{◌≡◌, ℕ, Bool, true, false, List, [], ◌++◌, codes}
 use Rattle.regress_base.specs.declared.types.Flags.{Flags}
 use Rattle.regress_lexer.specs.Source.{Source}
+use Rattle.regress_lexer.specs.declared.dialect.Dialect.{Dialect}
 use Rattle.regress_rewrite.specs.Law.{MeansTheSame}
 use Rattle.regress_tree.specs.Display.{printed}
 use Rattle.regress_tree.specs.NormalForm.{IsNormal}
@@ -14,7 +15,7 @@ use Rattle.regress_parse.specs.Accepted as parse
 use Rattle.regress_parse.specs.TreeOf.{tree_of}
 use Rattle.regress_svg.specs.Markup.{IsDocument}
 use Rattle.regress_json.specs.Json.{spanned_json_of}
-use Rattle.regress_parse.specs.Spans.{spans_of}
+use Rattle.regress_parse.specs.Spans.{spans_in}
 use Rattle.regress_parse.specs.declared.pattern.SpannedRegex.{SpannedRegex}
 use Rattle.regress_parse.specs.declared.span.Span.{Span}
 use Rattle.regress_display.specs.Request.{IsAccepted, setting_of_request, Request}
@@ -66,23 +67,23 @@ shows_spans Svg Optimized = false
 shows_spans Svg Parsed = true
 shows_spans Svg Both = true
 
--- the tree of an accepted pattern, and the spans of its nodes if they are shown
-pub record IsParsed (shown : Bool) (setting : Setting) (source : Source) (r : SpannedRegex) : Type 0 where
+-- the tree of an accepted pattern of the dialect, and the spans of its nodes if they are shown
+pub record IsParsed (shown : Bool) (dialect : Dialect) (setting : Setting) (source : Source) (r : SpannedRegex) : Type 0 where
   pub pattern : Pattern
-  pub accepted : parse.IsAccepted setting source pattern
+  pub accepted : parse.IsAcceptedIn dialect setting source pattern
   pub parsed : tree r.regex.node ≡ tree_of setting.table pattern
-  pub spans : shown ≡ true → r.spans.items ≡ spans_of setting source pattern accepted.derived
+  pub spans : shown ≡ true → r.spans.items ≡ spans_in dialect setting source pattern accepted.derived
 
 -- the output for an accepted pattern
 pub record IsOutput (request : Request) (bytes : List ℕ) : Type 0 where
   pub pattern : Pattern
   pub accepted : IsAccepted request pattern
-  pub shown : IsShown request.stage request.format request.flags (tree_of request.table pattern)
-      (spans_of (setting_of_request request) request.pattern pattern accepted.derived) bytes
+  pub shown : IsShown request.stage request.format (setting_of_request request).flags (tree_of request.table pattern)
+      (spans_in request.dialect (setting_of_request request) request.pattern pattern accepted.derived) bytes
 
 -- the first part of it
 pub record IsFirstOutput (request : Request) (bytes : List ℕ) : Type 0 where
   pub pattern : Pattern
   pub accepted : IsAccepted request pattern
-  pub shown : IsFirstShown request.stage request.format request.flags (tree_of request.table pattern)
-      (spans_of (setting_of_request request) request.pattern pattern accepted.derived) bytes
+  pub shown : IsFirstShown request.stage request.format (setting_of_request request).flags (tree_of request.table pattern)
+      (spans_in request.dialect (setting_of_request request) request.pattern pattern accepted.derived) bytes

@@ -3,6 +3,7 @@ ghost use Rattle.std.specs.Prelude.{◌≡◌};
 ghost use Rattle.regress_display.specs.Shown.{shows_spans};
 
 use regress_base::types::Flags;
+use regress_parse::Dialect;
 
 /// A pattern, its flags, and what to show of it.
 #[derive(Clone, Copy)]
@@ -11,6 +12,8 @@ pub struct Request<'a> {
     pub pattern: &'a str,
     /// The flags of the pattern.
     pub flags: Flags,
+    /// The dialect of the pattern.
+    pub dialect: Dialect,
     /// The format of the output.
     pub format: Format,
     /// The tree to show.

@@ -2,7 +2,8 @@
 ghost use Rattle.std.specs.Prelude.{◌≡◌, ◌⊎◌, IfOk, IfErr, OnOk, All, chars};
 ghost use Rattle.regress_arguments.specs.Output.{Took};
 ghost use Rattle.regress_parse.specs.Source.{IsCodePoint};
-ghost use Rattle.regress_parse.specs.Settled.{IsFaultOf};
+ghost use Rattle.regress_parse.specs.Settled.{IsFaultIn};
+ghost use Rattle.regress_lexer.specs.Dialects.{flags_in_force};
 ghost use Rattle.regress_syntax.specs.Meaning.{setting_of};
 ghost use Rattle.regress_tree.specs.Tree.{tree};
 ghost use Rattle.regress_tree.specs.WellFormed.{IsWellFormed};
@@ -18,9 +19,9 @@ use crate::request::{Format, Request, Stage};
 use regress_base::util::code_points;
 use regress_json::SpannedJson;
 use regress_normalize::optimize;
-use regress_parse::{PlacedFault, try_parse_with_position};
+use regress_parse::{PlacedFault, try_parse_in};
 use regress_railroad::svg_with_titles;
-use regress_spans::{Span, SpannedRegex, try_parse_with_spans};
+use regress_spans::{Span, SpannedRegex, try_parse_with_spans_in};
 use regress_tree::ir::Regex;
 use regress_ucd::unicode_tables;
 use regress_unicode::Tables;
@@ -64,10 +65,10 @@ pub fn show<W: Write>(alloc: Global, request: &Request<'_>, out: &mut W) -> Resu
 /// Parses a pattern, given as code points, as the request specifies.
 fn parse(alloc: Global, points: &[u32], request: &Request<'_>) -> Result<SpannedRegex, PlacedFault>
     requires { All IsCodePoint points.now }
-    ensures rejected { IfErr result (IsFaultOf (setting_of_request (requested request.now)) points.now) }
+    ensures rejected { IfErr result (IsFaultIn request.now.dialect (setting_of_request (requested request.now)) points.now) }
     ensures parsed { IfOk result (IsParsed (shows_spans request.now.format request.now.stage)
-        (setting_of_request (requested request.now)) points.now) }
-    ensures flags { IfOk result (λ r. r.regex.flags ≡ request.now.flags) }
+        request.now.dialect (setting_of_request (requested request.now)) points.now) }
+    ensures flags { IfOk result (λ r. r.regex.flags ≡ flags_in_force request.now.dialect request.now.flags) }
     ensures well_formed { IfOk result (λ r. IsWellFormed (tree r.regex.node)) }
 {
     let tables = tables(alloc, request.small)?;
@@ -82,16 +83,17 @@ fn parse_with(
     tables: &Tables,
 ) -> Result<SpannedRegex, PlacedFault>
     requires { All IsCodePoint points.now }
-    ensures rejected { IfErr result (IsFaultOf (setting_of request.now.flags tables.now) points.now) }
-    ensures parsed { IfOk result (IsParsed (shows_spans request.now.format request.now.stage)
-        (setting_of request.now.flags tables.now) points.now) }
-    ensures flags { IfOk result (λ r. r.regex.flags ≡ request.now.flags) }
+    ensures rejected { let setting = setting_of (flags_in_force request.now.dialect request.now.flags) tables.now in
+        IfErr result (IsFaultIn request.now.dialect setting points.now) }
+    ensures parsed { let setting = setting_of (flags_in_force request.now.dialect request.now.flags) tables.now in
+        IfOk result (IsParsed (shows_spans request.now.format request.now.stage) request.now.dialect setting points.now) }
+    ensures flags { IfOk result (λ r. r.regex.flags ≡ flags_in_force request.now.dialect request.now.flags) }
     ensures well_formed { IfOk result (λ r. IsWellFormed (tree r.regex.node)) }
 {
     if request.reports_spans() {
-        return try_parse_with_spans(alloc, points, request.flags, tables);
+        return try_parse_with_spans_in(alloc, points, request.flags, tables, request.dialect);
     }
-    match try_parse_with_position(alloc, points, request.flags, tables) {
+    match try_parse_in(alloc, points, request.flags, tables, request.dialect) {
         Ok(regex) => Ok(SpannedRegex {
             regex,
             spans: Vec::new(alloc),

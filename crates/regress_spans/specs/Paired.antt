@@ -4,11 +4,13 @@ use Rattle.std.specs.Prelude.{ℕ, ◌+◌, List, [], ◌∷◌, ◌++◌, lengt
 use Rattle.regress_tree.specs.Reading.{Direction, forwards}
 use Rattle.regress_tree.specs.Steps.{Setting}
 use Rattle.regress_tree.specs.Tree.{goal, Tree, Trees, leaf, cat, alt, wrapped, no_trees, more_trees}
+use Rattle.regress_lexer.specs.declared.dialect.Dialect.{Dialect}
+use Rattle.regress_lexer.specs.declared.dialect.Dialect.TheVariants.{Regress}
 use Rattle.regress_lexer.specs.Source.{Source, closing, bar}
 use Rattle.regress_syntax.specs.Syntax.{Pattern, Terms, Item, one, either, no_terms, more_terms, atom, group, opened_by, counts_of_item, counts_of_terms, counts_of_term, direction_of_group}
 use Rattle.regress_syntax.specs.Productions.{Context, context_inside}
 use Rattle.regress_syntax.specs.Grammar.{IsPattern, AreTerms, IsItem}
-use Rattle.regress_parse.specs.Accepted.{own_context, IsDerived}
+use Rattle.regress_parse.specs.Accepted.{own_context_in, IsDerivedIn, IsDerived}
 use Rattle.regress_parse.specs.TreeOf.{concatenation, tree_of_quantified, tree_of_atom, tree_of_pattern, trees_of_terms, tree_of_item, tree_of}
 use Rattle.regress_parse.specs.declared.span.Span.{Span}
 use Rattle.regress_parse.specs.Spans.{in_tree_order, span_of_times, span_of_group, how_many, span_of_alternative, between}
@@ -60,9 +62,13 @@ module _ (whole : ℕ) where
         spanned_of_pattern (context_inside kind ctx) (direction_of_group kind d) (n + opened_by kind) p mid (closing ∷ rest) body
         ++ beside (tree_of_item ctx.setting.table ctx.names d n (group kind p)) (span_of_group kind (between whole t rest))
 
--- The nodes of the tree of a whole pattern, with their spans: at the end the final `Goal`, and the root.
-abbrev pub spanned_of : (setting : Setting) (source : Source) (p : Pattern) → IsDerived setting source p → List (Tree × Span)
-spanned_of setting source p derived =
+-- The nodes of the tree of a whole pattern in a dialect, with their spans: at the end the final `Goal`, and the root.
+abbrev pub spanned_in : (dialect : Dialect) (setting : Setting) (source : Source) (p : Pattern) → IsDerivedIn dialect setting source p → List (Tree × Span)
+spanned_in dialect setting source p derived =
     let whole = length source in
-    spanned_of_pattern whole (own_context setting p) forwards 0 p source [] derived
+    spanned_of_pattern whole (own_context_in dialect setting p) forwards 0 p source [] derived
     ++ (leaf goal, between whole [] []) ∷ (tree_of setting.table p, between whole source []) ∷ []
+
+-- the same in the dialect of `try_parse_with_spans`
+abbrev pub spanned_of : (setting : Setting) (source : Source) (p : Pattern) → IsDerived setting source p → List (Tree × Span)
+spanned_of = spanned_in Regress

@@ -4,17 +4,18 @@ ghost use Rattle.regress_unicode.specs.TableOf.{table_of};
 ghost use Rattle.regress_tree.specs.Tree.{tree};
 ghost use Rattle.regress_tree.specs.Visits.{nodes};
 ghost use Rattle.regress_tree.specs.WellFormed.{IsWellFormed};
+ghost use Rattle.regress_lexer.specs.Dialects.{flags_in_force};
 ghost use Rattle.regress_lexer.specs.Source.{IsCodePoint};
 ghost use Rattle.regress_syntax.specs.Syntax.{Pattern};
 ghost use Rattle.regress_syntax.specs.Meaning.{setting_of};
-ghost use Rattle.regress_parse.specs.Accepted.{IsAccepted, OneIsDerived, OfAccepted, Means};
+ghost use Rattle.regress_parse.specs.Accepted.{IsAccepted, OneIsDerived, OfAccepted, Means, IsAcceptedIn, OneIsDerivedIn, OfAcceptedIn};
 ghost use Rattle.regress_parse.specs.TreeOf.{tree_of};
-ghost use Rattle.regress_parse.specs.Spans.{IsWithin, IsInsideOrApart, spans_of};
-ghost use Rattle.regress_parse.specs.Settled.{IsFaultOf};
-ghost use Rattle.regress_spans.specs.Paired.{postorder, spanned_of};
+ghost use Rattle.regress_parse.specs.Spans.{IsWithin, IsInsideOrApart, spans_of, spans_in};
+ghost use Rattle.regress_parse.specs.Settled.{IsFaultOf, IsFaultIn};
+ghost use Rattle.regress_spans.specs.Paired.{postorder, spanned_of, spanned_in};
 
 use regress_base::types::Flags;
-use regress_parse::{PlacedFault, SpannedRegex, parse_with_spans};
+use regress_parse::{Dialect, PlacedFault, SpannedRegex, parse_with_spans_in};
 use regress_unicode::Tables;
 use std::alloc::Global;
 
@@ -85,5 +86,62 @@ pub fn try_parse_with_spans(
     ensures well_formed { IfOk result (λ r. IsWellFormed (tree r.regex.node)) }
     ensures flags { IfOk result (λ r. r.regex.flags ≡ flags) }
 {
-    parse_with_spans(alloc, pattern, flags, tables)
+    try_parse_with_spans_in(alloc, pattern, flags, tables, Dialect::Regress)
+}
+
+/// Parses a pattern of a dialect as [`try_parse_in`] does, and returns a span for each node of the tree, as
+/// [`try_parse_with_spans`] does.
+///
+/// The tree has the flags in force ([`Dialect::flags_in_force`]).
+///
+/// # Preconditions
+/// Each element of `pattern` is a code point, at most U+10FFFF.
+///
+/// # Errors
+/// As for [`try_parse_in`].
+///
+/// # Complexity
+/// As for [`try_parse_with_spans`].
+///
+/// # Examples
+/// ```
+/// let tables = Tables::small(alloc)?;
+/// let points = code_points(alloc, "\\b+")?;
+/// let flags = Flags::default();
+/// assert!(rt; try_parse_with_spans_in(alloc, &points, flags, &tables, Dialect::Ecma).is_err());
+/// assert!(rt; try_parse_with_spans_in(alloc, &points, flags, &tables, Dialect::Regress).is_ok());
+/// ```
+pub fn try_parse_with_spans_in(
+    alloc: Global,
+    pattern: &[u32],
+    flags: Flags,
+    tables: &Tables,
+    dialect: Dialect,
+) -> Result<SpannedRegex, PlacedFault>
+    requires { All IsCodePoint pattern.now }
+
+    // The tree of the pattern that the grammar derives, and the spans of its nodes.
+    ensures spanned { let setting = setting_of (flags_in_force dialect flags) tables.now in
+        IfOk result (λ r. (p : Pattern) × (accepted : IsAcceptedIn dialect setting pattern.now p)
+        × (tree r.regex.node ≡ tree_of (table_of tables.now) p)
+        × (r.spans.items ≡ spans_in dialect setting pattern.now p accepted.derived)) }
+    // The k-th span is that of the k-th node in postorder: the production that makes the node gives the span.
+    ensures paired { let setting = setting_of (flags_in_force dialect flags) tables.now in
+        IfOk result (λ r. (p : Pattern) × (accepted : IsAcceptedIn dialect setting pattern.now p)
+        × (zip (postorder (tree r.regex.node)) r.spans.items ≡ spanned_in dialect setting pattern.now p accepted.derived)) }
+    ensures each { IfOk result (λ r. length r.spans.items ≡ nodes (tree r.regex.node)) }
+
+    ensures within { IfOk result (λ r. All (IsWithin (record { start = 0; end = length pattern.now })) r.spans.items) }
+    // Spans nest as the parts of the pattern do, and disjoint parts share no code point.
+    ensures nested { IfOk result (λ r. AllPairs IsInsideOrApart r.spans.items) }
+
+    // The contract of `try_parse_in`.
+    ensures rejected { IfErr result (IsFaultIn dialect (setting_of (flags_in_force dialect flags) tables.now) pattern.now) }
+    ensures only { OneIsDerivedIn dialect (setting_of (flags_in_force dialect flags) tables.now) pattern.now }
+    ensures meaning { let setting = setting_of (flags_in_force dialect flags) tables.now in
+        IfOk result (λ r. OfAcceptedIn dialect setting pattern.now (Means setting (tree r.regex.node))) }
+    ensures well_formed { IfOk result (λ r. IsWellFormed (tree r.regex.node)) }
+    ensures flags { IfOk result (λ r. r.regex.flags ≡ flags_in_force dialect flags) }
+{
+    parse_with_spans_in(alloc, pattern, flags, tables, dialect)
 }

@@ -13,7 +13,7 @@ use Rattle.regex_command.proofs.print_search.Goals as goal
 pub returns-in_err-any-clause-first : goal.returns-in_err-any-clause-first
 returns-in_err-any-clause-first g c =
     let search = c.args.wanted.search in
-    let dialect = c.args.wanted.dialect in
+    let dialect = c.args.wanted.pattern.dialect in
     let setting = setting_in dialect c.args.wanted.pattern.flags in
     let text = c.args.wanted.pattern.text.now in
     let task = job search.task in
@@ -41,7 +41,7 @@ returns-in_err-any-clause-first g c =
 
 pub returns-in_err-any-clause-due : goal.returns-in_err-any-clause-due
 returns-in_err-any-clause-due g c =
-    let dialect = c.args.wanted.dialect in
+    let dialect = c.args.wanted.pattern.dialect in
     let setting = setting_in dialect c.args.wanted.pattern.flags in
     let text = c.args.wanted.pattern.text.now in
     let r = c.in_ok-regex.regex in
@@ -54,7 +54,7 @@ returns-in_err-any-clause-due g c =
 pub returns-clause-all : goal.returns-clause-all
 returns-clause-all g c =
     let search = c.args.wanted.search in
-    let dialect = c.args.wanted.dialect in
+    let dialect = c.args.wanted.pattern.dialect in
     let setting = setting_in dialect c.args.wanted.pattern.flags in
     let text = c.args.wanted.pattern.text.now in
     let task = job search.task in
@@ -77,7 +77,7 @@ returns-clause-all g c =
 pub returns-clause-first : goal.returns-clause-first
 returns-clause-first g c =
     let search = c.args.wanted.search in
-    let dialect = c.args.wanted.dialect in
+    let dialect = c.args.wanted.pattern.dialect in
     let setting = setting_in dialect c.args.wanted.pattern.flags in
     let text = c.args.wanted.pattern.text.now in
     let task = job search.task in

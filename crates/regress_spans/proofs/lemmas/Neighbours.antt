@@ -6,14 +6,15 @@ use Rattle.std.proofs.lemmas.List.Kept.{AllPairs-cons}
 use Rattle.regress_base.specs.declared.types.Quantifier.{Quantifier}
 use Rattle.regress_tree.specs.Reading.{Direction, forwards, backwards}
 use Rattle.regress_tree.specs.Steps.{Setting}
+use Rattle.regress_lexer.specs.declared.dialect.Dialect.{Dialect}
 use Rattle.regress_lexer.specs.Source.{Source, closing, bar}
 use Rattle.regress_syntax.specs.Syntax.{Group, grouping, modified, capture, look, Pattern, Terms, Item, one, either, no_terms, more_terms, atom, group, direction_of_group}
 use Rattle.regress_syntax.specs.Productions.{Context, context_inside, head_of_item, allows}
 use Rattle.regress_syntax.specs.Grammar.{IsPattern, AreTerms, IsItem}
 use Rattle.regress_syntax.proofs.lemmas.Productions.{optional_quantifier_at-shortens}
-use Rattle.regress_parse.specs.Accepted.{own_context, IsDerived}
+use Rattle.regress_parse.specs.Accepted.{own_context_in, IsDerivedIn}
 use Rattle.regress_parse.specs.declared.span.Span.{Span}
-use Rattle.regress_parse.specs.Spans.{IsWithin, IsInsideOrApart, is_inside, ends_before, begins_after, span_of_times, span_of_group, how_many, span_of_alternative, in_tree_order, between, spans_of_pattern, spans_of_terms, spans_of_item, spans_of}
+use Rattle.regress_parse.specs.Spans.{IsWithin, IsInsideOrApart, is_inside, ends_before, begins_after, span_of_times, span_of_group, how_many, span_of_alternative, in_tree_order, between, spans_of_pattern, spans_of_terms, spans_of_item, spans_in}
 use Rattle.regress_spans.proofs.lemmas.Nesting.{AllBetween, itself, wider, item-shortens, item-within, inner-within, term-within, terms-within, alternative-within, alternatives-within, pattern-within}
 
 -- ---- lists of spans
@@ -148,11 +149,11 @@ module _ (whole : ℕ) where
         (nest_of_pattern (context_inside kind ctx) (direction_of_group kind d) p h.0 (closing ∷ rest) h.2)
 
 -- The spans of a whole pattern are nested.
-pub all_nest : (setting : Setting) (source : Source) (p : Pattern) (derived : IsDerived setting source p) →
-    AllPairs IsInsideOrApart (spans_of setting source p derived)
-all_nest setting source p derived =
+pub all_nest : (dialect : Dialect) (setting : Setting) (source : Source) (p : Pattern) (derived : IsDerivedIn dialect setting source p) →
+    AllPairs IsInsideOrApart (spans_in dialect setting source p derived)
+all_nest dialect setting source p derived =
     let whole = length source in
-    let ctx = own_context setting p in
+    let ctx = own_context_in dialect setting p in
     let body = spans_of_pattern whole ctx forwards p source [] derived in
     let inner = pattern-within whole ctx forwards p source [] derived in
     let goal = between whole [] [] in

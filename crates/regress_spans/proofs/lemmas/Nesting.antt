@@ -5,14 +5,15 @@ use Rattle.std.proofs.lemmas.List.Elements.{All-nil, All-cons, All-append, All-r
 use Rattle.regress_base.specs.declared.types.Quantifier.{Quantifier}
 use Rattle.regress_tree.specs.Reading.{Direction, forwards, backwards}
 use Rattle.regress_tree.specs.Steps.{Setting}
+use Rattle.regress_lexer.specs.declared.dialect.Dialect.{Dialect}
 use Rattle.regress_lexer.specs.Source.{Source, closing, bar}
 use Rattle.regress_syntax.specs.Syntax.{Group, grouping, modified, capture, look, Pattern, Terms, Item, one, either, no_terms, more_terms, atom, group, direction_of_group}
 use Rattle.regress_syntax.specs.Productions.{Context, context_inside, single, opens, head_of_item, allows}
 use Rattle.regress_syntax.specs.Grammar.{IsPattern, AreTerms, IsItem}
 use Rattle.regress_syntax.proofs.lemmas.Productions.{head_at-shortens, optional_quantifier_at-shortens}
-use Rattle.regress_parse.specs.Accepted.{own_context, IsDerived}
+use Rattle.regress_parse.specs.Accepted.{own_context_in, IsDerivedIn}
 use Rattle.regress_parse.specs.declared.span.Span.{Span}
-use Rattle.regress_parse.specs.Spans.{IsWithin, span_of_times, span_of_group, how_many, span_of_alternative, in_tree_order, between, spans_of_pattern, spans_of_terms, spans_of_item, spans_of}
+use Rattle.regress_parse.specs.Spans.{IsWithin, span_of_times, span_of_group, how_many, span_of_alternative, in_tree_order, between, spans_of_pattern, spans_of_terms, spans_of_item, spans_in}
 
 -- ---- the rest of a derivation is no longer than its source
 
@@ -182,14 +183,14 @@ module _ (whole : ℕ) where
       group-around ctx kind p t rest h _ (pattern-within (context_inside kind ctx) (direction_of_group kind d) p h.0 (closing ∷ rest) h.2)
 
 -- the spans of a whole pattern
-pub all_within : (setting : Setting) (source : Source) (p : Pattern) (derived : IsDerived setting source p) →
-    All (IsWithin (record { start = 0; end = length source })) (spans_of setting source p derived)
-all_within setting source p derived =
+pub all_within : (dialect : Dialect) (setting : Setting) (source : Source) (p : Pattern) (derived : IsDerivedIn dialect setting source p) →
+    All (IsWithin (record { start = 0; end = length source })) (spans_in dialect setting source p derived)
+all_within dialect setting source p derived =
     let whole = length source in
-    let body = spans_of_pattern whole (own_context setting p) forwards p source [] derived in
+    let body = spans_of_pattern whole (own_context_in dialect setting p) forwards p source [] derived in
     All-weaker (IsWithin (between whole source [])) (IsWithin (record { start = 0; end = length source }))
     (λ s h. record { start = omega arith; ordered = h.ordered; end = omega (arith, h.end) }) _
-    (both whole source [] body _ (pattern-within whole (own_context setting p) forwards p source [] derived)
+    (both whole source [] body _ (pattern-within whole (own_context_in dialect setting p) forwards p source [] derived)
     (All-cons (IsWithin (between whole source [])) (between whole [] []) (between whole source [] ∷ [])
     (record { start = omega arith; ordered = omega arith; end = omega arith })
     (alone whole source [] (between whole source []) (itself whole source [] (omega arith)))))

@@ -1,4 +1,4 @@
--- The nodes and the spans of `spanned_of` are those of the tree, in postorder, and those of `spans_of`.
+-- The nodes and the spans of `spanned_in` are those of the tree, in postorder, and those of `spans_in`.
 use Rattle.std.proofs.Common.{◌≡◌, ◌≢◌, ℕ, ◌+◌, ◌==◌, List, [], ◌∷◌, ◌++◌, length, map, replicate, Option, Some, None, refl, sym, ap, ap₂, ◌∙◌, arith}
 use Rattle.std.specs.List.{zip}
 use Rattle.std.proofs.lemmas.Bool.{cond-false, ne_eqb}
@@ -9,15 +9,16 @@ use Rattle.regress_tree.specs.Reading.{Direction, forwards, backwards}
 use Rattle.regress_tree.specs.Steps.{Setting}
 use Rattle.regress_tree.specs.Tree.{empty, goal, Tree, Trees, leaf, cat, alt, wrapped, no_trees, more_trees, append_trees, reverse_trees}
 use Rattle.regress_tree.specs.Visits.{nodes, nodes_in_list}
+use Rattle.regress_lexer.specs.declared.dialect.Dialect.{Dialect}
 use Rattle.regress_lexer.specs.Source.{Source, closing, bar}
 use Rattle.regress_syntax.specs.Syntax.{Name, Group, grouping, modified, capture, look, Pattern, Terms, Item, one, either, no_terms, more_terms, atom, group, opened_by, counts_of_item, counts_of_terms, counts_of_term, direction_of_group}
 use Rattle.regress_syntax.specs.Productions.{Context, context_inside}
 use Rattle.regress_syntax.specs.Grammar.{IsPattern, AreTerms, IsItem}
-use Rattle.regress_parse.specs.Accepted.{own_context, IsDerived}
+use Rattle.regress_parse.specs.Accepted.{own_context_in, IsDerivedIn}
 use Rattle.regress_parse.specs.TreeOf.{concatenation, tree_of_group, tree_of_quantified, tree_of_atom, tree_of_pattern, trees_of_terms, tree_of_item, tree_of, in_direction}
 use Rattle.regress_parse.specs.declared.span.Span.{Span}
-use Rattle.regress_parse.specs.Spans.{span_of_times, span_of_group, how_many, span_of_alternative, in_tree_order, between, spans_of_pattern, spans_of_terms, spans_of_item, spans_of}
-use Rattle.regress_spans.specs.Paired.{postorder, postorder_of_list, beside, spanned_of_pattern, spanned_of_terms, spanned_of_item, spanned_of}
+use Rattle.regress_parse.specs.Spans.{span_of_times, span_of_group, how_many, span_of_alternative, in_tree_order, between, spans_of_pattern, spans_of_terms, spans_of_item, spans_in}
+use Rattle.regress_spans.specs.Paired.{postorder, postorder_of_list, beside, spanned_of_pattern, spanned_of_terms, spanned_of_item, spanned_in}
 
 abbrev pub tree_at : Tree × Span → Tree
 tree_at x = x.0
@@ -237,24 +238,24 @@ module _ (whole : ℕ) where
 
 -- ---- a whole pattern
 
-module _ (setting : Setting) (source : Source) (p : Pattern) (derived : IsDerived setting source p) where
-  pub nodes_of_spanned : map tree_at (spanned_of setting source p derived) ≡ postorder (tree_of setting.table p)
+module _ (dialect : Dialect) (setting : Setting) (source : Source) (p : Pattern) (derived : IsDerivedIn dialect setting source p) where
+  pub nodes_of_spanned : map tree_at (spanned_in dialect setting source p derived) ≡ postorder (tree_of setting.table p)
   nodes_of_spanned =
       let whole = length source in
-      let ctx = own_context setting p in
+      let ctx = own_context_in dialect setting p in
       let body = tree_of_pattern setting.table ctx.names forwards 0 p in
       both tree_at (spanned_of_pattern whole ctx forwards 0 p source [] derived) _ (postorder body) (leaf goal ∷ tree_of setting.table p ∷ [])
       (trees_of_pattern whole ctx forwards 0 p source [] derived) refl
       ∙ sym (append_assoc (postorder body) (leaf goal ∷ []) (tree_of setting.table p ∷ []))
 
-  pub spans_of_spanned : map span_at (spanned_of setting source p derived) ≡ spans_of setting source p derived
+  pub spans_of_spanned : map span_at (spanned_in dialect setting source p derived) ≡ spans_in dialect setting source p derived
   spans_of_spanned =
       let whole = length source in
-      let ctx = own_context setting p in
+      let ctx = own_context_in dialect setting p in
       both span_at (spanned_of_pattern whole ctx forwards 0 p source [] derived) _
       (spans_of_pattern whole ctx forwards p source [] derived) (between whole [] [] ∷ between whole source [] ∷ [])
       (spans_in_pattern whole ctx forwards 0 p source [] derived) refl
 
   -- the nodes and the spans side by side
-  pub paired : zip (postorder (tree_of setting.table p)) (spans_of setting source p derived) ≡ spanned_of setting source p derived
-  paired = ap₂ zip (sym nodes_of_spanned) (sym spans_of_spanned) ∙ zipped (spanned_of setting source p derived)
+  pub paired : zip (postorder (tree_of setting.table p)) (spans_in dialect setting source p derived) ≡ spanned_in dialect setting source p derived
+  paired = ap₂ zip (sym nodes_of_spanned) (sym spans_of_spanned) ∙ zipped (spanned_in dialect setting source p derived)

@@ -14,6 +14,7 @@ use regress_front::optimizer::{
 };
 use regress_front::parse::{
     Dialect, Span, node_bound, try_parse, try_parse_in, try_parse_with_spans,
+    try_parse_with_spans_in,
 };
 use regress_front::types::Flags;
 use regress_front::unicode::{
@@ -364,6 +365,17 @@ fn a_pattern_is_optimized_in_a_dialect(rt: HostRuntime) -> Result<(), Fail> {
     let flags = Flags::default();
     assert!(rt; parse_and_optimize_in(alloc, &points, flags, &tables, Dialect::Ecma).is_err());
     assert!(rt; parse_and_optimize_in(alloc, &points, flags, &tables, Dialect::Regress).is_ok());
+    Ok(())
+}
+
+#[test]
+fn each_node_has_a_span_in_a_dialect(rt: HostRuntime) -> Result<(), Fail> {
+    let alloc = rt.alloc();
+    let tables = Tables::small(alloc)?;
+    let points = code_points(alloc, "\\b+")?;
+    let flags = Flags::default();
+    assert!(rt; try_parse_with_spans_in(alloc, &points, flags, &tables, Dialect::Ecma).is_err());
+    assert!(rt; try_parse_with_spans_in(alloc, &points, flags, &tables, Dialect::Regress).is_ok());
     Ok(())
 }
 

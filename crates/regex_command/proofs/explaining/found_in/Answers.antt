@@ -1,8 +1,7 @@
 use Rattle.std.proofs.Common.{◌∙◌, List, ap, map}
 use Rattle.regress.specs.Compiled.{match_of}
 use Rattle.regress.specs.declared.found.Match.{Match}
-use Rattle.regress.specs.Unicode.{unicode_setting}
-use Rattle.regex_lines.specs.Ending.{search_failure}
+use Rattle.regex_lines.specs.Ending.{search_failure, setting_in}
 use Rattle.regex_command.specs.Patterns.{MayFailToFind, range_of}
 use Rattle.regex_command.proofs.CostLemmas.{costly_find, found_large}
 use Rattle.regex_lines.proofs.lemmas.Failures.{passed_on}
@@ -21,16 +20,19 @@ returns-clause-ranges c = (
 
 pub returns-in_err-regex-clause-due : goal.returns-in_err-regex-clause-due
 returns-in_err-regex-clause-due c =
-    let setting = unicode_setting c.args.pattern.flags in
+    let dialect = c.args.pattern.dialect in
+    let setting = setting_in dialect c.args.pattern.flags in
     let source = c.args.pattern.text.now in
     let failure = c.in_err-regex.field-0.0 in
-    passed_on (MayFailToFind setting source) c.from_residual.result failure c.from_residual.ensures.1
-    (found_large setting source c.requires failure c.in_err-regex.ensures.failed)
+    passed_on (MayFailToFind dialect setting source) c.from_residual.result failure c.from_residual.ensures.1
+    (found_large dialect setting source c.requires failure c.in_err-regex.ensures.failed)
 
 pub returns-in_err-matches-clause-due : goal.returns-in_err-matches-clause-due
 returns-in_err-matches-clause-due c =
-    let setting = unicode_setting c.args.pattern.flags in
+    let dialect = c.args.pattern.dialect in
+    let setting = setting_in dialect c.args.pattern.flags in
     let source = c.args.pattern.text.now in
     let error = c.in_err-matches.field-0.0 in
-    passed_on (MayFailToFind setting source) c.from_residual-in_err-matches.result (search_failure error) c.from_residual-in_err-matches.ensures.1
-    (costly_find c.in_ok-regex.regex c.args.text.now setting source c.in_ok-regex.ensures.own error c.in_err-matches.ensures.linear c.in_err-matches.ensures.costs)
+    passed_on (MayFailToFind dialect setting source) c.from_residual-in_err-matches.result (search_failure error) c.from_residual-in_err-matches.ensures.1
+    (costly_find c.in_ok-regex.regex c.args.text.now dialect setting source c.in_ok-regex.ensures.own error
+    c.in_err-matches.ensures.linear c.in_err-matches.ensures.costs)

@@ -1,4 +1,5 @@
 use Rattle.std.proofs.Common.{◌∙◌, ap, length, sym}
+use Rattle.regress_front.specs.Dialects.{flags_in_force}
 use Rattle.regress_spans.specs.Remarks.{said_by}
 use Rattle.regress_tree.specs.Tree.{tree}
 use Rattle.regress_unicode.specs.TableOf.{table_of}
@@ -7,8 +8,10 @@ use Rattle.regex_command.proofs.linting.print_lint.Goals as goal
 
 pub returns-in-Ok-clause-reported : goal.returns-in-Ok-clause-reported
 returns-in-Ok-clause-reported g c =
+    let pattern = c.args.pattern in
     let parsed = c.in-Ok.parsed in
-    reports c.args.pattern.flags c.deref.result.now c.args.pattern.text.now (table_of c.in_ok-tables.tables) (c.deref.ensures.value ∙ c.in_ok-points.ensures.characters)
+    reports pattern.dialect (flags_in_force pattern.dialect pattern.flags) c.deref.result.now pattern.text.now (table_of c.in_ok-tables.tables)
+    (c.deref.ensures.value ∙ c.in_ok-points.ensures.characters)
     c.in_ok-tables.ensures (said_by c.in_ok-remarks-in-Ok.remarks.items) (said_by c.deref-in-Ok-3.result.now) parsed.regex.flags (tree parsed.regex.node) parsed.spans.items c.print_remarks.result
     (g.W.Write.contents c.args.out.now) (g.W.Write.contents c.print_remarks.new.out)
     (rw c.deref.ensures.value (rw c.deref-in-Ok.ensures.value at c.in_ok-remarks-in-Ok.ensures))
@@ -19,6 +22,8 @@ returns-in-Ok-clause-reported g c =
 
 pub returns-clause-due : goal.returns-clause-due
 returns-clause-due g c =
-    lint_under_unicode c.args.pattern.flags c.deref.result.now _ (table_of c.in_ok-tables.tables) (c.deref.ensures.value ∙ c.in_ok-points.ensures.characters)
+    let pattern = c.args.pattern in
+    let flags = flags_in_force pattern.dialect pattern.flags in
+    lint_under_unicode pattern.dialect flags c.deref.result.now _ (table_of c.in_ok-tables.tables) (c.deref.ensures.value ∙ c.in_ok-points.ensures.characters)
     c.in_ok-tables.ensures c.rejection.result
-    (c.rejection.ensures (record { flags = c.args.pattern.flags; table = table_of c.in_ok-tables.tables }) c.deref.result.now c.in-Err.ensures.rejected)
+    (c.rejection.ensures pattern.dialect (record { flags = flags; table = table_of c.in_ok-tables.tables }) c.deref.result.now c.in-Err.ensures.rejected)

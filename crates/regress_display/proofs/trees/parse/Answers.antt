@@ -7,12 +7,12 @@ pub returns-clause-parsed : goal.returns-clause-parsed
 returns-clause-parsed c =
     let request = c.args.request.now in
     let found = c.parse_with in
-    parsed_asked (shows_spans request.format request.stage) request.flags c.args.points.now found.result request.small
+    parsed_asked (shows_spans request.format request.stage) request.dialect request.flags c.args.points.now found.result request.small
     (table_of c.in_ok-tables.tables) c.in_ok-tables.ensures found.ensures.parsed
 
 pub returns-clause-rejected : goal.returns-clause-rejected
 returns-clause-rejected c =
     let request = c.args.request.now in
     let found = c.parse_with in
-    rejected_asked (shows_spans request.format request.stage) request.flags c.args.points.now found.result request.small
+    rejected_asked (shows_spans request.format request.stage) request.dialect request.flags c.args.points.now found.result request.small
     (table_of c.in_ok-tables.tables) c.in_ok-tables.ensures found.ensures.rejected
