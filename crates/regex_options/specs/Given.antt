@@ -29,7 +29,7 @@ no_options = record {
   help = false;
   version = false;
   flags = no_flags;
-  dialect = Regress;
+  dialect = Ecma;
   form = record { fixed = false; lines = false; words = false };
   selection = record { invert = false; file_names = IfSeveral; null = false; numbers = false; shown = Lines; max_count = None; paints = false };
   multiline = false;

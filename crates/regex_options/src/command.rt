@@ -199,12 +199,12 @@ examples:
     CommandEntry {
         command: Command::Pattern(Operation::Lint),
         name: "lint",
-        summary: "  lint     reports what in PATTERN may differ from ECMA-262, or be a mistake\n",
+        summary: "  lint     reports what in PATTERN may be a mistake\n",
         usage: "\
 usage: regex lint [OPTION..] PATTERN
 
-Writes where PATTERN may match otherwise than in ECMA-262, and what in it may
-be a mistake, and why. With --dialect=ecma it writes only the latter.
+Writes what in PATTERN may be a mistake, and why. With --dialect=regress it
+writes before that where PATTERN may match otherwise than in ECMA-262.
 
 ",
         examples: "\

@@ -59,7 +59,7 @@ pub(crate) fn nothing_given() -> Given<'static>
             help: false,
             version: false,
             flags: Flags::default(),
-            dialect: Dialect::Regress,
+            dialect: Dialect::Ecma,
             form: PatternForm {
                 fixed: false,
                 lines: false,

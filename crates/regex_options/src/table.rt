@@ -306,7 +306,7 @@ pub const OPTIONS: [OptionEntry; 32] = [
             kind: "NAME (regress or ecma)",
         }),
         scope: OF_PATTERNS,
-        line: "      --dialect NAME        the dialect of PATTERN: regress, or ecma, in which\n                            less differs from JavaScript; regress by default\n",
+        line: "      --dialect NAME        the dialect of PATTERN: ecma, the language of\n                            JavaScript, or regress; ecma by default\n",
     },
     OptionEntry {
         short: Some("-F"),
