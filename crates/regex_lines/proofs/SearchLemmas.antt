@@ -17,7 +17,7 @@ use Rattle.regex_lines.specs.declared.reading.Next.{Next}
 use Rattle.regex_lines.specs.declared.reading.Next.TheVariants.{Line, LastLine, End}
 use Rattle.regex_lines.proofs.FoldLemmas.{stays}
 use Rattle.regex_lines.proofs.LineLemmas.{HasRead, begins, goes_on as goes_on_reading, ended, ended_by_last, stopped}
-use Rattle.regex_lines.proofs.WindowLemmas.{IsAt, Next, next_line, starts}
+use Rattle.regex_lines.proofs.WindowLemmas.{IsAt, Further, next_line, starts}
 
 appends_nothing : (known : Option (List ℕ)) → Appends known known []
 appends_nothing None = tt
@@ -79,7 +79,7 @@ module _ (r : Regex) (job : Job) (place : Named) (old before : Option (List ℕ)
 
   module _ (now between after : Option (List ℕ)) (w : Window) (sofar : SoFar now between w) (line : TextLine) (new : Window)
       (goes_on : is_over job w.selected w.due ≡ false) (took : Took between after (IsNextLine r job place w line new)) where
-    further : Next r job place sofar.progress line new took.0
+    further : Further r job place sofar.progress line new took.0
     further = next_line r job place w sofar.progress sofar.at line new took.0 took.1
 
     step : IsStep r job place sofar.progress line further.next

@@ -1,10 +1,14 @@
 -- The window has the last lines that are hidden.
-use Rattle.std.proofs.Common.{◌≡◌, ◌∙◌, inl, inr, ℕ, ◌+◌, ◌-◌, ◌≤◌, ◌<◌, Bool, true, false, cond, eqb, ltb, List, [], ◌∷◌, ◌++◌, length, drop, append_assoc, append-nil, arith, length-append, length-drop, ap, refl, sym, subst}
+use Rattle.std.proofs.Common.{◌≡◌, ◌∙◌, inl, inr, ℕ, ◌+◌, ◌-◌, ◌≤◌, ◌<◌, Bool, true, false, cond, eqb, ltb, List, [], ◌∷◌, ◌++◌, length, drop, append_assoc, append-nil, arith, get_or, length-append, length-drop, map, take, ap, refl, sym, subst}
 use Rattle.std.proofs.lemmas.Bool.Decides.{nat_tests}
-use Rattle.std.proofs.lemmas.List.{drop-append-le, drop-drop}
+use Rattle.std.specs.List.{FoldsTo}
+use Rattle.std.specs.Prelude.{Vec}
+use Rattle.std.specs.declared.alloc.Global.{Global}
+use Rattle.std.proofs.lemmas.List.{drop-append-le, drop-drop, length-map, take_all}
 use Rattle.regex_options.specs.Plain.{Job}
 use Rattle.regress.specs.declared.pattern.Regex.{Regex}
-use Rattle.regex_lines.specs.Searched.{AreNear, IsFound, IsNear, IsSearchedLine, Line, Named, Progress, at_start, context_of, is_apart, is_enough, last_of, lines_after, lines_before, separator}
+use Rattle.regex_lines.specs.Searched.{AreNear, IsFound, IsNear, IsNearStep, IsSearchedLine, Line, Named, Progress, at_start, context_of, is_apart, is_enough, last_of, lines_after, lines_before, separator}
+use Rattle.regex_lines.proofs.FoldLemmas.{one_further}
 use Rattle.regex_lines.specs.Window.{IsCounted, IsNextLine, IsOther, IsShown, Window, first_window, separator_of, with_after, with_hidden, with_selected}
 
 -- the last lines of those after the first ones
@@ -22,6 +26,9 @@ last_one_more n lines line =
 
 pub last_short : (n : ℕ) (lines : List (List ℕ)) → length (last_of n lines) ≤ n
 last_short n lines = omega (arith, length-drop (length lines - n) lines)
+
+pub short_items : (lines : List (Vec ℕ Global)) (n : ℕ) → length (map (λ line. line.items) lines) ≤ n → length lines ≤ n
+short_items lines n short = omega (arith, short, length-map lines (λ (line : Vec ℕ Global). line.items))
 
 none_of : (n : ℕ) → last_of n [] ≡ []
 none_of n = by (0 - n) (omega arith)
@@ -52,7 +59,7 @@ module _ (r : Regex) (job : Job) (place : Named) where
   }
 
   -- the next line, where the search goes on
-  pub record Next (p : Progress) (line : Line) (w : Window) (added : List ℕ) : Type 0 where
+  pub record Further (p : Progress) (line : Line) (w : Window) (added : List ℕ) : Type 0 where
     pub next : Progress
     pub searched : IsSearchedLine r job place p line next
     pub at : IsAt w next
@@ -83,8 +90,8 @@ module _ (r : Regex) (job : Job) (place : Named) where
           (subst (λ n. IsFound r job place (is_enough job w.selected) (n + 1) line selected bytes) (sym is.number) found)
 
       if_selected : (bytes : List ℕ) → IsFound r job place (is_enough job w.selected) (w.number + 1) line true bytes → IsShown r job place true w line.bytes bytes new added →
-          Next p line new added
-      if_selected bytes found (front, (before, near, front_is), added_is, new_is) =
+          Further p line new added
+      if_selected bytes found ((front, (before, near, front_is), added_is), new_is) =
           let apart = separator_of job place w in
           let q : Progress = record {
             lines = p.lines + 1;
@@ -121,7 +128,7 @@ module _ (r : Regex) (job : Job) (place : Named) where
           }
 
       if_other : (bytes : List ℕ) → IsFound r job place (is_enough job w.selected) (w.number + 1) line false bytes → IsOther r job place w line.bytes new added →
-          Next p line new added
+          Further p line new added
       if_other bytes found (inl (due, near, new_is)) =
           let q : Progress = record p { lines = p.lines + 1; due = p.due - 1; written = p.written ++ added } in
           record {
@@ -130,7 +137,7 @@ module _ (r : Regex) (job : Job) (place : Named) where
               selected = false;
               bytes = bytes;
               found = found_at false bytes found;
-              shown = inl (omega (arith, due, is.due), added, subst (λ n. IsNear r job place (n + 1) line.bytes added) (sym is.number) near, refl);
+              shown = inl (omega (arith, due, is.due), (added, subst (λ n. IsNear r job place (n + 1) line.bytes added) (sym is.number) near, refl));
             };
             at = subst (λ w. IsAt w q) (sym new_is) (record {
               number = ap (λ n. n + 1) is.number;
@@ -171,9 +178,42 @@ module _ (r : Regex) (job : Job) (place : Named) where
           more_left_out n few all more few_is more_is = grind (arith, nat_tests)
 
       either : (selected : Bool) (bytes : List ℕ) → IsFound r job place (is_enough job w.selected) (w.number + 1) line selected bytes →
-          IsShown r job place selected w line.bytes bytes new added → Next p line new added
+          IsShown r job place selected w line.bytes bytes new added → Further p line new added
       either true bytes found shown = if_selected bytes found shown
       either false bytes found shown = if_other bytes found shown
 
-      pub next_line : IsNextLine r job place w line new added → Next p line new added
+      pub next_line : IsNextLine r job place w line new added → Further p line new added
       next_line next = either next.selected next.bytes next.found next.shown
+
+-- what is written for the lines in the window, one after another
+module _ (r : Regex) (job : Job) (place : Named) {B : Type 0} (f : B → List ℕ) (lines : List B) (base : ℕ) (old : List ℕ) where
+  -- what was added for the first i lines
+  pub record Added (i number : ℕ) (to : List ℕ) : Type 0 where
+    pub number_is : number ≡ base + i
+    pub bytes : List ℕ
+    pub steps : FoldsTo (IsNearStep r job place) (base + 1, []) (map f (take i lines)) (number + 1, bytes)
+    pub is : to ≡ old ++ bytes
+
+  pub none_added : Added 0 base old
+  none_added = record { number_is = omega arith; bytes = []; steps = refl; is = sym (append-nil old) }
+
+  pub one_added : (i number : ℕ) (before : List ℕ) → Added i number before → (x : B) (bytes to : List ℕ) → i < length lines →
+      IsNear r job place (number + 1) (f (get_or lines i x)) bytes → to ≡ before ++ bytes → Added (i + 1) (number + 1) to
+  one_added i number before added x bytes to within near is = record {
+    number_is = omega (arith, added.number_is);
+    bytes = added.bytes ++ bytes;
+    steps =
+        one_further (IsNearStep r job place) f lines i (base + 1, []) (number + 1, added.bytes) added.steps x (number + 1 + 1, added.bytes ++ bytes) within
+        (bytes, near, refl);
+    is = is ∙ ap (λ before. before ++ bytes) added.is ∙ append_assoc old added.bytes bytes;
+  }
+
+  pub all_added : (i number : ℕ) (to : List ℕ) → Added i number to → length lines ≤ i → i ≤ length lines →
+      (before : List ℕ) × AreNear r job place (base + 1) (map f lines) before × (to ≡ old ++ before)
+  all_added i number to added over within = (
+    added.bytes,
+    subst (λ n. FoldsTo (IsNearStep r job place) (base + 1, []) (map f lines) (n, added.bytes))
+        (let end : number + 1 ≡ base + 1 + length (map f lines) = omega (arith, added.number_is, over, within, length-map lines f) in end)
+        (subst (λ some. FoldsTo (IsNearStep r job place) (base + 1, []) (map f some) (number + 1, added.bytes)) (take_all i lines over) added.steps),
+    added.is,
+  )

@@ -1,5 +1,5 @@
 //! Searches the lines of an input.
-ghost use Rattle.std.specs.Prelude.{◌≡◌, ℕ, ◌+◌, ◌-◌, ◌<◌, ◌≤◌, List, [], ◌++◌, IfOk, IfErr, OnOk, length, map, string_bytes, true};
+ghost use Rattle.std.specs.Prelude.{◌≡◌, ℕ, ◌+◌, ◌-◌, ◌<◌, ◌≤◌, List, [], ◌++◌, IfOk, IfErr, OnOk, false, length, map, string_bytes, true};
 ghost use Rattle.std.specs.Io.KnownBytes.{Appends};
 ghost use Rattle.regex_lines.specs.Reply.{IsReply};
 ghost use Rattle.regex_lines.specs.Reading.{IsRead};

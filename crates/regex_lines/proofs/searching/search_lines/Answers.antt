@@ -1,12 +1,12 @@
-use Rattle.std.proofs.Common.{◌≡◌, ◌∙◌, inr, ap, sym, subst, length, arith, omega}
-use Rattle.regex_lines.specs.Ending.{IsCostly, IsInputFailure, IsLate, OrOutput}
+use Rattle.std.proofs.Common.{◌≡◌, ◌∙◌, inr, ap, sym, subst}
+use Rattle.regex_lines.specs.Ending.{IsCostly, IsInputFailure, OrOutput}
 use Rattle.regex_lines.specs.Reading.{IsRead, is_ended}
 use Rattle.regex_lines.specs.Searched.{SearchesFirst, named}
 use Rattle.regex_lines.specs.Window.{window_of}
 use Rattle.regex_lines.specs.declared.reading.Next.TheVariants.{Line, LastLine}
 use Rattle.regex_options.specs.Plain.{job}
 use Rattle.regex_lines.proofs.SearchLemmas.{all, another, enough, first, first_or_output, is_end, last, last_of, line_of, none_yet}
-use Rattle.regex_lines.proofs.WindowLemmas.{counted, short}
+use Rattle.regex_lines.proofs.WindowLemmas.{counted, short, short_items}
 use Rattle.regex_lines.proofs.lemmas.Failures.{costly_input, or_output, passed_on}
 use Rattle.regex_lines.proofs.searching.search_lines.Goals as goal
 
@@ -55,7 +55,8 @@ search_line-requires-clause-counted g c =
 
 pub search_line-requires-clause-kept : goal.search_line-requires-clause-kept
 search_line-requires-clause-kept g c =
-    short c.args.search.searcher.now.regex.now (job c.args.search.task) (named c.args.search.place) (window_of c.loop-window.window) c.loop-window.invariant.progress c.loop-window.invariant.at
+    short_items c.loop-window.window.hidden.items _
+    (short c.args.search.searcher.now.regex.now (job c.args.search.task) (named c.args.search.place) (window_of c.loop-window.window) c.loop-window.invariant.progress c.loop-window.invariant.at)
 
 pub returns-then-is_last-clause-all : goal.returns-then-is_last-clause-all
 returns-then-is_last-clause-all g c =
