@@ -2,8 +2,8 @@
 ghost use Rattle.std.specs.Prelude.{◌≡◌, ◌↔◌, ◌++◌, ℕ, List, All, IfErr, IfOk, IsTrue, OnOk, false, flat_map, if◌then◌else◌, length, map, not, true};
 ghost use Rattle.regex_options.specs.Plain.{job};
 ghost use Rattle.regex_lines.specs.Ending.{IsCostly, IsSearchError};
-ghost use Rattle.regex_lines.specs.InLine.{AreInLine, AreInText, HasMatch, needs_matches, plain, shown_by};
-ghost use Rattle.regex_lines.specs.Near.{ShowsNear, ShowsNearBy};
+ghost use Rattle.regex_lines.specs.InLine.{AreInLine, AreInText, HasMatch, needs_matches, shown_by};
+ghost use Rattle.regex_lines.specs.Near.{ShowsNear, ShowsNearBy, plain};
 ghost use Rattle.regex_lines.specs.Reply.{painted_if, IsReplacedFrom, IsReply, IsReplyIn, IsSelected, MatchesIn, Shows, ShowsIf, ShowsReplaced, ended, feed_if, matches_shown, AreSearched, matches_of, run_of, texts_of, utf8_runs, whole};
 ghost use Rattle.regex_lines.specs.Prefix.{text_of};
 
