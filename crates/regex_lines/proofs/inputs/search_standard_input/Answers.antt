@@ -1,4 +1,4 @@
-use Rattle.std.proofs.Common.{◌∙◌, ap, map, subst, sym}
+use Rattle.std.proofs.Common.{◌∙◌, ap, false, map, subst, sym}
 use Rattle.std.specs.Prelude.{[], codes, IfErr, IfOk}
 use Rattle.regex_lines.specs.Ending.{OrOutput}
 use Rattle.regex_lines.specs.Searched.{AddsInput, SearchesFirst, following, inputs_of, place_of}
