@@ -12,7 +12,8 @@ use Rattle.regress.specs.Compiled.{outcomes_of, match_of}
 use Rattle.regress.specs.declared.pattern.Regex.{Regex}
 use Rattle.regex_options.specs.declared.task.Shown.{Shown}
 use Rattle.regex_options.specs.declared.task.Shown.TheVariants.{Lines, Matches, Json, Count, Names, Nothing}
-use Rattle.regex_lines.specs.InLine.{AreInLine, AreInText, HasMatch, HasOffsets, needs_matches, plain, shown_by}
+use Rattle.regex_lines.specs.InLine.{AreInLine, AreInText, HasMatch, HasOffsets, needs_matches, shown_by}
+use Rattle.regex_lines.specs.Near.{plain}
 use Rattle.regex_lines.specs.Reply.{MatchesIn, Shows, AreSearched, Run, TextMatches, matches_of, run_of}
 use Rattle.regex_lines.specs.declared.runs.Run as code
 use Rattle.regex_lines.specs.declared.runs.TextMatches as code_matches

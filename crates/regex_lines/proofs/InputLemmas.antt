@@ -10,7 +10,7 @@ use Rattle.std.proofs.lemmas.List.{drop-drop, get_or-drop, get_or-map, length-dr
 use Rattle.regress_arguments.proofs.lemmas.Output.{appends_both}
 use Rattle.regex_lines.proofs.FoldLemmas.{stays}
 use Rattle.regress.specs.declared.pattern.Regex.{Regex}
-use Rattle.regex_lines.specs.Searched.{AddsInput, Input, IsInputStep, IsSearchedInput, IsUnreadInput, Result, WritesInputs, WritesSomeOf, bytes_of, has_ended, inputs_of, left_after, named_inputs, nothing, place_of, Named, SearchesFirst}
+use Rattle.regex_lines.specs.Searched.{AddsInput, Input, IsInputStep, IsSearchedInput, IsUnreadInput, Result, WritesInputs, WritesSomeOf, bytes_of, following, has_ended, inputs_of, left_after, named_inputs, nothing, place_of, Named, SearchesFirst}
 use Rattle.regex_lines.specs.Unread.{Unread}
 use Rattle.regex_options.specs.Plain.{Job}
 
@@ -63,7 +63,7 @@ module _ (r : Regex) (job : Job) (inputs : List Input) (before : Option (List �
             searched = λ _. is;
           }))
 
-      pub one_more : has_ended job any ≡ false → (is : Bool) (more : List Unread) → AddsInput r job input.0 input.1 between after unread more is →
+      pub one_more : has_ended job any ≡ false → (is : Bool) (more : List Unread) → AddsInput r job (following any input.0) input.1 between after unread more is →
           FirstInputs (i + 1) (any || is) more after
       one_more goes_on is more (inl read) =
           let took = read.0 in
@@ -91,7 +91,7 @@ module _ (r : Regex) (job : Job) (inputs : List Input) (before : Option (List �
         written = appends_both before between after sofar.bytes first.0.written sofar.written first.2;
       }
 
-      pub some_of : SearchesFirst r job input.0 input.1 between after → WritesSomeOf r job inputs before after unread
+      pub some_of : SearchesFirst r job (following any input.0) input.1 between after → WritesSomeOf r job inputs before after unread
       some_of first = (
         sofar.bytes ++ first.0.written,
         record {
@@ -181,12 +181,12 @@ module _ (r : Regex) (job : Job) (place : Named) (input before after : Option (L
   alone = (place, input) ∷ []
 
   -- one input, searched to its end or not
-  pub one_all : has_ended job false ≡ false → (is : Bool) (unread : List Unread) → AddsInput r job place input before after [] unread is →
+  pub one_all : has_ended job false ≡ false → (is : Bool) (unread : List Unread) → AddsInput r job (following false place) input before after [] unread is →
       WritesInputs r job alone before after unread is
   one_all goes_on is unread adds =
       finished r job alone before 1 is unread after
       (one_more r job alone before 0 false [] before (none_yet r job alone before) (place, input) (omega arith) refl after goes_on is unread adds) (omega arith)
 
   -- the first lines of one input
-  pub one_first : SearchesFirst r job place input before after → WritesSomeOf r job alone before after []
+  pub one_first : SearchesFirst r job (following false place) input before after → WritesSomeOf r job alone before after []
   one_first = some_of r job alone before 0 false [] before (none_yet r job alone before) (place, input) (omega arith) refl after

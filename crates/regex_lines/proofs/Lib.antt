@@ -11,4 +11,5 @@ mod SearchLemmas
 mod SearcherLemmas
 mod SkipLemmas
 mod SomewhereLemmas
+mod WindowLemmas
 pub mod lemmas

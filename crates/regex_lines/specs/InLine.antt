@@ -37,16 +37,7 @@ needs_matches Count paints = false
 needs_matches Names paints = false
 needs_matches Nothing paints = false
 
--- what is written for a selected line for which its matches are not needed
-abbrev pub plain : (line : List ℕ) → Shown → (prefix : List ℕ) → List ℕ
-plain line Lines prefix = prefix ++ ended line
-plain line Matches prefix = []
-plain line Json prefix = []
-plain line Count prefix = []
-plain line Names prefix = []
-plain line Nothing prefix = []
-
--- what is written for one for which they are
+-- what is written for a selected line for which all its matches are needed
 abbrev pub shown_by : Regex → (line : List ℕ) → Shown → (paints : Bool) → (prefix : List ℕ) → List TextMatches → List ℕ
 shown_by r line Lines paints prefix found = prefix ++ ended (painted_line line 0 found)
 shown_by r line Matches paints prefix found = flat_map (matches_shown paints prefix) found

@@ -1,8 +1,10 @@
 pub mod Ending
 pub mod InLine
 pub mod Left
+pub mod Near
 pub mod Prefix
 pub mod Reading
 pub mod Reply
 pub mod Searched
 pub mod Unread
+pub mod Window

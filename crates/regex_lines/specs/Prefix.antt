@@ -5,4 +5,4 @@ use Rattle.regex_lines.specs.declared.prefix.Prefix.{Prefix}
 use Rattle.regex_options.specs.Plain.{job}
 
 abbrev pub text_of : Prefix → List ℕ
-text_of prefix = prefix_of (job prefix.task) (named prefix.place) prefix.number
+text_of prefix = prefix_of prefix.near (job prefix.task) (named prefix.place) prefix.number

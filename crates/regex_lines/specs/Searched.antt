@@ -1,26 +1,29 @@
 -- What is written for an input, and for all inputs.
-use Rattle.std.specs.Prelude.{ℕ, Bool, List, ◌≡◌, ◌-◌, true, false, [], ◌∷◌, ◌++◌, length, take, slice_index, if◌then◌else◌, ◌==◌, Option, IfSome, ◌⊎◌, ◌+◌, ◌&&◌, ◌||◌, Some, None, bytes_eq, codes, nat_le, nat_lt}
+use Rattle.std.specs.Prelude.{ℕ, Bool, List, ◌≡◌, ◌-◌, true, false, [], ◌∷◌, ◌++◌, length, take, drop, slice_index, if◌then◌else◌, ◌==◌, Option, IfSome, ◌⊎◌, ◌+◌, ◌<◌, ◌&&◌, ◌||◌, Some, None, bytes_eq, codes, nat_le, nat_lt}
 use Rattle.std.specs.List.{FoldsTo}
 use Rattle.std.specs.Fmt.{decimal}
 use Rattle.std.specs.Io.KnownBytes.{Appends}
 use Rattle.regex_options.specs.Plain.{Job, matching, replacing}
+use Rattle.regex_options.specs.declared.task.Context.{Context}
 use Rattle.regex_options.specs.declared.task.FileNames.TheVariants.{IfSeveral, Always, Never}
 use Rattle.regex_options.specs.declared.task.FileNames.{FileNames}
 use Rattle.regex_options.specs.declared.task.Shown.TheVariants.{Lines, Matches, Json, Count, Names, Nothing}
 use Rattle.regex_options.specs.declared.task.Shown.{Shown}
 use Rattle.regress.specs.declared.pattern.Regex.{Regex}
 use Rattle.regress_arguments.specs.Output.{Took}
+use Rattle.regex_lines.specs.Near.{ShowsNear}
 use Rattle.regex_lines.specs.Reply.{IsReply, ended, json_prefix}
 use Rattle.regex_lines.specs.Unread.{IsAdded, Unread}
 use Rattle.regex_lines.specs.declared.place.Place.{Place}
 
--- the name of an input, whether it is shown in front of each line, whether a zero byte is after it, and whether the input is
--- one line
+-- the name of an input, whether it is shown in front of each line, whether a zero byte is after it, whether the input is one
+-- line, and whether a line of an earlier input is selected
 pub record Named : Type 0 where
   pub name : List ℕ
   pub in_front : Bool
   pub null : Bool
   pub multiline : Bool
+  pub follows : Bool
 
 -- `-` is standard input.
 abbrev pub is_standard : (file : List ℕ) → Bool
@@ -32,7 +35,13 @@ input_name file = if is_standard file then codes "(standard input)" else file
 
 -- the same as the code represents it
 abbrev pub named : Place → Named
-named place = record { name = input_name place.file.now; in_front = place.in_front; null = place.null; multiline = place.multiline }
+named place = record {
+  name = input_name place.file.now;
+  in_front = place.in_front;
+  null = place.null;
+  multiline = place.multiline;
+  follows = place.follows;
+}
 
 -- the bytes end with a line feed
 abbrev pub has_line_feed : List ℕ → Bool
@@ -75,18 +84,17 @@ pub record AreLinesOf (multiline : Bool) (input : Option (List ℕ)) (ended : Bo
   pub whole : split_text multiline text ≡ lines ++ others
   pub all : ended ≡ true → others ≡ []
 
--- how far an input is searched: the number of lines, the number of selected lines, and what was written for them
+-- how far an input is searched: the number of lines, the number of selected lines, how many of the next lines are shown after
+-- the last selected one, the lines since the last one that is shown, and what was written
 pub record Progress : Type 0 where
   pub lines : ℕ
   pub selected : ℕ
+  pub due : ℕ
+  pub hidden : List (List ℕ)
   pub written : List ℕ
 
 abbrev pub at_start : Progress
-at_start = record { lines = 0; selected = 0; written = [] }
-
--- 1 if the test holds
-abbrev pub one_if : Bool → ℕ
-one_if b = if b then 1 else 0
+at_start = record { lines = 0; selected = 0; due = 0; hidden = []; written = [] }
 
 -- the number is not below the limit, if there is one
 abbrev pub reaches : (limit : Option ℕ) → ℕ → Bool
@@ -103,8 +111,12 @@ abbrev pub name_with : Named → (after : List ℕ) → List ℕ
 name_with place after = place.name ++ (if place.null then 0 ∷ [] else after)
 
 -- the name of the input and what is after it, if it is shown in front
-abbrev pub name_of : Named → List ℕ
-name_of place = if place.in_front then name_with place (codes ":") else []
+abbrev pub name_of : (mark : List ℕ) → Named → List ℕ
+name_of mark place = if place.in_front then name_with place mark else []
+
+-- what is after the name of an input and the number of a line, which may be near a selected one
+abbrev pub mark_of : (near : Bool) → List ℕ
+mark_of near = if near then codes "-" else codes ":"
 
 -- what is shown does not depend on lines after the first selected one
 abbrev pub needs_one : Shown → Bool
@@ -134,19 +146,19 @@ shows_json (matching s) = is_json s.shown
 shows_json (replacing template) = false
 
 -- what is in front of a line as text: the name of the input and the number of the line, if they are shown
-abbrev pub text_prefix : Job → Named → (number : ℕ) → List ℕ
-text_prefix job place number = name_of place ++ (if has_numbers job then decimal number ++ codes ":" else [])
+abbrev pub text_prefix : (mark : List ℕ) → Job → Named → (number : ℕ) → List ℕ
+text_prefix mark job place number = name_of mark place ++ (if has_numbers job then decimal number ++ mark else [])
 
--- what is in front of what is shown of the line with this number
-abbrev pub prefix_of : Job → Named → (number : ℕ) → List ℕ
-prefix_of job place number = if shows_json job then json_prefix place.name number else text_prefix job place number
+-- what is in front of what is shown of the line with this number, which may be near a selected one
+abbrev pub prefix_of : (near : Bool) → Job → Named → (number : ℕ) → List ℕ
+prefix_of near job place number = if shows_json job then json_prefix place.name number else text_prefix (mark_of near) job place number
 
 -- what is written at the end of an input for the number of selected lines
 abbrev pub shown_at_end : Shown → Named → (selected : ℕ) → List ℕ
 shown_at_end Lines place selected = []
 shown_at_end Matches place selected = []
 shown_at_end Json place selected = []
-shown_at_end Count place selected = name_of place ++ ended (decimal selected)
+shown_at_end Count place selected = name_of (codes ":") place ++ ended (decimal selected)
 shown_at_end Names place selected = if nat_lt 0 selected then name_with place (codes "\n") else []
 shown_at_end Nothing place selected = []
 
@@ -155,18 +167,92 @@ abbrev pub written_at_end : Job → Named → (selected : ℕ) → List ℕ
 written_at_end (matching s) place selected = shown_at_end s.shown place selected
 written_at_end (replacing template) place selected = []
 
-module _ (r : Regex) (job : Job) where
-  -- One line further, and it is searched.
-  pub record IsSearchedLine (place : Named) (p : Progress) (line : Line) (q : Progress) : Type 0 where
+-- how many lines around selected ones are shown
+abbrev pub context_of : Job → Option Context
+context_of (matching s) = s.context
+context_of (replacing template) = None
+
+abbrev pub lines_before : Option Context → ℕ
+lines_before None = 0
+lines_before (Some context) = context.before
+
+abbrev pub lines_after : Option Context → ℕ
+lines_after None = 0
+lines_after (Some context) = context.after
+
+-- the last lines, at most this many
+abbrev pub last_of : (count : ℕ) → List (List ℕ) → List (List ℕ)
+last_of count lines = drop (length lines - count) lines
+
+-- the line between lines that are not adjacent, if lines around selected ones are shown
+abbrev pub separator : Option Context → List ℕ
+separator None = []
+separator (Some context) = codes "--\n"
+
+-- Lines are left out between those that are shown so far, also of earlier inputs, and those before the next selected one.
+abbrev pub is_apart : Job → Named → Progress → Bool
+is_apart job place p = if p.selected == 0 then place.follows else nat_lt (lines_before (context_of job)) (length p.hidden)
+
+-- enough lines are selected, and those after the last of them are shown
+abbrev pub is_over : Job → (selected due : ℕ) → Bool
+is_over job selected due = is_enough job selected && (due == 0)
+
+module _ (r : Regex) (job : Job) (place : Named) where
+  -- what is written for a line with this number that is near a selected one
+  abbrev pub IsNear : (number : ℕ) → (line : List ℕ) → (bytes : List ℕ) → Type 0
+  IsNear number line bytes = ShowsNear r line job (prefix_of true job place number) bytes
+
+  -- one line further
+  abbrev pub IsNearStep : ℕ × List ℕ → (line : List ℕ) → ℕ × List ℕ → Type 0
+  IsNearStep before line after = (bytes : List ℕ) × IsNear before.0 line bytes × (after ≡ (before.0 + 1, before.1 ++ bytes))
+
+  -- what is written for lines near a selected one, where the first has this number
+  abbrev pub AreNear : (number : ℕ) → List (List ℕ) → (bytes : List ℕ) → Type 0
+  AreNear number lines bytes = FoldsTo IsNearStep (number, []) lines (number + length lines, bytes)
+
+  -- A line that is selected is shown after the last lines before it that are hidden so far.
+  pub record IsSelectedLine (p : Progress) (bytes : List ℕ) (q : Progress) : Type 0 where
+    pub before : List ℕ
+    pub near : let lines = last_of (lines_before (context_of job)) p.hidden in AreNear (p.lines + 1 - length lines) lines before
+    pub apart : List ℕ
+    pub apart_is : apart ≡ (if is_apart job place p then separator (context_of job) else [])
+    pub next : q ≡ record {
+      lines = p.lines + 1;
+      selected = p.selected + 1;
+      due = lines_after (context_of job);
+      hidden = [];
+      written = p.written ++ (apart ++ (before ++ bytes));
+    }
+
+  -- Another line is shown if it is one of those after a selected one.
+  abbrev pub IsOtherLine : Progress → (line : List ℕ) → Progress → Type 0
+  IsOtherLine p line q =
+      ((0 < p.due) × ((bytes : List ℕ) × IsNear (p.lines + 1) line bytes
+      × (q ≡ record p { lines = p.lines + 1; due = p.due - 1; written = p.written ++ bytes })))
+      ⊎ ((p.due ≡ 0) × (q ≡ record p { lines = p.lines + 1; hidden = p.hidden ++ line ∷ [] }))
+
+  -- Whether a line is selected, and what is written for it then: it is not once enough lines are.
+  abbrev pub IsFound : (enough : Bool) → (number : ℕ) → Line → (selected : Bool) → (bytes : List ℕ) → Type 0
+  IsFound true number line selected bytes = selected ≡ false
+  IsFound false number line selected bytes = IsReply r line.bytes line.ended job (prefix_of false job place number) selected bytes
+
+  -- One line further.
+  abbrev pub IsShownLine : (selected : Bool) → Progress → (line : List ℕ) → (bytes : List ℕ) → Progress → Type 0
+  IsShownLine true p line bytes q = IsSelectedLine p bytes q
+  IsShownLine false p line bytes q = IsOtherLine p line q
+
+  -- One line further, and it is searched unless enough lines are selected.
+  pub record IsSearchedLine (p : Progress) (line : Line) (q : Progress) : Type 0 where
     pub selected : Bool
     pub bytes : List ℕ
-    pub reply : IsReply r line.bytes line.ended job (prefix_of job place (p.lines + 1)) selected bytes
-    pub next : q ≡ record { lines = p.lines + 1; selected = p.selected + one_if selected; written = p.written ++ bytes }
+    pub found : IsFound (is_enough job p.selected) (p.lines + 1) line selected bytes
+    pub shown : IsShownLine selected p line.bytes bytes q
 
-  -- One line further: the line is passed over if enough lines are selected before it.
+module _ (r : Regex) (job : Job) where
+  -- One line further: the line is passed over if enough lines are selected before it, and those after them are shown.
   pub record IsStep (place : Named) (p : Progress) (line : Line) (q : Progress) : Type 0 where
-    pub passed : is_enough job p.selected ≡ true → q ≡ p
-    pub searched : is_enough job p.selected ≡ false → IsSearchedLine place p line q
+    pub passed : is_over job p.selected p.due ≡ true → q ≡ p
+    pub searched : is_over job p.selected p.due ≡ false → IsSearchedLine r job place p line q
 
   -- The lines of an input were searched in order: all of them, or the first ones.
   pub record IsSearched (place : Named) (input : Option (List ℕ)) (all : Bool) (p : Progress) : Type 0 where
@@ -224,8 +310,17 @@ has_nulls (replacing template) = false
 
 -- how an input is shown among this many files
 abbrev pub place_of : Job → (multiline : Bool) → (files : ℕ) → (file : List ℕ) → Named
-place_of job multiline files file =
-    record { name = input_name file; in_front = shows_names job files; null = has_nulls job; multiline = multiline }
+place_of job multiline files file = record {
+  name = input_name file;
+  in_front = shows_names job files;
+  null = has_nulls job;
+  multiline = multiline;
+  follows = false;
+}
+
+-- the same after other inputs, of which a line may be selected
+abbrev pub following : (any : Bool) → Named → Named
+following any place = record place { follows = any }
 
 -- the files, or standard input if there are none
 abbrev pub inputs_of : Job → (multiline : Bool) → (files : List (List ℕ)) → (input : Option (List ℕ)) → List Input
@@ -275,13 +370,13 @@ module _ (r : Regex) (job : Job) where
   pub record IsSearchedInput (before : Result) (input : Input) (after : Result) : Type 0 where
     pub any : Bool
     pub bytes : List ℕ
-    pub written : IsWritten input.0 input.1 any bytes
+    pub written : IsWritten (following before.any input.0) input.1 any bytes
     pub next : after ≡ record { any = before.any || any; unread = before.unread; written = before.written ++ bytes }
 
   -- One input further, and only its first lines are searched, as it cannot be read further.
   pub record IsUnreadInput (before : Result) (input : Input) (after : Result) : Type 0 where
     pub progress : Progress
-    pub searched : IsSearched r job input.0 input.1 false progress
+    pub searched : IsSearched r job (following before.any input.0) input.1 false progress
     pub unread : List Unread
     pub added : IsAdded input.0.name before.unread unread
     pub next : after ≡ record { any = before.any; unread = unread; written = before.written ++ progress.written }
@@ -297,9 +392,9 @@ module _ (r : Regex) (job : Job) where
       (bytes : List ℕ) × FoldsTo IsInputStep nothing inputs (record { any = any; unread = unread; written = bytes }) × Appends old new bytes
 
   -- what is written for the first lines of the first input, if there is one
-  abbrev pub IsBegun : List Input → (bytes : List ℕ) → Type 0
-  IsBegun [] bytes = bytes ≡ []
-  IsBegun (input ∷ others) bytes = (p : Progress) × IsSearched r job input.0 input.1 false p × (bytes ≡ p.written)
+  abbrev pub IsBegun : (any : Bool) → List Input → (bytes : List ℕ) → Type 0
+  IsBegun any [] bytes = bytes ≡ []
+  IsBegun any (input ∷ others) bytes = (p : Progress) × IsSearched r job (following any input.0) input.1 false p × (bytes ≡ p.written)
 
   -- what is written for the first inputs, of which these were not read, and the first lines of the next one
   pub record IsFirst (inputs : List Input) (unread : List Unread) (bytes : List ℕ) : Type 0 where
@@ -310,7 +405,7 @@ module _ (r : Regex) (job : Job) where
     pub steps : FoldsTo IsInputStep nothing before result
     pub unread_are : result.unread ≡ unread
     pub more : List ℕ
-    pub begun : IsBegun others more
+    pub begun : IsBegun result.any others more
     pub is : bytes ≡ result.written ++ more
 
   abbrev pub WritesSomeOf : List Input → (old new : Option (List ℕ)) → List Unread → Type 0

@@ -2,7 +2,7 @@
 ghost use Rattle.std.specs.Prelude.{◌≡◌, [], IfOk, IfErr, None, length, map, string_bytes};
 ghost use Rattle.regex_lines.specs.Ending.{IsCostly, IsInputFailure, IsSearchFailure, OrOutput};
 ghost use Rattle.regex_lines.specs.Left.{left_of};
-ghost use Rattle.regex_lines.specs.Searched.{AddsInput, WritesInput, WritesInputs, WritesSomeOf, bytes_of, has_nulls, has_ended, inputs_of, left_after, named_inputs, named, place_of, shows_names, SearchesFirst};
+ghost use Rattle.regex_lines.specs.Searched.{AddsInput, WritesInput, WritesInputs, WritesSomeOf, bytes_of, following, has_nulls, has_ended, inputs_of, left_after, named_inputs, named, place_of, shows_names, SearchesFirst};
 ghost use Rattle.regex_lines.specs.Unread.{IsSkipped, all_unread};
 ghost use Rattle.regex_options.specs.Plain.{job};
 
@@ -77,7 +77,7 @@ fn search_standard_input<'a, I: Read + Drop, W: Write>(
     let search = InputSearch {
         searcher,
         task: search.task,
-        place: place_of(search, STANDARD_INPUT),
+        place: place_of(search, STANDARD_INPUT, false),
         at_once: search.at_once,
     };
     search_input(search, input, out, unread)
@@ -108,7 +108,7 @@ fn search_files<'a, R: Files, I: Read + Drop, W: Write>(
         let search = InputSearch {
             searcher,
             task: search.task,
-            place: place_of(search, file.as_str()),
+            place: place_of(search, file.as_str(), any),
             at_once: search.at_once,
         };
         any |= search_next(rt, search, &mut left, out, unread)?;
@@ -116,9 +116,9 @@ fn search_files<'a, R: Files, I: Read + Drop, W: Write>(
     Ok(any)
 }
 
-/// Returns how an input is shown.
-fn place_of<'a>(search: Search<'a>, file: &'a str) -> Place<'a>
-    ensures shown { named result ≡ place_of (job search.entry.task) search.entry.multiline (length search.entry.files.now) file.now }
+/// Returns how an input is shown after others, of which a line may be selected.
+fn place_of<'a>(search: Search<'a>, file: &'a str, any: bool) -> Place<'a>
+    ensures shown { named result ≡ following any (place_of (job search.entry.task) search.entry.multiline (length search.entry.files.now) file.now) }
     ensures file { result.file.now ≡ file.now }
 {
     Place {
@@ -126,6 +126,7 @@ fn place_of<'a>(search: Search<'a>, file: &'a str) -> Place<'a>
         in_front: shows_names(search.task, search.files.len()),
         null: has_nulls(search.task),
         multiline: search.multiline,
+        follows: any,
     }
 }
 

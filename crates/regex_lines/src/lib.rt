@@ -14,6 +14,7 @@ mod runs;
 mod searcher;
 mod searching;
 mod unread;
+mod window;
 
 pub use failure::{Failure, read_failure, reject, report, report_unread, write_syntax_error};
 pub use inputs::{Searched, search_all};

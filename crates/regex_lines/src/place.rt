@@ -5,7 +5,8 @@ ghost use Rattle.regex_lines.specs.Searched.{is_standard};
 /// The name among files that denotes standard input.
 pub(crate) const STANDARD_INPUT: &str = "-";
 
-/// An input, whether its name is shown in front of each line, whether a zero byte is after it, and whether it is one line.
+/// An input, whether its name is shown in front of each line, whether a zero byte is after it, whether it is one line, and
+/// whether a line of an earlier input is selected.
 #[derive(Clone, Copy)]
 pub(crate) struct Place<'a> {
     /// The name of the file, or that of standard input.
@@ -13,6 +14,7 @@ pub(crate) struct Place<'a> {
     pub(crate) in_front: bool,
     pub(crate) null: bool,
     pub(crate) multiline: bool,
+    pub(crate) follows: bool,
 }
 
 impl<'a> Place<'a> {

@@ -2,7 +2,7 @@
 ghost use Rattle.std.specs.Prelude.{◌≡◌, IfOk, string_bytes};
 ghost use Rattle.regex_options.specs.Plain.{job};
 ghost use Rattle.regex_lines.specs.Reply.{json_prefix};
-ghost use Rattle.regex_lines.specs.Searched.{named, has_numbers, name_of, name_with, shows_json, text_prefix};
+ghost use Rattle.regex_lines.specs.Searched.{named, has_numbers, mark_of, name_of, name_with, shows_json, text_prefix};
 ghost use Rattle.regex_lines.specs.Prefix.{text_of};
 
 use crate::place::Place;
@@ -16,6 +16,8 @@ pub(crate) struct Prefix<'a> {
     pub(crate) task: Task<'a>,
     pub(crate) place: Place<'a>,
     pub(crate) number: u64,
+    /// Whether the line is near a selected one.
+    pub(crate) near: bool,
 }
 
 /// Returns the text of a prefix.
@@ -48,22 +50,34 @@ fn json_prefix(alloc: Global, name: &str, number: u64) -> Result<String, AllocEr
 
 /// Returns the name of an input and the number of a line, if they are shown in front.
 fn text_prefix(alloc: Global, prefix: Prefix<'_>) -> Result<String, AllocError>
-    ensures { IfOk result (λ text. string_bytes text ≡ text_prefix (job prefix.entry.task) (named prefix.entry.place) prefix.entry.number) }
+    ensures { IfOk result (λ text. string_bytes text ≡ text_prefix (mark_of prefix.entry.near) (job prefix.entry.task) (named prefix.entry.place) prefix.entry.number) }
 {
-    let mut text = name_in_front(alloc, prefix.place)?;
+    let mark = mark_of(prefix.near);
+    let mut text = name_in_front(alloc, prefix.place, mark)?;
     if has_numbers(prefix.task) {
         let number = prefix.number;
-        text.push_str(&format!(in alloc; "{number}:")?)?;
+        text.push_str(&format!(in alloc; "{number}{mark}")?)?;
     }
     Ok(text)
 }
 
-/// Returns the name of an input and what is after it, if it is shown in front.
-pub(crate) fn name_in_front(alloc: Global, place: Place<'_>) -> Result<String, AllocError>
-    ensures { IfOk result (λ text. string_bytes text ≡ name_of (named place.entry)) }
+/// Returns what is after the name of an input and the number of a line.
+fn mark_of(near: bool) -> &'static str
+    ensures { result.now ≡ mark_of near }
+{
+    if near { "-" } else { ":" }
+}
+
+/// Returns the name of an input and `mark` after it, if it is shown in front.
+pub(crate) fn name_in_front(
+    alloc: Global,
+    place: Place<'_>,
+    mark: &str,
+) -> Result<String, AllocError>
+    ensures { IfOk result (λ text. string_bytes text ≡ name_of mark.now (named place.entry)) }
 {
     if place.in_front {
-        name_with(alloc, place, ":")
+        name_with(alloc, place, mark)
     } else {
         Ok(String::new(alloc))
     }

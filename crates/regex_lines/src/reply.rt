@@ -2,14 +2,15 @@
 ghost use Rattle.std.specs.Prelude.{◌≡◌, ◌↔◌, ◌++◌, ℕ, List, All, IfErr, IfOk, IsTrue, OnOk, false, flat_map, if◌then◌else◌, length, map, not, true};
 ghost use Rattle.regex_options.specs.Plain.{job};
 ghost use Rattle.regex_lines.specs.Ending.{IsCostly, IsSearchError};
-ghost use Rattle.regex_lines.specs.InLine.{AreInLine, AreInText, HasMatch, needs_matches, plain, shown_by};
-ghost use Rattle.regex_lines.specs.Reply.{painted_if, IsReplacedFrom, IsReply, IsReplyIn, IsSelected, MatchesIn, ShowsIf, ShowsReplaced, ended, feed_if, matches_shown, AreSearched, matches_of, run_of, utf8_runs, whole};
+ghost use Rattle.regex_lines.specs.InLine.{AreInLine, AreInText, HasMatch, needs_matches, shown_by};
+ghost use Rattle.regex_lines.specs.Near.{ShowsNear, ShowsNearBy, plain};
+ghost use Rattle.regex_lines.specs.Reply.{painted_if, IsReplacedFrom, IsReply, IsReplyIn, IsSelected, MatchesIn, Shows, ShowsIf, ShowsReplaced, ended, feed_if, matches_shown, AreSearched, matches_of, run_of, texts_of, utf8_runs, whole};
 ghost use Rattle.regex_lines.specs.Prefix.{text_of};
 
 use crate::json::all_json;
 use crate::painting::{add_painted_if, painted_line};
 use crate::prefix::{Prefix, prefix_text};
-use crate::runs::{Run, TextMatches, utf8_runs};
+use crate::runs::{Run, TextMatches, texts_of, utf8_runs};
 use crate::searcher::Searcher;
 use regex_options::{Selection, Shown, Task};
 use regress::SearchError;
@@ -46,6 +47,54 @@ pub(crate) fn reply_to(
         Ok(text) => reply_to_text(searcher, prefix, text, ended),
         Err(_) => reply_to_runs(searcher, prefix, line, ended),
     }
+}
+
+/// Returns what is written for a line near a selected one.
+pub(crate) fn near(
+    searcher: &Searcher<'_>,
+    prefix: Prefix<'_>,
+    line: &[u8],
+) -> Result<Vec<u8>, SearchError>
+    ensures near { IfOk result (λ bytes. ShowsNear searcher.now.regex.now line.now (job prefix.entry.task) (text_of prefix.entry) bytes.items) }
+    ensures failed { IfErr result (IsSearchError (IsCostly searcher.now.regex.now)) }
+{
+    match prefix.task {
+        Task::Match(selection) => near_by(searcher, selection, prefix, line),
+        Task::Replace(_) => Ok(Vec::new(searcher.alloc)),
+    }
+}
+
+/// Returns the line, with its matches if those lines are selected that have none.
+fn near_by(
+    searcher: &Searcher<'_>,
+    selection: Selection,
+    prefix: Prefix<'_>,
+    line: &[u8],
+) -> Result<Vec<u8>, SearchError>
+    ensures near { IfOk result (λ bytes. ShowsNearBy searcher.now.regex.now line.now selection.invert selection (text_of prefix.entry) bytes.items) }
+    ensures failed { IfErr result (IsSearchError (IsCostly searcher.now.regex.now)) }
+{
+    if selection.invert && needs_matches(selection) {
+        near_by_matches(searcher, selection, prefix, line)
+    } else {
+        Ok(plain(searcher.alloc, selection.shown, prefix, line)?)
+    }
+}
+
+/// Returns the line with its matches.
+fn near_by_matches(
+    searcher: &Searcher<'_>,
+    selection: Selection,
+    prefix: Prefix<'_>,
+    line: &[u8],
+) -> Result<Vec<u8>, SearchError>
+    requires { needs_matches selection.shown selection.paints ≡ true }
+    ensures near { IfOk result (λ bytes. Shows searcher.now.regex.now line.now (texts_of line.now) selection.shown selection.paints (text_of prefix.entry) bytes.items) }
+    ensures failed { IfErr result (IsSearchError (IsCostly searcher.now.regex.now)) }
+{
+    let texts = texts_of(searcher.alloc, line)?;
+    let found = search_texts(searcher, &texts)?;
+    Ok(shown(searcher, selection, prefix, line, &found)?)
 }
 
 /// Returns what a task writes for a line that is UTF-8.

@@ -1,10 +1,11 @@
 //! The texts of a line, in which a pattern is searched.
 ghost use Rattle.std.specs.Prelude.{◌≡◌, ◌+◌, ◌<◌, ◌++◌, IfOk, OnOk, length, map};
 ghost use Rattle.regex_lines.specs.InLine.{AreInLine};
-ghost use Rattle.regex_lines.specs.Reply.{run_of, unless_empty, utf8_runs};
+ghost use Rattle.regex_lines.specs.Reply.{run_of, texts_of, unless_empty, utf8_runs, whole};
 
 use regress::Match;
 use std::alloc::{AllocError, Global};
+use std::str;
 
 /// A text in a line, and the byte offset at which it starts: the line itself, or a maximal run of UTF-8 in it.
 #[derive(Clone, Copy)]
@@ -18,6 +19,26 @@ pub(crate) struct Run<'a> {
 pub(crate) struct TextMatches<'a> {
     pub(crate) run: Run<'a>,
     pub(crate) matches: Vec<Match<'a>>,
+}
+
+/// Returns the line itself, or the runs of a line that is not UTF-8.
+pub(crate) fn texts_of(alloc: Global, line: &[u8]) -> Result<Vec<Run<'_>>, AllocError>
+    ensures texts { IfOk result (λ found. map run_of found.items ≡ texts_of line.now) }
+    ensures order { IfOk result (λ found. AreInLine (length line.now) 0 (map run_of found.items)) }
+{
+    match str::from_utf8(line) {
+        Ok(text) => one_text(alloc, text),
+        Err(_) => utf8_runs(alloc, line),
+    }
+}
+
+/// Returns the text alone.
+fn one_text(alloc: Global, text: &str) -> Result<Vec<Run<'_>>, AllocError>
+    ensures texts { IfOk result (λ found. map run_of found.items ≡ whole text.now) }
+{
+    let mut texts = Vec::new(alloc);
+    texts.push(Run { start: 0, text })?;
+    Ok(texts)
 }
 
 /// Returns the maximal runs of UTF-8 in a line that are not empty.

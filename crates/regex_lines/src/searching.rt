@@ -1,21 +1,23 @@
 //! Searches the lines of an input.
-ghost use Rattle.std.specs.Prelude.{◌≡◌, IfOk, IfErr, OnOk, string_bytes};
+ghost use Rattle.std.specs.Prelude.{◌≡◌, ℕ, ◌+◌, ◌-◌, ◌<◌, ◌≤◌, List, [], ◌++◌, IfOk, IfErr, OnOk, false, length, map, string_bytes, true};
 ghost use Rattle.std.specs.Io.KnownBytes.{Appends};
 ghost use Rattle.regex_lines.specs.Reply.{IsReply};
 ghost use Rattle.regex_lines.specs.Reading.{IsRead};
 ghost use Rattle.regress_arguments.specs.Output.{Took};
 ghost use Rattle.regex_lines.specs.Ending.{IsCostly, IsInputFailure, OrOutput};
 ghost use Rattle.regex_options.specs.Plain.{job};
-ghost use Rattle.regex_lines.specs.Searched.{named, SearchesAll, SearchesFirst, prefix_of, is_enough, needs_one, reaches, written_at_end};
+ghost use Rattle.regex_lines.specs.Searched.{AreNear, IsFound, IsNear, named, SearchesAll, SearchesFirst, context_of, lines_after, lines_before, prefix_of, is_enough, is_over, needs_one, reaches, written_at_end};
+ghost use Rattle.regex_lines.specs.Window.{IsCounted, IsInFront, IsNextLine, IsOther, IsShown, separator_of, window_of};
 
 use crate::failure::{Failure, read_failure};
 use crate::place::Place;
 use crate::prefix::{Prefix, name_in_front, name_with};
 use crate::printing::{write_at, write_bytes};
 use crate::reading::{Next, is_ended, is_last, read_next};
-use crate::reply::{Reply, reply_to};
+use crate::reply::{Reply, near, reply_to};
 use crate::searcher::Searcher;
-use regex_options::{Shown, Task};
+use crate::window::Window;
+use regex_options::{Context, Shown, Task};
 use std::alloc::{AllocError, Global};
 use std::io::{BufRead, Write};
 
@@ -39,25 +41,29 @@ pub(crate) fn search_lines<'a, B: BufRead, W: Write>(
     ensures first { IfErr result (OrOutput (SearchesFirst search.entry.searcher.now.regex.now (job search.entry.task) (named search.entry.place) (B.Read.remaining reader.old) (W.contents out.old) (W.contents out.new))) }
     ensures failed { IfErr result (IsInputFailure (IsCostly search.entry.searcher.now.regex.now)) }
 {
-    let mut bytes = Vec::new(search.searcher.alloc);
-    let mut number: u64 = 0;
-    let mut selected: u64 = 0;
-    while number < u64::MAX {
-        if is_enough(search.task, selected) {
-            return Ok(selected);
+    let mut line = Vec::new(search.searcher.alloc);
+    let mut window = Window::new(search.searcher.alloc);
+    while window.number < u64::MAX {
+        if is_over(search.task, window.selected, window.due) {
+            return Ok(window.selected);
         }
-        let next = next_line(reader, search.place, &mut bytes)?;
+        let next = next_line(reader, search.place, &mut line)?;
         if let Next::End = next {
-            return Ok(selected);
+            return Ok(window.selected);
         }
-        number += 1;
-        let is_selected = write_reply(search, number, &bytes, is_ended(next), out)?;
-        selected += u64::from(is_selected);
+        search_line(search, &mut window, &mut line, is_ended(next), out)?;
         if is_last(next) {
-            return Ok(selected);
+            return Ok(window.selected);
         }
     }
     Err(Failure::TooLong(search.place.name()))
+}
+
+/// Returns whether enough lines are selected, and those after the last of them are shown.
+fn is_over(task: Task<'_>, selected: u64, due: u64) -> bool
+    ensures { result ≡ is_over (job task.entry) selected due }
+{
+    is_enough(task, selected) && due == 0
 }
 
 /// Returns whether this many selected lines are enough.
@@ -106,22 +112,199 @@ fn next_line<'a, B: BufRead>(
     }
 }
 
-/// Writes what a task shows of the line with this number, and returns whether it is selected.
-fn write_reply<'a, W: Write>(
+/// Searches the next line, unless enough lines are selected, and writes what is shown. Another line may be in `line` then.
+fn search_line<'a, W: Write>(
     search: InputSearch<'_, 'a>,
-    number: u64,
-    line: &[u8],
+    window: &mut Window,
+    line: &mut Vec<u8>,
     ended: bool,
     out: &mut W,
-) -> Result<bool, Failure<'a>>
-    ensures reply { IfOk result (λ selected. Took (W.contents out.old) (W.contents out.new)
-        (IsReply search.entry.searcher.now.regex.now line.now ended (job search.entry.task) (prefix_of (job search.entry.task) (named search.entry.place) number) selected)) }
+) -> Result<(), Failure<'a>>
+    requires below { window.old.number < u64.MAX }
+    requires counted { IsCounted (window_of window.old) }
+    requires kept { length window.old.hidden.items ≤ lines_before (context_of (job search.task)) }
+    ensures next { OnOk result (Took (W.contents out.old) (W.contents out.new)
+        (IsNextLine search.entry.searcher.now.regex.now (job search.entry.task) (named search.entry.place) (window_of window.old) (record { bytes = line.old.items; ended = ended }) (window_of window.new))) }
     ensures failed { IfErr result (IsInputFailure (IsCostly search.entry.searcher.now.regex.now)) }
     ensures untouched { IfErr result (OrOutput (out.new ≡ out.old)) }
 {
-    let Reply { selected, bytes } = reply(search, number, line, ended)?;
+    let Reply { selected, bytes } = found(search, window, line, ended)?;
+    if selected {
+        show_selected(search, window, bytes, out)
+    } else {
+        show_other(search, window, line, out)
+    }
+}
+
+/// Returns whether the next line is selected, and what is written for it then: it is not once enough lines are.
+fn found<'a>(
+    search: InputSearch<'_, 'a>,
+    window: &Window,
+    line: &[u8],
+    ended: bool,
+) -> Result<Reply, Failure<'a>>
+    requires { window.now.number < u64.MAX }
+    ensures found { IfOk result (λ reply. IsFound search.entry.searcher.now.regex.now (job search.entry.task) (named search.entry.place)
+        (is_enough (job search.entry.task) window.now.selected) (window.now.number + 1) (record { bytes = line.now; ended = ended }) reply.selected reply.bytes.items) }
+    ensures failed { IfErr result (IsInputFailure (IsCostly search.entry.searcher.now.regex.now)) }
+{
+    if is_enough(search.task, window.selected) {
+        return Ok(Reply {
+            selected: false,
+            bytes: Vec::new(search.searcher.alloc),
+        });
+    }
+    reply(search, window.number + 1, line, ended)
+}
+
+/// Writes what is shown for a selected line, after the lines in front of it.
+fn show_selected<'a, W: Write>(
+    search: InputSearch<'_, 'a>,
+    window: &mut Window,
+    bytes: Vec<u8>,
+    out: &mut W,
+) -> Result<(), Failure<'a>>
+    requires below { window.old.number < u64.MAX }
+    requires counted { IsCounted (window_of window.old) }
+    ensures shown { OnOk result (Took (W.contents out.old) (W.contents out.new) (IsShown search.entry.searcher.now.regex.now (job search.entry.task) (named search.entry.place)
+        true (window_of window.old) [] bytes.items (window_of window.new))) }
+    ensures failed { IfErr result (IsInputFailure (IsCostly search.entry.searcher.now.regex.now)) }
+    ensures untouched { IfErr result (OrOutput (out.new ≡ out.old)) }
+{
+    let shown = with_front(search, window, bytes)?;
+    write_at(search.at_once, &shown, out)?;
+    window.select(lines_after(search.task));
+    Ok(())
+}
+
+/// Returns what is shown for a selected line, after a separator and the lines in the window.
+fn with_front<'a>(
+    search: InputSearch<'_, 'a>,
+    window: &Window,
+    bytes: Vec<u8>,
+) -> Result<Vec<u8>, Failure<'a>>
+    requires { IsCounted (window_of window.now) }
+    ensures front { IfOk result (λ shown. (front : List ℕ)
+        × IsInFront search.entry.searcher.now.regex.now (job search.entry.task) (named search.entry.place) (window_of window.now) front
+        × (shown.items ≡ front ++ bytes.items)) }
+    ensures failed { IfErr result (IsInputFailure (IsCostly search.entry.searcher.now.regex.now)) }
+{
+    let separator = separator_of(search, window);
+    if separator.is_empty() && window.hidden.is_empty() {
+        return Ok(bytes);
+    }
+    let mut shown = Vec::new(search.searcher.alloc);
+    shown.extend_from_slice(separator.as_bytes())?;
+    add_hidden(search, window, &mut shown)?;
+    shown.extend_from_slice(&bytes)?;
+    Ok(shown)
+}
+
+/// Returns the separator, if lines are left out before those in the window.
+fn separator_of(search: InputSearch<'_, '_>, window: &Window) -> &'static str
+    ensures { result.now ≡ separator_of (job search.entry.task) (named search.entry.place) (window_of window.now) }
+{
+    let is_left_out = if window.selected == 0 {
+        search.place.follows
+    } else {
+        window.left_out
+    };
+    if is_left_out && context_of(search.task).is_some() {
+        "--\n"
+    } else {
+        ""
+    }
+}
+
+/// Adds what is shown of the lines in the window.
+fn add_hidden<'a>(
+    search: InputSearch<'_, 'a>,
+    window: &Window,
+    to: &mut Vec<u8>,
+) -> Result<(), Failure<'a>>
+    requires { IsCounted (window_of window.now) }
+    ensures hidden { OnOk result ((before : List ℕ) × AreNear search.entry.searcher.now.regex.now (job search.entry.task) (named search.entry.place)
+        (window.now.number + 1 - length window.now.hidden.items) (map (λ line. line.items) window.now.hidden.items) before
+        × (to.new.items ≡ to.old.items ++ before)) }
+    ensures failed { IfErr result (IsInputFailure (IsCostly search.entry.searcher.now.regex.now)) }
+{
+    let mut number = window.number - window.hidden.len() as u64;
+    for index in 0..window.hidden.len() {
+        number += 1;
+        let bytes = near_text(search, number, &window.hidden[index])?;
+        to.extend_from_slice(&bytes)?;
+    }
+    Ok(())
+}
+
+/// Returns what is written for the line with this number, which is near a selected one.
+fn near_text<'a>(
+    search: InputSearch<'_, 'a>,
+    number: u64,
+    line: &[u8],
+) -> Result<Vec<u8>, Failure<'a>>
+    ensures near { IfOk result (λ bytes. IsNear search.entry.searcher.now.regex.now (job search.entry.task) (named search.entry.place) number line.now bytes.items) }
+    ensures failed { IfErr result (IsInputFailure (IsCostly search.entry.searcher.now.regex.now)) }
+{
+    let prefix = Prefix {
+        task: search.task,
+        place: search.place,
+        number,
+        near: true,
+    };
+    Ok(near(search.searcher, prefix, line)?)
+}
+
+/// Writes what is shown for a line that is not selected: nothing, or the line if it is one of those after a selected one.
+fn show_other<'a, W: Write>(
+    search: InputSearch<'_, 'a>,
+    window: &mut Window,
+    line: &mut Vec<u8>,
+    out: &mut W,
+) -> Result<(), Failure<'a>>
+    requires below { window.old.number < u64.MAX }
+    requires kept { length window.old.hidden.items ≤ lines_before (context_of (job search.task)) }
+    ensures shown { OnOk result (Took (W.contents out.old) (W.contents out.new) (IsOther search.entry.searcher.now.regex.now (job search.entry.task) (named search.entry.place)
+        (window_of window.old) line.old.items (window_of window.new))) }
+    ensures failed { IfErr result (IsInputFailure (IsCostly search.entry.searcher.now.regex.now)) }
+    ensures untouched { IfErr result (OrOutput (out.new ≡ out.old)) }
+{
+    if window.due == 0 {
+        window.hide(search.searcher.alloc, lines_before(search.task), line)?;
+        return Ok(());
+    }
+    let bytes = near_text(search, window.number + 1, line)?;
     write_at(search.at_once, &bytes, out)?;
-    Ok(selected)
+    window.follow();
+    Ok(())
+}
+
+/// Returns how many lines around selected ones are shown.
+fn context_of(task: Task<'_>) -> Option<Context>
+    ensures { result ≡ context_of (job task.entry) }
+{
+    match task {
+        Task::Match(selection) => selection.context,
+        Task::Replace(_) => None,
+    }
+}
+
+fn lines_before(task: Task<'_>) -> u64
+    ensures { result ≡ lines_before (context_of (job task.entry)) }
+{
+    match context_of(task) {
+        Some(context) => context.before,
+        None => 0,
+    }
+}
+
+fn lines_after(task: Task<'_>) -> u64
+    ensures { result ≡ lines_after (context_of (job task.entry)) }
+{
+    match context_of(task) {
+        Some(context) => context.after,
+        None => 0,
+    }
 }
 
 /// Returns what a task writes for the line with this number.
@@ -132,13 +315,14 @@ fn reply<'a>(
     ended: bool,
 ) -> Result<Reply, Failure<'a>>
     ensures reply { IfOk result (λ reply. IsReply search.entry.searcher.now.regex.now line.now ended (job search.entry.task)
-        (prefix_of (job search.entry.task) (named search.entry.place) number) reply.selected reply.bytes.items) }
+        (prefix_of false (job search.entry.task) (named search.entry.place) number) reply.selected reply.bytes.items) }
     ensures failed { IfErr result (IsInputFailure (IsCostly search.entry.searcher.now.regex.now)) }
 {
     let prefix = Prefix {
         task: search.task,
         place: search.place,
         number,
+        near: false,
     };
     Ok(reply_to(search.searcher, prefix, line, ended)?)
 }
@@ -165,7 +349,7 @@ fn end(alloc: Global, task: Task<'_>, place: Place<'_>, selected: u64) -> Result
     };
     match selection.shown {
         Shown::Count => {
-            let mut end = name_in_front(alloc, place)?;
+            let mut end = name_in_front(alloc, place, ":")?;
             end.push_str(&format!(in alloc; "{selected}\n")?)?;
             Ok(end)
         }

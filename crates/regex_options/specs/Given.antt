@@ -7,6 +7,7 @@ use Rattle.regress_base.specs.declared.types.Flags.{Flags}
 use Rattle.regress_lexer.specs.declared.dialect.Dialect.{Dialect}
 use Rattle.regress_lexer.specs.declared.dialect.Dialect.TheVariants.{Regress, Ecma}
 use Rattle.regex_options.specs.Plain.{Source, in_argument, in_file, source}
+use Rattle.regex_options.specs.declared.given.Around.{Around}
 use Rattle.regex_options.specs.declared.given.Color.{Color}
 use Rattle.regex_options.specs.declared.given.Color.TheVariants.{Always, Never, Auto}
 use Rattle.regex_options.specs.declared.given.Given as code
@@ -14,9 +15,11 @@ use Rattle.regex_options.specs.declared.given.Options.{Options}
 use Rattle.regex_options.specs.declared.table.Switch.{Switch}
 use Rattle.regex_options.specs.declared.table.Switch.TheVariants.{Help, Version, IgnoreCase, Fixed, WholeLines, WholeWords, Multiline, LineBuffered, Binary, Invert, FileNames, Null, Numbers, Shown, Json, Stage, Small, Html}
 use Rattle.regex_options.specs.declared.table.Value.{Value}
-use Rattle.regex_options.specs.declared.table.Value.TheVariants.{Pattern, File, Flags as FlagLetters, Dialect as DialectName, Count, Color as When, Text}
+use Rattle.regex_options.specs.declared.table.Value.TheVariants.{Pattern, File, Flags as FlagLetters, Dialect as DialectName, Count, Context, Color as When, Text}
 use Rattle.regex_options.specs.declared.task.FileNames.TheVariants.{IfSeveral}
 use Rattle.regex_options.specs.declared.task.Shown.TheVariants.{Lines}
+use Rattle.regex_options.specs.declared.task.Side.{Side}
+use Rattle.regex_options.specs.declared.task.Side.TheVariants.{Before, After, Both}
 
 -- the options, and the texts that they have: the pattern of the last option, and the text of a page
 pub record Given : Type 0 where
@@ -31,7 +34,8 @@ no_options = record {
   flags = no_flags;
   dialect = Ecma;
   form = record { fixed = false; lines = false; words = false };
-  selection = record { invert = false; file_names = IfSeveral; null = false; numbers = false; shown = Lines; max_count = None; paints = false };
+  selection = record { invert = false; file_names = IfSeveral; null = false; numbers = false; shown = Lines; max_count = None; context = None; paints = false };
+  around = record { before = None; after = None; both = None };
   multiline = false;
   line_buffered = false;
   json = false;
@@ -102,6 +106,15 @@ count_of text =
 abbrev pub with_count : (text : List ℕ) → Options → Option Options
 with_count text o = option_map (λ count. record o { selection = record o.selection { max_count = Some count } }) (count_of text)
 
+-- this many lines on a side of selected ones, or on both
+abbrev pub around_with : Side → (count : ℕ) → Around → Around
+around_with Before count around = record around { before = Some count }
+around_with After count around = record around { after = Some count }
+around_with Both count around = record around { both = Some count }
+
+abbrev pub with_context : Side → (text : List ℕ) → Options → Option Options
+with_context side text o = option_map (λ count. record o { around = around_with side count o.around }) (count_of text)
+
 -- when matches are in color, by its name
 abbrev pub color_of : List ℕ → Option Color
 color_of when =
@@ -124,5 +137,6 @@ valued File text given = Some (with_pattern (in_file text) given)
 valued FlagLetters text given = option_map (λ options. record given { options = options }) (with_flags text given.options)
 valued DialectName text given = option_map (λ options. record given { options = options }) (with_dialect text given.options)
 valued Count text given = option_map (λ options. record given { options = options }) (with_count text given.options)
+valued (Context side) text given = option_map (λ options. record given { options = options }) (with_context side text given.options)
 valued When text given = option_map (λ options. record given { options = options }) (with_color text given.options)
 valued Text text given = Some (record given { text = Some text })

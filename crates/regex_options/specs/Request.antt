@@ -17,6 +17,7 @@ use Rattle.regex_options.specs.declared.command.Command.TheVariants as commands
 use Rattle.regex_options.specs.declared.command.CommandEntry.{CommandEntry}
 use Rattle.regex_options.specs.declared.command.Operation.{Operation}
 use Rattle.regex_options.specs.declared.command.Operation.TheVariants as operations
+use Rattle.regex_options.specs.declared.given.Around.{Around}
 use Rattle.regex_options.specs.declared.given.Color.{Color}
 use Rattle.regex_options.specs.declared.given.Color.TheVariants as colors
 use Rattle.regex_options.specs.declared.given.Options.{Options}
@@ -35,6 +36,7 @@ use Rattle.regex_options.specs.declared.request.View.{View}
 use Rattle.regex_options.specs.declared.source.PatternForm.{PatternForm}
 use Rattle.regex_options.specs.declared.source.Patterns.{Patterns}
 use Rattle.regex_options.specs.declared.table.OptionEntry.{OptionEntry}
+use Rattle.regex_options.specs.declared.task.Context.{Context}
 use Rattle.regex_options.specs.declared.task.Selection.{Selection}
 use Rattle.regex_options.specs.declared.task.Shown.{Shown}
 use Rattle.regex_options.specs.declared.task.Shown.TheVariants as shows
@@ -120,11 +122,38 @@ paints terminal (Some colors.Always) = true
 paints terminal (Some colors.Never) = false
 paints terminal (Some colors.Auto) = terminal
 
+-- the number, or this one if there is none
+abbrev pub number_or : (default : ℕ) → Option ℕ → ℕ
+number_or default None = default
+number_or default (Some number) = number
+
+-- How many lines around selected ones are shown, if an option says so: that of a side takes precedence over that of both.
+abbrev pub context_by : Around → Option Context
+context_by around =
+    if is_some around.before || is_some around.after || is_some around.both then
+    Some (record {
+      before = number_or (number_or 0 around.both) around.before;
+      after = number_or (number_or 0 around.both) around.after;
+    })
+    else None
+
+abbrev pub has_context : Shown → Bool
+has_context shows.Lines = true
+has_context shows.Matches = true
+has_context shows.Json = false
+has_context shows.Count = false
+has_context shows.Names = false
+has_context shows.Nothing = false
+
+-- the same, where lines or matches are shown
+abbrev pub context_of : Options → Option Context
+context_of options = if has_context options.selection.shown then context_by options.around else None
+
 -- what to show of which lines
 abbrev pub selection_of : (terminal : Bool) → Options → Selection
 selection_of terminal options =
-    if options.json then record options.selection { paints = paints terminal options.color; shown = shows.Json }
-    else record options.selection { paints = paints terminal options.color }
+    if options.json then record options.selection { context = context_of options; paints = paints terminal options.color; shown = shows.Json }
+    else record options.selection { context = context_of options; paints = paints terminal options.color }
 
 -- how to explain a pattern
 abbrev pub form_of : Given → Form
@@ -188,10 +217,14 @@ is_lines shows.Count = false
 is_lines shows.Names = false
 is_lines shows.Nothing = false
 
--- `--json` excludes options that select what is shown of lines, and a text is for a page
+-- options that select what is shown of lines, or that other lines are shown
+abbrev pub excludes_json : Options → Bool
+excludes_json options = not (is_lines options.selection.shown) || is_some (context_by options.around)
+
+-- `--json` excludes some options, and a text is for a page
 abbrev pub conflict : Given → Option UsageError
 conflict given =
-    if given.options.json && not (is_lines given.options.selection.shown) then Some excluded_by_json
+    if given.options.json && excludes_json given.options then Some excluded_by_json
     else if is_some given.text && not given.options.html then Some text_without_page
     else None
 

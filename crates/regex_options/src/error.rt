@@ -24,7 +24,7 @@ pub enum UsageError<'a> {
     },
     /// This has an option that only `match` has.
     OnlyOfMatch(&'a str),
-    /// `--json` is given with an option that selects what `match` shows.
+    /// `--json` is given with an option that selects what `match` shows, or other lines to show.
     ExcludedByJson,
     /// `--on` is given without `--html`.
     TextWithoutPage,
@@ -93,7 +93,9 @@ fn write_error<E: Write>(error: UsageError<'_>, to: &mut E) -> io::Result<()> {
             write_visible(word, to)
         }
         UsageError::OnlyOfMatch(word) => write_about("only match has the option", word, to),
-        UsageError::ExcludedByJson => to.write_all(b"--json excludes -o, -c, -l and -q"),
+        UsageError::ExcludedByJson => to.write_all(
+            b"--json excludes -o, -c, -l, -q, -A, -B and -C",
+        ),
         UsageError::TextWithoutPage => to.write_all(b"--on needs --html"),
         UsageError::Unexpected(word) => write_about("unexpected argument", word, to),
     }

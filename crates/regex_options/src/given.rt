@@ -17,6 +17,15 @@ pub(crate) enum Color {
     Auto,
 }
 
+/// How many lines around selected ones are shown.
+#[derive(Clone, Copy)]
+pub(crate) struct Around {
+    pub(crate) before: Option<u64>,
+    pub(crate) after: Option<u64>,
+    /// How many on a side of which the number is not given.
+    pub(crate) both: Option<u64>,
+}
+
 /// The options. The last one of a kind takes effect.
 #[derive(Clone, Copy)]
 pub(crate) struct Options {
@@ -26,6 +35,7 @@ pub(crate) struct Options {
     pub(crate) dialect: Dialect,
     pub(crate) form: PatternForm,
     pub(crate) selection: Selection,
+    pub(crate) around: Around,
     /// Whether a text is searched as one, and not line by line.
     pub(crate) multiline: bool,
     /// Whether each line is written at once.
@@ -72,7 +82,13 @@ pub(crate) fn nothing_given() -> Given<'static>
                 numbers: false,
                 shown: Shown::Lines,
                 max_count: None,
+                context: None,
                 paints: false,
+            },
+            around: Around {
+                before: None,
+                after: None,
+                both: None,
             },
             multiline: false,
             line_buffered: false,

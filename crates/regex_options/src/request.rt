@@ -3,17 +3,17 @@ ghost use Rattle.std.specs.Prelude.{◌≡◌, map, option_map, string_bytes};
 ghost use Rattle.regex_options.specs.Given.{given_by};
 ghost use Rattle.regex_options.specs.Plain.{IsParsed, job, source, plain_result, usage_error};
 ghost use Rattle.regex_options.specs.Reading.{words_of};
-ghost use Rattle.regex_options.specs.Request.{action, action_of, after_patterns, alone, ask, asked_form, conflict, escape_of, form_of, help_of, interpreted, is_lines, line_interpreted, line_of, no_more, paints, parsed_as, parsed_by, printed_format, replace_of, request_of, search, selection_of, stage_of, taken_patterns, topic_of, unknown, view_in};
+ghost use Rattle.regex_options.specs.Request.{action, action_of, after_patterns, alone, ask, asked_form, conflict, context_by, context_of, escape_of, excludes_json, form_of, has_context, help_of, interpreted, is_lines, line_interpreted, line_of, no_more, paints, parsed_as, parsed_by, printed_format, replace_of, request_of, search, selection_of, stage_of, taken_patterns, topic_of, unknown, view_in};
 ghost use Rattle.regex_options.specs.Table.{topic_text};
 
 use crate::command::{Command, CommandEntry, Operation, find_command};
 use crate::error::{ParseError, UsageError};
-use crate::given::{Color, Given, Options};
+use crate::given::{Around, Color, Given, Options};
 use crate::help::Topic;
 use crate::reading::{Reading, Words, read_options};
 use crate::source::{PatternForm, PatternSource, Patterns};
 use crate::table::OptionEntry;
-use crate::task::{Selection, Shown, Task};
+use crate::task::{Context, Selection, Shown, Task};
 use regress_base::types::Flags;
 use regress_display::{Format, Stage};
 use regress_lexer::Dialect;
@@ -279,13 +279,20 @@ fn read_escape(args: &[String]) -> Result<Asked<'_>, UsageError<'_>>
 fn conflict(given: Given<'_>) -> Option<UsageError<'_>>
     ensures { option_map usage_error result ≡ conflict (given_by given.entry) }
 {
-    if given.options.json && !is_lines(given.options.selection.shown) {
+    if given.options.json && excludes_json(given.options) {
         Some(UsageError::ExcludedByJson)
     } else if given.text.is_some() && !given.options.html {
         Some(UsageError::TextWithoutPage)
     } else {
         None
     }
+}
+
+/// Returns whether options are given that `--json` excludes.
+fn excludes_json(options: Options) -> bool
+    ensures { result ≡ excludes_json options }
+{
+    !is_lines(options.selection.shown) || context_by(options.around).is_some()
 }
 
 fn is_lines(shown: Shown) -> bool
@@ -395,6 +402,7 @@ fn selection_of(options: Options, terminal: bool) -> Selection
     ensures { result ≡ selection_of terminal options }
 {
     let selection = Selection {
+        context: context_of(options),
         paints: paints(options.color, terminal),
         ..options.selection
     };
@@ -406,6 +414,45 @@ fn selection_of(options: Options, terminal: bool) -> Selection
     } else {
         selection
     }
+}
+
+/// Returns how many lines around selected ones are shown, where lines or matches are.
+fn context_of(options: Options) -> Option<Context>
+    ensures { result ≡ context_of options }
+{
+    if has_context(options.selection.shown) {
+        context_by(options.around)
+    } else {
+        None
+    }
+}
+
+fn has_context(shown: Shown) -> bool
+    ensures { result ≡ has_context shown }
+{
+    match shown {
+        Shown::Lines | Shown::Matches => true,
+        Shown::Json | Shown::Count | Shown::Names | Shown::Nothing => false,
+    }
+}
+
+/// Returns how many lines around selected ones are shown, if an option says so.
+fn context_by(around: Around) -> Option<Context>
+    ensures { result ≡ context_by around }
+{
+    let Around {
+        before,
+        after,
+        both,
+    } = around;
+    if before.is_none() && after.is_none() && both.is_none() {
+        return None;
+    }
+    let both = both.unwrap_or(0);
+    Some(Context {
+        before: before.unwrap_or(both),
+        after: after.unwrap_or(both),
+    })
 }
 
 /// Returns whether matches are in color.

@@ -1,7 +1,7 @@
 //! The table of options.
 
 use crate::command::{Command, Operation};
-use crate::task::{FileNames, Shown};
+use crate::task::{FileNames, Shown, Side};
 use regress_display::Stage;
 
 /// An option.
@@ -95,6 +95,8 @@ pub enum Value {
     Dialect,
     /// How many lines of an input are selected at most.
     Count,
+    /// How many lines around selected ones are shown.
+    Context(Side),
     /// When matches are in color.
     Color,
     /// The text of a page.
@@ -252,7 +254,7 @@ const OF_EXPLAIN: Scope = Scope {
 };
 
 /// The options, in the order of the help.
-pub const OPTIONS: [OptionEntry; 32] = [
+pub const OPTIONS: [OptionEntry; 35] = [
     OptionEntry {
         short: Some("-e"),
         long: Some("regexp"),
@@ -410,6 +412,42 @@ pub const OPTIONS: [OptionEntry; 32] = [
         sets: Sets::Switch(Switch::Numbers),
         scope: OF_MATCH,
         line: "  -n, --line-number         write the number of each line before it\n",
+    },
+    OptionEntry {
+        short: Some("-A"),
+        long: Some("after-context"),
+        sets: Sets::Value(Argument {
+            value: Value::Context(Side::After),
+            name: "NUM",
+            default: None,
+            kind: "NUM (a number from 0 to 2^64-1)",
+        }),
+        scope: OF_MATCH,
+        line: "  -A, --after-context NUM   write the NUM lines after each selected one too, and\n                            -- between lines that are not adjacent\n",
+    },
+    OptionEntry {
+        short: Some("-B"),
+        long: Some("before-context"),
+        sets: Sets::Value(Argument {
+            value: Value::Context(Side::Before),
+            name: "NUM",
+            default: None,
+            kind: "NUM (a number from 0 to 2^64-1)",
+        }),
+        scope: OF_MATCH,
+        line: "  -B, --before-context NUM  write the NUM lines before each selected one too, and\n                            -- between lines that are not adjacent\n",
+    },
+    OptionEntry {
+        short: Some("-C"),
+        long: Some("context"),
+        sets: Sets::Value(Argument {
+            value: Value::Context(Side::Both),
+            name: "NUM",
+            default: None,
+            kind: "NUM (a number from 0 to 2^64-1)",
+        }),
+        scope: OF_MATCH,
+        line: "  -C, --context NUM         as -A NUM -B NUM; -A or -B take precedence\n",
     },
     OptionEntry {
         short: Some("-o"),

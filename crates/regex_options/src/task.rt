@@ -24,8 +24,30 @@ pub struct Selection {
     pub shown: Shown,
     /// How many lines of an input are selected at most.
     pub max_count: Option<u64>,
+    /// Which other lines are shown: none by default.
+    pub context: Option<Context>,
     /// Whether matches are in color.
     pub paints: bool,
+}
+
+/// How many lines around selected ones are shown. There is a separator between lines that are not adjacent.
+#[derive(Clone, Copy)]
+pub struct Context {
+    /// The number of lines before a selected one.
+    pub before: u64,
+    /// The number of lines after a selected one.
+    pub after: u64,
+}
+
+/// The lines around a selected one.
+#[derive(Clone, Copy)]
+pub enum Side {
+    /// Those before it.
+    Before,
+    /// Those after it.
+    After,
+    /// Both.
+    Both,
 }
 
 /// When the names of inputs are shown in front of lines.

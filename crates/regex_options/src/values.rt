@@ -1,12 +1,12 @@
 //! What options with an argument set.
 ghost use Rattle.std.specs.Prelude.{◌≡◌, option_map};
-ghost use Rattle.regex_options.specs.Given.{color_of, count_of, dialect_of, given_by, valued, with_color, with_count, with_dialect, with_flags, with_pattern};
+ghost use Rattle.regex_options.specs.Given.{around_with, color_of, count_of, dialect_of, given_by, valued, with_color, with_context, with_count, with_dialect, with_flags, with_pattern};
 ghost use Rattle.regex_options.specs.Plain.{source};
 
-use crate::given::{Color, Given, Options};
+use crate::given::{Around, Color, Given, Options};
 use crate::source::PatternSource;
 use crate::table::Value;
-use crate::task::Selection;
+use crate::task::{Selection, Side};
 use regress_arguments::parse_flags;
 use regress_base::types::Flags;
 use regress_lexer::Dialect;
@@ -32,6 +32,10 @@ pub(crate) fn valued<'a>(value: Value, text: &'a str, given: Given<'a>) -> Optio
         }),
         Value::Count => Some(Given {
             options: with_count(given.options, text)?,
+            ..given
+        }),
+        Value::Context(side) => Some(Given {
+            options: with_context(side, given.options, text)?,
             ..given
         }),
         Value::Color => Some(Given {
@@ -99,6 +103,36 @@ fn with_count(options: Options, text: &str) -> Option<Options>
         },
         ..options
     })
+}
+
+/// Sets how many lines around selected ones are shown.
+fn with_context(side: Side, options: Options, text: &str) -> Option<Options>
+    ensures { result ≡ with_context side text.now options }
+{
+    let count = read_count(text)?;
+    Some(Options {
+        around: around_with(side, count, options.around),
+        ..options
+    })
+}
+
+fn around_with(side: Side, count: u64, around: Around) -> Around
+    ensures { result ≡ around_with side count around }
+{
+    match side {
+        Side::Before => Around {
+            before: Some(count),
+            ..around
+        },
+        Side::After => Around {
+            after: Some(count),
+            ..around
+        },
+        Side::Both => Around {
+            both: Some(count),
+            ..around
+        },
+    }
 }
 
 /// Parses decimal digits.

@@ -1,7 +1,7 @@
-use Rattle.std.proofs.Common.{◌∙◌, ap, map, subst, sym}
+use Rattle.std.proofs.Common.{◌∙◌, ap, false, map, subst, sym}
 use Rattle.std.specs.Prelude.{[], codes, IfErr, IfOk}
 use Rattle.regex_lines.specs.Ending.{OrOutput}
-use Rattle.regex_lines.specs.Searched.{AddsInput, SearchesFirst, inputs_of, place_of}
+use Rattle.regex_lines.specs.Searched.{AddsInput, SearchesFirst, following, inputs_of, place_of}
 use Rattle.regex_lines.specs.Unread.{all_unread, unread_of}
 use Rattle.regex_options.specs.Plain.{job}
 use Rattle.regex_lines.proofs.InputLemmas.{all_passed}
@@ -26,7 +26,7 @@ returns-clause-all g c =
     one_result r task (place 0 (codes "-")) input old new c.search_input.result before after
     (sym c.has_ended.ensures ∙ c.if-has_ended.false) (ap (map unread_of) c.requires.none)
     (subst (λ shown. IfOk c.search_input.result (AddsInput r task shown input old new before after))
-    (c.place_of.ensures.shown ∙ ap (λ n. place n (codes "-")) c.requires.alone) c.search_input.ensures.all)
+    (c.place_of.ensures.shown ∙ ap (λ n. following false (place n (codes "-"))) c.requires.alone) c.search_input.ensures.all)
 
 pub returns-clause-first : goal.returns-clause-first
 returns-clause-first g c =
@@ -39,5 +39,5 @@ returns-clause-first g c =
     one_failure r task (place 0 (codes "-")) input old new c.search_input.result (all_unread c.args.unread.now)
     (all_unread c.search_input.new.unread) (ap (map unread_of) c.requires.none)
     (subst (λ shown. IfErr c.search_input.result (OrOutput (SearchesFirst r task shown input old new)))
-    (c.place_of.ensures.shown ∙ ap (λ n. place n (codes "-")) c.requires.alone) c.search_input.ensures.first)
+    (c.place_of.ensures.shown ∙ ap (λ n. following false (place n (codes "-"))) c.requires.alone) c.search_input.ensures.first)
     c.search_input.ensures.kept
