@@ -3,6 +3,7 @@ mod ChainLemmas
 mod ClassContentsLemmas
 mod ClassLemmas
 mod ClassOperandLemmas
+mod ClassPlainLemmas
 mod ClassSetLemmas
 mod ClassStringLemmas
 mod ClosingLemmas

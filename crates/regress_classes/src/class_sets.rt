@@ -13,6 +13,7 @@ mod chain;
 mod character;
 mod operand;
 mod others;
+mod plain;
 mod strings;
 mod union;
 mod value;
@@ -22,6 +23,7 @@ use chain::Chain;
 use character::parse_set_character;
 use operand::{Operand, read_escaped_operand};
 pub use others::Others;
+use plain::{add_plain_part, begins_plain_union, read_plain_part};
 use regress_base::codepointset::Interval;
 use regress_lexer::Dialect;
 use regress_lexer::cursor::Cursor;
@@ -177,6 +179,10 @@ fn parse_contents(cursor: &mut Cursor, around: &OperandContext) -> Result<Value,
         (contents_at (table_of around.now.tables.now) around.now.parameters.now (inner_of around.now) around.now.negated (source cursor.old)) }
     ensures kind { FailsByDepthOnlyIf result (around.now.nesting < length (source cursor.old)) }
 {
+    if begins_plain_union(cursor.rest) {
+        let union = Union::with_room(cursor.alloc)?;
+        return parse_parts(cursor, around, union);
+    }
     if cursor.try_consume(']') {
         return Ok(Value::new(cursor.alloc));
     }
@@ -265,6 +271,10 @@ fn parse_parts(
     ensures kind { FailsByDepthOnlyIf result (around.now.nesting < length (source cursor.old)) }
 {
     while !cursor.is_at(']') {
+        if let Some(read) = read_plain_part(cursor.rest) {
+            add_plain_part(cursor, &mut union, read)?;
+            continue;
+        }
         if cursor.rest.is_empty() {
             return Err(rejected(around.opened, FaultKind::UnbalancedSet));
         }

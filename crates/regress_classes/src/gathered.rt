@@ -12,6 +12,9 @@ use std::marker::Model;
 /// Fewer intervals than this are inserted into a set one by one.
 const SINGLE_INSERTION_LIMIT: usize = 32;
 
+/// The initial capacity of a collection with room: most classes have no more intervals.
+const USUAL_LENGTH: usize = 8;
+
 /// The first set in a class, and all other intervals in the order in which they are written. They are sorted once all
 /// are there: inserting each one in order would move those after it, so a class in descending order would take
 /// quadratic time.
@@ -39,6 +42,16 @@ impl IntervalCollector {
             set: CodePointSet::new(alloc),
             list: Vec::new(alloc),
         }
+    }
+
+    /// Returns an empty collection with room for the intervals of most classes.
+    pub(crate) fn with_room(alloc: Global) -> Result<IntervalCollector, AllocError>
+        ensures { IfOk result (λ collector. collector ≡ []) }
+    {
+        Ok(IntervalCollector {
+            set: CodePointSet::new(alloc),
+            list: Vec::with_capacity(alloc, USUAL_LENGTH)?,
+        })
     }
 
     /// Adds an interval.

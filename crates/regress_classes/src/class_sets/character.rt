@@ -88,7 +88,7 @@ pub(super) fn read_escaped_character(
 }
 
 /// Returns whether the code point is a literal only after a backslash, or never.
-fn is_set_syntax(c: u32) -> bool
+pub(super) fn is_set_syntax(c: u32) -> bool
     ensures { result ≡ is_set_syntax c }
 {
     !is_letter(c)
@@ -100,7 +100,7 @@ fn is_set_syntax(c: u32) -> bool
 
 /// Returns whether the code point is a literal that may not be followed by itself, and in some dialects by no other of
 /// these.
-fn is_double(c: u32) -> bool
+pub(super) fn is_double(c: u32) -> bool
     ensures { result ≡ is_double c }
 {
     !is_letter(c)

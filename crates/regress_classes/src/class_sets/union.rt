@@ -30,6 +30,16 @@ impl Union {
         }
     }
 
+    /// Returns an empty union with room for the parts of most classes.
+    pub(super) fn with_room(alloc: Global) -> Result<Union, AllocError>
+        ensures { IfOk result (λ union. IsUnion union nothing) }
+    {
+        Ok(Union {
+            points: IntervalCollector::with_room(alloc)?,
+            others: Others::new(alloc),
+        })
+    }
+
     /// Adds the code points of an interval.
     pub(super) fn add(&mut self, interval: Interval) -> Result<(), AllocError>
         ensures { OnOk result ((a : Written) → IsUnion self.old a → IsUnion self.new (joined a (only (interval ∷ [])))) }

@@ -1,5 +1,5 @@
 -- Each clause follows from a lemma on what was parsed, at the values of the call.
-use Rattle.std.proofs.Common.{◌≡◌, ◌⊎◌, ◌<◌, ◌≤◌, ℕ, Bool, false, ◌&&◌, ◌-◌, Some, None, length, drop, refl, sym, ap, ap₂, subst, arith, length-drop, ◌∙◌}
+use Rattle.std.proofs.Common.{◌≡◌, ◌⊎◌, ◌<◌, ◌≤◌, ℕ, Bool, false, ◌&&◌, ◌-◌, Some, None, length, drop, [], ◌∷◌, refl, sym, ap, ap₂, subst, arith, length-drop, ◌∙◌}
 use Rattle.std.proofs.lemmas.Bool.{cond-true, cond-false}
 use Rattle.std.proofs.lemmas.Result.{err_from_is_err_and}
 use Rattle.regress_unicode.specs.TableOf.{table_of}
@@ -10,7 +10,7 @@ use Rattle.regress_lexer.specs.declared.dialect.Dialect.{Dialect}
 use Rattle.regress_lexer.specs.Dialects.{isolates_ampersand}
 use Rattle.regress_lexer.specs.Reads.{ParsesAs}
 use Rattle.regress_lexer.specs.Source.{Source, found_map, is_at}
-use Rattle.regress_classes.specs.ClassViews.{IsValue, IsUnion, IsChain, IsOperand, inner_of, symbol_of, applied}
+use Rattle.regress_classes.specs.ClassViews.{IsValue, IsUnion, IsChain, IsOperand, inner_of, parts_onto, symbol_of, applied}
 use Rattle.regress_lexer.specs.Views.{source}
 use Rattle.regress_lexer.proofs.lemmas.Sources.{on_rejected, on_rejected_then, on_kind_then}
 use Rattle.regress_lexer.proofs.lemmas.Faults.{fails_then, by_nesting_then}
@@ -24,6 +24,7 @@ use Rattle.regress_lexer.proofs.lemmas.Sources.{length-none}
 use Rattle.regress_classes.proofs.ClassOperandLemmas.{nested_read, escape_read, character_read}
 use Rattle.regress_classes.proofs.ClassContentsLemmas.{no_operand, operand_shortens, next_shortens, parts_closed, no_contents, intersection_read, subtraction_read, ampersand_read, first_part_read, no_first, no_part, one_part, parts_end, no_last, last_read, more_read, none_read, no_nesting, class_read, read_on}
 use Rattle.regress_classes.proofs.ClassSetLemmas.{nothing-joined}
+use Rattle.regress_classes.proofs.ClassPlainLemmas.{plain_union}
 use Rattle.regress_classes.proofs.class_sets.+class_set.Goals as goal
 use Rattle.regress_classes.proofs.class_sets.+class_set.Goals.{parse_class_set-else-negated-via-then-negated+else-is_not_negatable, parse_class_set-else-negated-via-else-negated}
 
@@ -110,6 +111,15 @@ parse_contents-returns-then-is_empty-clause-value t c =
     (no_contents (table_of around.tables.now) around.parameters.now (inner_of around) (ends around) around.negated (source c.args.cursor.now)
     (sym same ∙ length-none (source c.try_consume.new.self) (sym c.if-is_empty.ensures)))
 
+pub parse_contents-returns-then-begins_plain_union-clause-value : goal.parse_contents-returns-then-begins_plain_union-clause-value
+parse_contents-returns-then-begins_plain_union-clause-value t c =
+    let around = c.args.around.now in
+    let plain = c.begins_plain_union.ensures c.if-begins_plain_union.true in
+    subst (ParsesAs IsValue (source c.parse_parts.new.cursor) c.parse_parts.result)
+    (sym (plain_union (table_of around.tables.now) around.parameters.now (inner_of around) around.negated (ends around) (source c.args.cursor.now)
+    plain.1 plain.0 plain.2 plain.3 plain.4 plain.5))
+    (c.parse_parts.ensures.value nothing c.in_ok-union.ensures)
+
 pub parse_after_first_operand-returns-in_ok-value-clause-value : goal.parse_after_first_operand-returns-in_ok-value-clause-value
 parse_after_first_operand-returns-in_ok-value-clause-value t c = λ operand is.
     let around = c.args.around.now in
@@ -181,56 +191,88 @@ parse_rest_of_part-returns-then-not-try_consume-clause-value t c = λ operand is
 
 -- ---- parts
 
+pub parse_parts-loop-read-smaller-in-Some : goal.parse_parts-loop-read-smaller-in-Some
+parse_parts-loop-read-smaller-in-Some t c =
+    let around = c.args.around.now in
+    let read = c.in-Some.ensures.part (table_of around.tables.now) around.parameters.now (inner_of around) around.negated in
+    subst (λ (u : Source). length u < length (source c.loop-read.cursor)) (sym c.add_plain_part.ensures.moves)
+    (parts_end (table_of around.tables.now) around.parameters.now (inner_of around) (ends around) around.negated (source c.loop-read.cursor)
+    read.0 (only (c.in-Some.read.0 ∷ []), c.in-Some.read.1.now) read.1 read.2)
+
+pub parse_parts-loop-read-preserved-in-Some : goal.parse_parts-loop-read-preserved-in-Some
+parse_parts-loop-read-preserved-in-Some t c =
+    let around = c.args.around.now in
+    let l = c.loop-read in
+    let part = only (c.in-Some.read.0 ∷ []) in
+    let rest = c.in-Some.read.1.now in
+    let read = c.in-Some.ensures.part (table_of around.tables.now) around.parameters.now (inner_of around) around.negated in (
+      λ held is.
+          let so_far = l.invariant.0 held is in
+          read_on IsUnion _ held (joined so_far.value part) (source c.args.cursor.now) (source l.cursor) (source c.add_plain_part.new.cursor)
+          l.union c.add_plain_part.new.union so_far
+          (one_part (table_of around.tables.now) around.parameters.now (inner_of around) (ends around) around.negated so_far.value (source l.cursor)
+          read.0 (part, rest) (sym c.is_at.ensures ∙ c.loop-read-test.true) read.1 read.2
+          ∙ ap (parts_onto (table_of around.tables.now) around.parameters.now (inner_of around) around.negated (joined so_far.value part)) (sym c.add_plain_part.ensures.moves))
+          (c.in_ok-add_plain_part.ensures.joins so_far.value so_far.is),
+      omega (
+        arith,
+        l.invariant.1,
+        ap length c.add_plain_part.ensures.moves,
+        parts_end (table_of around.tables.now) around.parameters.now (inner_of around) (ends around) around.negated (source l.cursor)
+            read.0 (part, rest) read.1 read.2,
+      ),
+    )
+
 pub parse_parts-returns-then-is_empty-clause-value : goal.parse_parts-returns-then-is_empty-clause-value
 parse_parts-returns-then-is_empty-clause-value t c = λ held is.
     let around = c.args.around.now in
-    let l = c.loop-union in
+    let l = c.loop-read in
     let so_far = l.invariant.0 held is in
     on_rejected c.rejected.result
     (so_far.whole
     ∙ no_first (table_of around.tables.now) around.parameters.now (inner_of around) (ends around) around.negated so_far.value (source l.cursor)
-    (sym c.is_at.ensures ∙ c.loop-union-test.true)
+    (sym c.is_at.ensures ∙ c.loop-read-test.true)
     (no_operand (table_of around.tables.now) around.parameters.now (inner_of around) (ends around) around.negated (source l.cursor)
     (length-none (source l.cursor) (sym c.if-is_empty.ensures))))
 
 pub parse_parts-returns-in_err-first-clause-value : goal.parse_parts-returns-in_err-first-clause-value
 parse_parts-returns-in_err-first-clause-value t c = λ held is.
-    let p = err_from_is_err_and c.from_residual.result c.from_residual.ensures.1 in
+    let p = err_from_is_err_and c.from_residual-in_err-first.result c.from_residual-in_err-first.ensures.1 in
     let around = c.args.around.now in
-    let l = c.loop-union in
+    let l = c.loop-read in
     let so_far = l.invariant.0 held is in
     rw (p.1, p.2) (on_rejected_then c.in_err-first.field-0.0
     (λ none. so_far.whole
     ∙ no_first (table_of around.tables.now) around.parameters.now (inner_of around) (ends around) around.negated so_far.value (source l.cursor)
-    (sym c.is_at.ensures ∙ c.loop-union-test.true) none)
+    (sym c.is_at.ensures ∙ c.loop-read-test.true) none)
     c.in_err-first.ensures.value)
 
 pub parse_parts-returns-in_err-parse_rest_of_part-clause-value : goal.parse_parts-returns-in_err-parse_rest_of_part-clause-value
 parse_parts-returns-in_err-parse_rest_of_part-clause-value t c = λ held is.
     let p = err_from_is_err_and c.from_residual-in_err-parse_rest_of_part.result c.from_residual-in_err-parse_rest_of_part.ensures.1 in
     let around = c.args.around.now in
-    let l = c.loop-union in
+    let l = c.loop-read in
     let so_far = l.invariant.0 held is in
     let first = c.in_ok-first.ensures.value in
     rw (p.1, p.2) (on_rejected_then c.in_err-parse_rest_of_part.field-0.0
     (λ none. so_far.whole
     ∙ no_part (table_of around.tables.now) around.parameters.now (inner_of around) (ends around) around.negated so_far.value (source l.cursor)
-    (first.0, source c.parse_operand.new.cursor) (sym c.is_at.ensures ∙ c.loop-union-test.true) first.1 none)
+    (first.0, source c.parse_operand.new.cursor) (sym c.is_at.ensures ∙ c.loop-read-test.true) first.1 none)
     (c.in_err-parse_rest_of_part.ensures.value first.0 first.2))
 
-pub parse_parts-loop-union-smaller : goal.parse_parts-loop-union-smaller
-parse_parts-loop-union-smaller t c =
+pub parse_parts-loop-read-smaller : goal.parse_parts-loop-read-smaller
+parse_parts-loop-read-smaller t c =
     let around = c.args.around.now in
-    let l = c.loop-union in
+    let l = c.loop-read in
     let first = c.in_ok-first.ensures.value in
     let part = c.in_ok-parse_rest_of_part.ensures.value first.0 first.2 in
     parts_end (table_of around.tables.now) around.parameters.now (inner_of around) (ends around) around.negated (source l.cursor)
     (first.0, source c.parse_operand.new.cursor) (part.0, source c.parse_rest_of_part.new.cursor) first.1 part.1
 
-pub parse_parts-loop-union-preserved : goal.parse_parts-loop-union-preserved
-parse_parts-loop-union-preserved t c =
+pub parse_parts-loop-read-preserved : goal.parse_parts-loop-read-preserved
+parse_parts-loop-read-preserved t c =
     let around = c.args.around.now in
-    let l = c.loop-union in
+    let l = c.loop-read in
     let first = c.in_ok-first.ensures.value in
     let part = c.in_ok-parse_rest_of_part.ensures.value first.0 first.2 in (
       λ held is.
@@ -239,7 +281,7 @@ parse_parts-loop-union-preserved t c =
           l.union c.parse_rest_of_part.new.union so_far
           (one_part (table_of around.tables.now) around.parameters.now (inner_of around) (ends around) around.negated so_far.value (source l.cursor)
           (first.0, source c.parse_operand.new.cursor) (part.0, source c.parse_rest_of_part.new.cursor)
-          (sym c.is_at.ensures ∙ c.loop-union-test.true) first.1 part.1)
+          (sym c.is_at.ensures ∙ c.loop-read-test.true) first.1 part.1)
           (part.2 so_far.value so_far.is),
       omega (
         arith,
@@ -252,9 +294,9 @@ parse_parts-loop-union-preserved t c =
 pub parse_parts-returns-clause-value : goal.parse_parts-returns-clause-value
 parse_parts-returns-clause-value t c = λ held is.
     let around = c.args.around.now in
-    let l = c.loop-union in
+    let l = c.loop-read in
     let so_far = l.invariant.0 held is in
-    let closes = sym c.is_at.ensures ∙ c.loop-union-test.false in (
+    let closes = sym c.is_at.ensures ∙ c.loop-read-test.false in (
       so_far.value,
       so_far.whole
           ∙ parts_closed (table_of around.tables.now) around.parameters.now (inner_of around) (ends around) around.negated so_far.value (source l.cursor)
@@ -474,15 +516,15 @@ parse_after_first_operand-returns-in_ok-parse_rest_of_part-clause-kind t c =
 
 pub parse_parts-returns-in_err-first-clause-kind : goal.parse_parts-returns-in_err-first-clause-kind
 parse_parts-returns-in_err-first-clause-kind t c =
-    let p = err_from_is_err_and c.from_residual.result c.from_residual.ensures.1 in
+    let p = err_from_is_err_and c.from_residual-in_err-first.result c.from_residual-in_err-first.ensures.1 in
     rw (p.1, p.2) (on_kind_then c.in_err-first.field-0.0
-    (remaining_is_shorter (source c.args.cursor.now) (source c.loop-union.cursor) c.loop-union.invariant.1) c.in_err-first.ensures.kind)
+    (remaining_is_shorter (source c.args.cursor.now) (source c.loop-read.cursor) c.loop-read.invariant.1) c.in_err-first.ensures.kind)
 
 pub parse_parts-returns-in_err-parse_rest_of_part-clause-kind : goal.parse_parts-returns-in_err-parse_rest_of_part-clause-kind
 parse_parts-returns-in_err-parse_rest_of_part-clause-kind t c =
     let p = err_from_is_err_and c.from_residual-in_err-parse_rest_of_part.result c.from_residual-in_err-parse_rest_of_part.ensures.1 in
     let around = c.args.around.now in
-    let l = c.loop-union in
+    let l = c.loop-read in
     let first = c.in_ok-first.ensures.value in
     rw (p.1, p.2) (on_kind_then c.in_err-parse_rest_of_part.field-0.0
     (remaining_is_shorter (source c.args.cursor.now) (source c.parse_operand.new.cursor)

@@ -34,15 +34,15 @@ decreases-parse_contents l = 8 * l.around.now.nesting + 5
 abbrev pub decreases-parse_closed_contents : goal.decreases-parse_closed_contents
 decreases-parse_closed_contents l = 8 * l.around.now.nesting + 6
 
-abbrev pub invariant-parse_parts-loop-union : goal.invariant-parse_parts-loop-union
-invariant-parse_parts-loop-union l =
+abbrev pub invariant-parse_parts-loop-read : goal.invariant-parse_parts-loop-read
+invariant-parse_parts-loop-read l =
     ((held : Value) → IsUnion l.fn.union held →
     ReadFrom IsUnion (parts_onto (table_of l.around.tables.now) l.around.parameters.now (inner_of l.around) l.around.negated) held (source l.fn.cursor)
     (source l.cursor) l.union)
     × (length (source l.cursor) ≤ length (source l.fn.cursor))
 
-abbrev pub decreases-parse_parts-loop-union : goal.decreases-parse_parts-loop-union
-decreases-parse_parts-loop-union l = length (source l.cursor)
+abbrev pub decreases-parse_parts-loop-read : goal.decreases-parse_parts-loop-read
+decreases-parse_parts-loop-read l = length (source l.cursor)
 
 abbrev pub invariant-parse_operands-loop-chain : goal.invariant-parse_operands-loop-chain
 invariant-parse_operands-loop-chain l =
