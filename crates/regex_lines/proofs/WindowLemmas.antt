@@ -9,7 +9,7 @@ use Rattle.regex_options.specs.Plain.{Job}
 use Rattle.regress.specs.declared.pattern.Regex.{Regex}
 use Rattle.regex_lines.specs.Searched.{AreNear, IsFound, IsNear, IsNearStep, IsSearchedLine, Line, Named, Progress, at_start, context_of, is_apart, is_enough, last_of, lines_after, lines_before, separator}
 use Rattle.regex_lines.proofs.FoldLemmas.{one_further}
-use Rattle.regex_lines.specs.Window.{IsCounted, IsNextLine, IsOther, IsShown, Window, first_window, separator_of, with_after, with_hidden, with_selected}
+use Rattle.regex_lines.specs.Window.{IsCounted, IsNextLine, IsOther, IsShown, Window, first_window, separator_of}
 
 -- the last lines of those after the first ones
 last_after : (n k : ℕ) (lines : List (List ℕ)) → k ≤ length lines - n → last_of n (drop k lines) ≡ last_of n lines
