@@ -35,3 +35,7 @@ mod EcmaHeads
 mod InEcma
 mod EcmaMatching
 mod ClassEnds
+mod EscapesWithU
+mod OctalEscapes
+mod EscapesWithoutU
+mod ClassAtomNodes

@@ -5,7 +5,7 @@ use Rattle.std.specs.Prelude.{ℕ, ◌+◌, ◌-◌, ◌*◌, ◌/◌, ◌%◌, 
 use Rattle.std.specs.Option.{option_or}
 use Rattle.regress_base.specs.Intervals.{code_point_max}
 use Rattle.regress_lexer.specs.Source.{Source, Found, ◌>>=◌, char, is_one_of, is_at}
-use Rattle.regress_lexer.specs.Digits.{is_between, is_decimal, is_octal, is_hex, is_letter, digit, number, front, after, hex_at}
+use Rattle.regress_lexer.specs.Digits.{is_between, is_decimal, is_octal, is_hex, is_letter, number, front, after, hex_at}
 
 -- ---- alternatives and terminals
 
@@ -111,7 +111,7 @@ zero_before_8_or_9 (c ∷ t) = if c == char "0" && is_before (is_one_of "89") t 
 
 abbrev pub one_octal_digit : Source → Found ℕ
 one_octal_digit [] = None
-one_octal_digit (c ∷ t) = if is_between (char "1") (char "7") c && not (is_before is_octal t) then Some (digit c, t) else None
+one_octal_digit (c ∷ t) = if is_between (char "1") (char "7") c && not (is_before is_octal t) then Some (number 8 (c ∷ []), t) else None
 
 abbrev pub two_octal_digits : Source → Found ℕ
 two_octal_digits [] = None
