@@ -13,7 +13,15 @@ use Rattle.regress_ecma.specs.ClassNodes.{ClassAtom, character, class_escape, pr
 use Rattle.regress_ecma.specs.ClassRanges.{class_atom, class_atom_no_dash, class_escape_of}
 use Rattle.std.specs.Option.{option_map}
 use Rattle.std.proofs.lemmas.Bool.Decides.{nat_tests}
-use Rattle.std.proofs.Common.{drop, ⊥}
+use Rattle.std.proofs.Common.{drop, ◌%◌, ◌<◌}
+use Rattle.regress_base.specs.declared.charclasses.CharacterClassType.{CharacterClassType}
+use Rattle.regress_lexer.specs.Digits.{is_decimal, is_letter, control}
+use Rattle.regress_lexer.specs.Source.{first_production}
+use Rattle.regress_lexer.specs.Escapes.{character_escape_at}
+use Rattle.regress_classes.specs.ClassProductions.{class_letter}
+use Rattle.regress_ecma.specs.ClassGrammar.{escape_productions, control_at}
+use Rattle.regress_ecma.specs.CharacterEscapes.{legacy_octal_escape, identity_escape, lead_unit, trail_unit}
+use Rattle.regress_ecma.proofs.OctalEscapes.{no_octal_escape}
 use Rattle.regress_base.specs.Intervals.{Bounds}
 use Rattle.regress_base.specs.Table.{Named, named}
 use Rattle.regress_lexer.specs.Dialects.{is_lone_u}
@@ -50,20 +58,20 @@ abbrev IsOfPoints : Property → Type 0
 IsOfPoints (of_points members) = Unit {0}
 IsOfPoints (of_strings written) = ⊥
 
-mapped_points : (members : Option (List Bounds)) → (property : Property) → option_map of_points members ≡ Some property → IsOfPoints property
-mapped_points None property e = absurd (none-some property e)
-mapped_points (Some members) property e = subst IsOfPoints (same_Some (of_points members) property e) tt
+mapped_points : (members : Option (List Bounds)) → (p : Property) → option_map of_points members ≡ Some p → IsOfPoints p
+mapped_points None p e = absurd (none-some p e)
+mapped_points (Some members) p e = subst IsOfPoints (same_Some (of_points members) p e) tt
 
-either_points : (a b : Option (List Bounds)) (property : Property) → option_or (option_map of_points a) (option_or None (option_map of_points b)) ≡ Some property →
-    IsOfPoints property
-either_points None b property e = mapped_points b property e
-either_points (Some a) b property e = mapped_points (Some a) property e
+either_points : (a b : Option (List Bounds)) (p : Property) → option_or (option_map of_points a) (option_or None (option_map of_points b)) ≡ Some p →
+    IsOfPoints p
+either_points None b p e = mapped_points b p e
+either_points (Some a) b p e = mapped_points (Some a) p e
 
-closed_points : (found : Option Property) (t : Source) → ((property : Property) → found ≡ Some property → IsOfPoints property) →
+closed_points : (found : Option Property) (t : Source) → ((p : Property) → found ≡ Some p → IsOfPoints p) →
     Finds IsOfPoints (closed_property found t)
 closed_points None t h = finds_none IsOfPoints
-closed_points (Some property) t h =
-    finds_cond IsOfPoints (is_at (char "}") t) (Some (property, drop 1 t)) None (λ _. finds_some IsOfPoints (property, drop 1 t) (h property refl)) (λ _. finds_none IsOfPoints)
+closed_points (Some p) t h =
+    finds_cond IsOfPoints (is_at (char "}") t) (Some (p, drop 1 t)) None (λ _. finds_some IsOfPoints (p, drop 1 t) (h p refl)) (λ _. finds_none IsOfPoints)
 
 Anything : List ℕ → Type 0
 Anything x = Unit {0}
@@ -72,9 +80,9 @@ any_word : (found : Found (List ℕ)) → Finds Anything found
 unfolding Anything
 any_word found = record { each = λ x e. tt }
 
-listed_points : (value : List ℕ) (entries : Option (List (Named (List Bounds)))) (property : Property) → value_in value entries ≡ Some property → IsOfPoints property
-listed_points value None property e = absurd (none-some property e)
-listed_points value (Some entries) property e = mapped_points (named value entries) property e
+listed_points : (value : List ℕ) (entries : Option (List (Named (List Bounds)))) (p : Property) → value_in value entries ≡ Some p → IsOfPoints p
+listed_points value None p e = absurd (none-some p e)
+listed_points value (Some entries) p e = mapped_points (named value entries) p e
 
 property_points : (table : Table) (t : Source) → Finds IsOfPoints (property_at false table t)
 unfolding property_at
@@ -115,6 +123,18 @@ no_brace_u c t = by (c == char "u")
     by true = refl
     by false = refl
 
+letter_none : (c : ℕ) → (c == char "d") ≡ false → (c == char "D") ≡ false → (c == char "s") ≡ false → (c == char "S") ≡ false →
+    (c == char "w") ≡ false → (c == char "W") ≡ false → class_letter c ≡ None
+letter_none c d dd s ss w ww = rw (d, dd, s, ss, w, ww) refl
+
+no_letter : (table : Table) (parameters : Parameters) (c : ℕ) (t : Source) → class_letter c ≡ None →
+    class_escape_at table parameters (c ∷ t) ≡ first_production (escape_productions table parameters c t)
+no_letter table parameters c t e =
+    ap (λ (o : Option (CharacterClassType × Bool)). elim o as (λ _. Found ClassAtom) [
+      | None ↦ first_production (escape_productions table parameters c t)
+      | Some letter ↦ Some (class_escape letter.0 letter.1, t)
+    ]) e
+
 -- ---- with the flag u
 
 module _ (table : Table) (icase named : Bool) where
@@ -124,6 +144,11 @@ module _ (table : Table) (icase named : Bool) where
   after_p : (capital : Bool) (found : Found ClassAtom) (t : Source) → found ≡ found_map (property_node capital) (property_at false table t) →
       option_or (option_or found None) None ≡ found_map (property_node capital) (property_at false table t)
   after_p capital found t e = or_none (option_or found None) ∙ or_none found ∙ e
+
+  at_k : (b : Bool) (t : Source) → class_escape_of table true b (char "k" ∷ t) ≡ class_escape_at table (own icase true b) (char "k" ∷ t)
+  unfolding escape_at
+  at_k true t = refl
+  at_k false t = refl
 
   escape_u : (t : Source) → EscapesAlike t
   escape_u [] = refl
@@ -136,19 +161,20 @@ module _ (table : Table) (icase named : Bool) where
       (λ w. at_character (λ d. EscapesAlike (d ∷ t)) (char "W") c refl
       (λ ww. at_character (λ d. EscapesAlike (d ∷ t)) (char "b") c refl
       (λ b. at_character (λ d. EscapesAlike (d ∷ t)) (char "-") c refl
-      (λ dash. at_character (λ d. EscapesAlike (d ∷ t)) (char "p") c (small t)
-      (λ p. at_character (λ d. EscapesAlike (d ∷ t)) (char "P") c (big t)
-      (λ pp. at_character (λ d. EscapesAlike (d ∷ t)) (char "k") c (at_k named)
-      (λ k. rw (d, dd, s, ss, w, ww, b, dash, p, pp, k, and_false (c == char "c"), not_p c p pp, no_brace_u c t) last)))))))))))
+      (λ dash. at_character (λ d. EscapesAlike (d ∷ t)) (char "p") c (after_p false (property_value false table false t) t (property_same table false t))
+      (λ p. at_character (λ d. EscapesAlike (d ∷ t)) (char "P") c (after_p true (property_value false table true t) t (property_same table true t))
+      (λ pp. at_character (λ d. EscapesAlike (d ∷ t)) (char "k") c (at_k named t)
+      (λ k. left d dd s ss w ww b dash p pp ∙ or_none (found_map character (character_escape true named (c ∷ t)))
+      ∙ ap (found_map character) (escape_with_u named (c ∷ t))
+      ∙ sym (no_letter table (own icase true named) c t (letter_none c d dd s ss w ww) ∙ right b dash p pp k))))))))))))
     where
-      small : (t : Source) → EscapesAlike (char "p" ∷ t)
-      small t = ?
-      big : (t : Source) → EscapesAlike (char "P" ∷ t)
-      big t = ?
-      at_k : (b : Bool) → class_escape_of table true b (char "k" ∷ t) ≡ class_escape_at table (own icase true b) (char "k" ∷ t)
-      at_k b = ?
-      last : option_or (found_map character (character_escape true named (c ∷ t))) None ≡ found_map character (escape_at true (c ∷ t))
-      last = or_none (found_map character (character_escape true named (c ∷ t))) ∙ ap (found_map character) (escape_with_u named (c ∷ t))
+      left : (c == char "d") ≡ false → (c == char "D") ≡ false → (c == char "s") ≡ false → (c == char "S") ≡ false → (c == char "w") ≡ false →
+          (c == char "W") ≡ false → (c == char "b") ≡ false → (c == char "-") ≡ false → (c == char "p") ≡ false → (c == char "P") ≡ false →
+          class_escape_of table true named (c ∷ t) ≡ option_or (found_map character (character_escape true named (c ∷ t))) None
+      left d dd s ss w ww b dash p pp = rw (d, dd, s, ss, w, ww, b, dash, p, pp) refl
+      right : (c == char "b") ≡ false → (c == char "-") ≡ false → (c == char "p") ≡ false → (c == char "P") ≡ false → (c == char "k") ≡ false →
+          first_production (escape_productions table (own icase true named) c t) ≡ found_map character (escape_at true (c ∷ t))
+      right b dash p pp k = rw (b, dash, and_false (c == char "c"), not_p c p pp, k, no_brace_u c t) refl
 
   atom_u : (t : Source) → class_atom table true named t ≡ class_atom_at table (own icase true named) t
   unfolding class_atom class_atom_no_dash
@@ -173,23 +199,87 @@ module _ (table : Table) (icase named : Bool) where
   abbrev EscapesTo : Source → Type 0
   EscapesTo t = Is (mine t) (class_escape_at table (own icase false named) t)
 
+  no_more : (d : ℕ) (t : Source) → option_or (legacy_octal_escape (char "c" ∷ t)) (option_or (identity_escape false named (char "c" ∷ t)) None) ≡ None
+  no_more d t = rw (no_octal_escape (char "c") t refl) (by named)
+    where
+      by : (b : Bool) → option_or {T = ℕ × Source} (option_or (if (if b then true else true) then None else Some (char "c", t)) None) None ≡ None
+      by true = refl
+      by false = refl
+
+  control_small : (d : ℕ) → nat_le 0x10000 (control d) ≡ false
+  control_small d = let small : d % 32 < 32 = omega arith in grind (arith, nat_tests)
+
   at_c : (t : Source) → EscapesTo (char "c" ∷ t)
-  at_c t = ?
+  at_c [] = rw (no_more 0 []) (inl (refl, refl))
+  at_c (d ∷ t) = rw (no_more 0 (d ∷ t)) (by (is_letter d) (is_decimal d) (d == char "_"))
+    where
+      by : (letter decimal line : Bool) →
+          Is
+          (option_or
+          (option_or (found_map character ((if decimal || line then Some (d, t) else None) >>= λ (c, rest). Some (control c, rest)))
+          (option_or (found_map character (option_or ((if letter then Some (d, t) else None) >>= λ (c, rest). Some (control c, rest)) None)) None))
+          (Some (character (char "\\"), char "c" ∷ d ∷ t)))
+          (if letter || decimal || line then Some (character (control d), t) else Some (character (char "\\"), char "c" ∷ d ∷ t))
+      by true true line = inl (control_small d, refl)
+      by true false true = inl (control_small d, refl)
+      by true false false = inl (control_small d, refl)
+      by false true line = inl (control_small d, refl)
+      by false false true = inl (control_small d, refl)
+      by false false false = inl (refl, refl)
 
-  at_k : (b : Bool) (t : Source) → IsAtomOf table icase false b (option_or (class_escape_of table false b (char "k" ∷ t)) (option_or (backslash_before_c (char "k" ∷ t)) None))
+  of_units : (b : Bool) (c : ℕ) (t : Source) → (c == char "c") ≡ false → (escaped found : Found ℕ) → IsUnits table b escaped found →
+      IsAtomOf table icase false b (option_or (option_or (found_map character escaped) None) (option_or (backslash_before_c (c ∷ t)) None))
+      (found_map character found)
+  of_units b c t letter escaped None units = rw (units, letter) refl
+  of_units b c t letter escaped (Some (x, rest)) (inl (small, e)) = inl (small, rw e refl)
+  of_units b c t letter escaped (Some (x, rest)) (inr (u, big, e, trails)) = inr (u, big, rw e refl, trails)
+
+  k_units : (b : Bool) (t : Source) →
+      IsAtomOf table icase false b (option_or (class_escape_of table false b (char "k" ∷ t)) (option_or (backslash_before_c (char "k" ∷ t)) None))
       (class_escape_at table (own icase false b) (char "k" ∷ t))
-  at_k b t = ?
-
-  of_units : (c : ℕ) (t : Source) → (c == char "c") ≡ false → (escaped found : Found ℕ) → IsUnits table named escaped found →
-      Is (option_or (option_or (found_map character escaped) None) (option_or (backslash_before_c (c ∷ t)) None)) (found_map character found)
-  of_units c t letter escaped found = ?
+  k_units true t = rw (no_octal_escape (char "k") t refl) refl
+  k_units false t = of_units false (char "k") t refl (character_escape false false (char "k" ∷ t)) (character_escape_at Ecma false (char "k" ∷ t)) (escape_without_u table false (char "k") t refl)
 
   escape_units : (t : Source) → EscapesTo t
   escape_units [] = refl
-  escape_units (c ∷ t) = ?
+  escape_units (c ∷ t) =
+      at_character (λ d. EscapesTo (d ∷ t)) (char "d") c (inl (refl, refl))
+      (λ d. at_character (λ d. EscapesTo (d ∷ t)) (char "D") c (inl (refl, refl))
+      (λ dd. at_character (λ d. EscapesTo (d ∷ t)) (char "s") c (inl (refl, refl))
+      (λ s. at_character (λ d. EscapesTo (d ∷ t)) (char "S") c (inl (refl, refl))
+      (λ ss. at_character (λ d. EscapesTo (d ∷ t)) (char "w") c (inl (refl, refl))
+      (λ w. at_character (λ d. EscapesTo (d ∷ t)) (char "W") c (inl (refl, refl))
+      (λ ww. at_character (λ d. EscapesTo (d ∷ t)) (char "b") c (inl (refl, refl))
+      (λ b. at_character (λ d. EscapesTo (d ∷ t)) (char "c") c (at_c t)
+      (λ letter. at_character (λ d. EscapesTo (d ∷ t)) (char "k") c (k_units named t)
+      (λ k. subst (Is (mine (c ∷ t))) (sym (no_letter table (own icase false named) c t (letter_none c d dd s ss w ww) ∙ right b letter k))
+      (subst (λ (m : Found ClassAtom). Is (option_or m (option_or (backslash_before_c (c ∷ t)) None)) (found_map character (character_escape_at Ecma false (c ∷ t))))
+      (sym (left d dd s ss w ww b letter))
+      (of_units named c t letter (character_escape false named (c ∷ t)) (character_escape_at Ecma false (c ∷ t))
+      (escape_without_u table named c t (no_identity named c letter (ap (λ (b : Bool). b && named) k))))))))))))))
+    where
+      left : (c == char "d") ≡ false → (c == char "D") ≡ false → (c == char "s") ≡ false → (c == char "S") ≡ false → (c == char "w") ≡ false →
+          (c == char "W") ≡ false → (c == char "b") ≡ false → (c == char "c") ≡ false →
+          class_escape_of table false named (c ∷ t) ≡ option_or (found_map character (character_escape false named (c ∷ t))) None
+      left d dd s ss w ww b letter = rw (d, dd, s, ss, w, ww, b, letter) refl
+      right : (c == char "b") ≡ false → (c == char "c") ≡ false → (c == char "k") ≡ false →
+          first_production (escape_productions table (own icase false named) c t) ≡ found_map character (character_escape_at Ecma false (c ∷ t))
+      right b letter k = rw (b, and_false (c == char "-"), letter, and_false (is_one_of "pP" c), k) refl
 
   atom_units : (t : Source) → Is (class_atom table false named t) (class_atom_at table (own icase false named) t)
-  atom_units t = ?
+  unfolding class_atom class_atom_no_dash
+  atom_units [] = refl
+  atom_units (c ∷ t) =
+      at_character (λ d. Is (class_atom table false named (d ∷ t)) (class_atom_at table (own icase false named) (d ∷ t))) (char "]") c refl
+      (λ close. at_character (λ d. Is (class_atom table false named (d ∷ t)) (class_atom_at table (own icase false named) (d ∷ t))) (char "\\") c
+      (subst (λ (m : Found ClassAtom). Is m (class_escape_at table (own icase false named) t)) (sym (or_none (mine t))) (escape_units t))
+      (λ slash. at_character (λ d. Is (class_atom table false named (d ∷ t)) (class_atom_at table (own icase false named) (d ∷ t))) (char "-") c (inl (refl, refl))
+      (λ dash. rw (class_atom, class_atom_no_dash, close, slash, dash, no_syntax c close slash dash) (by (nat_le 0x10000 c) refl))))
+    where
+      by : (b : Bool) → nat_le 0x10000 c ≡ b →
+          Is (option_or (option_or (found_map character (if b then Some (lead_unit c, trail_unit c ∷ t) else Some (c, t))) None) None) (Some (character c, t))
+      by true e = inr (trail_unit c ∷ t, e, refl, literal_trail table named c t)
+      by false e = inl (e, refl)
 
 module _ (table : Table) (icase : Bool) where
   pub atom_is : (unicode named : Bool) (t : Source) →

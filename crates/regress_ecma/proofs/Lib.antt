@@ -39,3 +39,4 @@ mod EscapesWithU
 mod OctalEscapes
 mod EscapesWithoutU
 mod ClassAtomNodes
+mod ClassRangeNodes
