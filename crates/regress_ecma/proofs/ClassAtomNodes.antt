@@ -54,7 +54,7 @@ module _ (table : Table) (icase unicode named : Bool) where
 -- ---- properties
 
 -- Without the flag v no property is one of strings.
-abbrev IsOfPoints : Property → Type 0
+abbrev pub IsOfPoints : Property → Type 0
 IsOfPoints (of_points members) = Unit {0}
 IsOfPoints (of_strings written) = ⊥
 
@@ -84,7 +84,7 @@ listed_points : (value : List ℕ) (entries : Option (List (Named (List Bounds))
 listed_points value None p e = absurd (none-some p e)
 listed_points value (Some entries) p e = mapped_points (named value entries) p e
 
-property_points : (table : Table) (t : Source) → Finds IsOfPoints (property_at false table t)
+pub property_points : (table : Table) (t : Source) → Finds IsOfPoints (property_at false table t)
 unfolding property_at
 property_points table t =
     finds_cond IsOfPoints (is_at (char "{") t) (braced_property_at false table (drop 1 t)) None
@@ -176,7 +176,7 @@ module _ (table : Table) (icase named : Bool) where
           first_production (escape_productions table (own icase true named) c t) ≡ found_map character (escape_at true (c ∷ t))
       right b dash p pp k = rw (b, dash, and_false (c == char "c"), not_p c p pp, k, no_brace_u c t) refl
 
-  atom_u : (t : Source) → class_atom table true named t ≡ class_atom_at table (own icase true named) t
+  pub atom_u : (t : Source) → class_atom table true named t ≡ class_atom_at table (own icase true named) t
   unfolding class_atom class_atom_no_dash
   atom_u [] = refl
   atom_u (c ∷ t) =

@@ -1,67 +1,127 @@
--- The parts of a class without the flag v are those that NonemptyClassRanges of ECMA-262 derives.
+-- The parts of a class with the flag u and without v are those that NonemptyClassRanges of ECMA-262 derives.
 use Rattle.std.proofs.Common.{◌≡◌, ℕ, zero, suc, ◌+◌, ◌<◌, ◌≤◌, ◌==◌, ◌⊎◌, inl, inr, Bool, true, false, not, ◌&&◌, ◌||◌, List, [], ◌∷◌, length, drop, Option, Some, None, if◌then◌else◌, refl, sym, ap, subst, ◌∙◌, eqb-true, nat_le, arith}
 use Rattle.std.specs.Option.{option_or}
-use Rattle.std.proofs.lemmas.Bool.{false≢true}
+use Rattle.std.proofs.lemmas.Bool.{false≢true, and_parts}
 use Rattle.std.proofs.lemmas.Option.{none-some, same_Some}
 use Rattle.regress_base.specs.Table.{Table}
-use Rattle.regress_lexer.specs.Source.{Source, Found, ◌>>=◌, found_map, char, is_at, is_one_of}
-use Rattle.regress_lexer.proofs.lemmas.Sources.{found_then}
+use Rattle.regress_base.specs.declared.charclasses.CharacterClassType.{CharacterClassType}
+use Rattle.regress_lexer.specs.Source.{Source, Found, ◌>>=◌, found_map, first_production, char, is_at, is_one_of}
+use Rattle.regress_lexer.specs.Digits.{is_decimal, is_letter}
+use Rattle.regress_lexer.proofs.lemmas.Sources.{found_then, EachProduction, no_more, ◌also◌, first_production-has}
+use Rattle.regress_lexer.proofs.lemmas.After.{IsSuffix, after_same, after_drop, after_shorter, Ends, ends_none, ends_some, one-ends, ends_more, ends_map, ends_cond, character_escape_at-ends}
+use Rattle.regress_classes.proofs.lemmas.Pieces.{property_at-ends}
 use Rattle.regress_classes.specs.declared.parameters.Parameters.{Parameters}
-use Rattle.regress_classes.specs.ClassProductions.{begins_range}
-use Rattle.regress_ecma.specs.ClassGrammar.{is_pair, lead, trail, class_atom_at, is_split, first_of, last_of, with_before, with_after, with_atom, with_range, with_ranges, range_at, class_part_at, class_ranges_by, character_class_at}
-use Rattle.regress_ecma.specs.ClassNodes.{ClassAtom, character, ClassContents, empty, atom_then, range_then, intersection, subtraction, CharacterClass}
-use Rattle.regress_ecma.specs.ClassRanges.{class_atom, class_atom_no_dash, IsNonemptyClassRanges, IsNonemptyClassRangesNoDash, IsClassContents, IsCharacterClass}
+use Rattle.regress_classes.specs.ClassProductions.{begins_range, class_letter}
+use Rattle.regress_classes.specs.Properties.{Property, property_at}
+use Rattle.regress_ecma.specs.ClassGrammar.{property_node, control_at, escape_productions, class_escape_at, class_atom_at, class_part_at, class_ranges_by}
+use Rattle.regress_ecma.specs.ClassNodes.{ClassAtom, character, class_escape, ClassContents, empty, atom_then, range_then, intersection, subtraction}
+use Rattle.regress_ecma.specs.ClassRanges.{class_atom, class_atom_no_dash, IsNonemptyClassRanges, IsNonemptyClassRangesNoDash, IsClassContents}
 use Rattle.regress_ecma.proofs.EscapesWithU.{by_case, or_none}
-use Rattle.regress_ecma.proofs.ClassAtomNodes.{own, IsAtomOf, atom_is}
+use Rattle.regress_ecma.proofs.ClassAtomNodes.{own, atom_u}
 
-module _ (table : Table) (icase unicode named : Bool) where
+-- ---- an atom consumes
+
+control_at-ends : (t : Source) → Ends (control_at t) (char "c" ∷ t)
+control_at-ends [] = ends_some _ (char "c" ∷ []) (after_same (char "c" ∷ []))
+control_at-ends (d ∷ t) =
+    ends_cond (is_letter d || is_decimal d || d == char "_") _ _ (char "c" ∷ d ∷ t)
+    (ends_some _ (char "c" ∷ d ∷ t) (after_drop 2 (char "c" ∷ d ∷ t))) (ends_some _ (char "c" ∷ d ∷ t) (after_same (char "c" ∷ d ∷ t)))
+
+module _ (table : Table) (parameters : Parameters) where
+  productions-end : (c : ℕ) (t : Source) → EachProduction (λ found. Ends found (c ∷ t)) (escape_productions table parameters c t)
+  productions-end c t =
+      (λ _. one-ends _ c t)
+      also (λ _. one-ends _ c t)
+      also (λ e. subst (λ d. Ends (control_at t) (d ∷ t)) (sym (eqb-true c (char "c") (and_parts (c == char "c") _ e).0)) (control_at-ends t))
+      also (λ _. ends_more _ c t (ends_map (property_node (c == char "P")) (property_at false table t) t (property_at-ends false table t)))
+      also (λ _. ends_none (c ∷ t))
+      also (λ _. ends_map character _ (c ∷ t) (character_escape_at-ends parameters.dialect parameters.unicode (c ∷ t)))
+      also no_more
+
+  escape-ends : (t : Source) → Ends (class_escape_at table parameters t) t
+  escape-ends [] = ends_none []
+  escape-ends (c ∷ t) = by (class_letter c)
+    where
+      by : (letter : Option (CharacterClassType × Bool)) →
+          Ends (elim letter as (λ _. Found ClassAtom) [
+            | None ↦ first_production (escape_productions table parameters c t)
+            | Some named ↦ Some (class_escape named.0 named.1, t)
+          ]) (c ∷ t)
+      by (Some named) = one-ends _ c t
+      by None = first_production-has (λ found. Ends found (c ∷ t)) (escape_productions table parameters c t) (ends_none (c ∷ t)) (productions-end c t)
+
+  pub atom-shortens : (t u : Source) (a : ClassAtom) → class_atom_at table parameters t ≡ Some (a, u) → length u < length t
+  atom-shortens [] u a e = absurd (none-some (a, u) e)
+  atom-shortens (c ∷ t) u a e =
+      let ends : Ends (class_atom_at table parameters (c ∷ t)) t =
+      ends_cond (c == char "]") _ _ t (ends_none t)
+      (ends_cond (c == char "\\") _ _ t (escape-ends t) (ends_some (character c, t) t (after_same t))) in
+      omega (arith, after_shorter t u (ends.each (a, u) e))
+
+-- ---- what is found
+
+-- It has a property.
+pub Each : {A : Type 0} → (A × Source → Type 0) → Found A → Type 0
+Each {A} P found = (x : A × Source) → found ≡ Some x → P x
+
+pub each_none : {A : Type 0} (P : A × Source → Type 0) → Each P None
+unfolding Each
+each_none P x e = absurd (none-some x e)
+
+pub each_some : {A : Type 0} (P : A × Source → Type 0) (x : A × Source) → P x → Each P (Some x)
+unfolding Each
+each_some P x h y e = subst P (same_Some x y e) h
+
+pub each_if : {A : Type 0} (P : A × Source → Type 0) (b : Bool) (f g : Found A) → (b ≡ true → Each P f) → (b ≡ false → Each P g) →
+    Each P (if b then f else g)
+each_if P true f g h k = h refl
+each_if P false f g h k = k refl
+
+pub each_then : {A B : Type 0} (P : B × Source → Type 0) (found : Found A) (next : A × Source → Found B) →
+    ((x : A × Source) → found ≡ Some x → Each P (next x)) → Each P (found >>= next)
+each_then P None next h = each_none P
+each_then P (Some x) next h = h x refl
+
+pub each_at : {A : Type 0} (P : A × Source → Type 0) (found : Found A) → Each P found → (x : A × Source) → found ≡ Some x → P x
+unfolding Each
+each_at P found h x e = h x e
+
+-- what a source begins with
+pub front_is : (k : ℕ) (t : Source) → is_at k t ≡ true → t ≡ k ∷ drop 1 t
+front_is k [] e = absurd (false≢true e)
+front_is k (c ∷ t) e = ap (λ (d : ℕ). d ∷ t) (eqb-true c k e)
+
+module _ (table : Table) (icase named : Bool) where
   abbrev parameters : Parameters
-  parameters = own icase unicode named
+  parameters = own icase true named
+
+  abbrev parsed : Source → Found ClassAtom
+  parsed t = class_atom_at table parameters t
 
   abbrev atom : Source → Found ClassAtom
-  atom t = class_atom table unicode named t
+  atom t = class_atom table true named t
 
   abbrev no_dash : Source → Found ClassAtom
-  no_dash t = class_atom_no_dash table unicode named t
+  no_dash t = class_atom_no_dash table true named t
 
   abbrev Ranges : ClassContents → (t rest : Source) → Type 0
-  Ranges node t rest = IsNonemptyClassRanges table unicode named node t rest
+  Ranges node t rest = IsNonemptyClassRanges table true named node t rest
 
   abbrev NoDash : ClassContents → (t rest : Source) → Type 0
-  NoDash node t rest = IsNonemptyClassRangesNoDash table unicode named node t rest
+  NoDash node t rest = IsNonemptyClassRangesNoDash table true named node t rest
 
   abbrev Contents : ClassContents → (t rest : Source) → Type 0
-  Contents node t rest = IsClassContents table unicode named node t rest
+  Contents node t rest = IsClassContents table true named node t rest
 
   -- ---- atoms
 
-  dash_alone : (t : Source) → atom (char "-" ∷ t) ≡ Some (character (char "-"), t)
-  unfolding class_atom
-  dash_alone t = refl
-
   no_dash_first : (t : Source) → no_dash (char "-" ∷ t) ≡ None
   unfolding class_atom_no_dash
-  no_dash_first t = by unicode
-    where
-      by : (u : Bool) → class_atom_no_dash table u named (char "-" ∷ t) ≡ None
-      by true = refl
-      by false = refl
+  no_dash_first t = refl
 
   no_atom : (t : Source) → atom (char "]" ∷ t) ≡ None
   unfolding class_atom class_atom_no_dash
-  no_atom t = by unicode
-    where
-      by : (u : Bool) → class_atom table u named (char "]" ∷ t) ≡ None
-      by true = refl
-      by false = refl
-
-  no_atom_at_end : atom [] ≡ None
-  unfolding class_atom class_atom_no_dash
-  no_atom_at_end = by unicode
-    where
-      by : (u : Bool) → class_atom table u named [] ≡ None
-      by true = refl
-      by false = refl
+  no_atom t = refl
 
   other_first : (t : Source) → is_at (char "-") t ≡ false → atom t ≡ no_dash t
   unfolding class_atom
@@ -71,56 +131,150 @@ module _ (table : Table) (icase unicode named : Bool) where
 
   -- An atom that is no hyphen is ClassAtom too.
   is_atom : (t u : Source) (a : ClassAtom) → no_dash t ≡ Some (a, u) → (atom t ≡ Some (a, u)) × (is_at (char "-") t ≡ false)
-  is_atom [] u a e = (other_first [] refl ∙ e, refl)
-  is_atom (c ∷ t) u a e = by_case (c == char "-") dash (λ other. (other_first (c ∷ t) other ∙ e, other))
+  is_atom t u a e = by_case (is_at (char "-") t) dash (λ other. (other_first t other ∙ e, other))
     where
-      dash : (c == char "-") ≡ true → (atom (c ∷ t) ≡ Some (a, u)) × (is_at (char "-") (c ∷ t) ≡ false)
-      dash f = absurd (none-some (a, u) (sym (no_dash_first t) ∙ sym (ap (λ (k : ℕ). no_dash (k ∷ t)) (eqb-true c (char "-") f)) ∙ e))
+      dash : is_at (char "-") t ≡ true → (atom t ≡ Some (a, u)) × (is_at (char "-") t ≡ false)
+      dash f = absurd (none-some (a, u) (sym (no_dash_first (drop 1 t)) ∙ sym (ap no_dash (front_is (char "-") t f)) ∙ e))
+
+  hyphen_rest : (t : Source) (x : ClassAtom × Source) → is_at (char "-") t ≡ true → atom t ≡ Some x → x ≡ (character (char "-"), drop 1 t)
+  unfolding class_atom
+  hyphen_rest t x f e = sym (same_Some (character (char "-"), drop 1 t) x (sym (ap atom (front_is (char "-") t f)) ∙ e))
 
   -- ---- what follows an atom
 
-  abbrev AtEnd : (rest : Source) → Source
-  AtEnd rest = char "]" ∷ rest
+  end_closes : (t rest : Source) → t ≡ char "]" ∷ rest → begins_range t ≡ false
+  end_closes t rest e = ap begins_range e
 
   -- Nothing begins with `]`.
-  none_at_end : (node : ClassContents) (t rest : Source) → Ranges node (char "]" ∷ t) rest → ⊥
+  pub none_at_end : (node : ClassContents) (t rest : Source) → Ranges node (char "]" ∷ t) rest → ⊥
   none_at_end empty t rest h = h
   none_at_end (atom_then a more) t rest h = none-some (a, h.0) (sym (no_atom t) ∙ h.1)
   none_at_end (range_then a b more) t rest h = none-some (a, char "-" ∷ h.0) (sym (no_atom t) ∙ h.2)
   none_at_end (intersection left right) t rest h = h
   none_at_end (subtraction left right) t rest h = h
 
+  none_at_end_either : (node : ClassContents) (t rest : Source) → NoDash node (char "]" ∷ t) rest → ⊥
+  none_at_end_either empty t rest h = h
+  none_at_end_either (atom_then a more) t rest (u, inl (e, is_empty, same)) = none-some (a, u) (sym (no_atom t) ∙ e)
+  none_at_end_either (atom_then a more) t rest (u, inr (e, h)) = none-some (a, u) (sym (no_atom t) ∙ (is_atom (char "]" ∷ t) u a e).0)
+  none_at_end_either (range_then a b more) t rest h =
+      none-some (a, char "-" ∷ h.0) (sym (no_atom t) ∙ (is_atom (char "]" ∷ t) (char "-" ∷ h.0) a h.2).0)
+  none_at_end_either (intersection left right) t rest h = h
+  none_at_end_either (subtraction left right) t rest h = h
+
+  begins_not : (t : Source) → is_at (char "-") t ≡ false → begins_range t ≡ false
+  begins_not t e = ap (λ (b : Bool). b && not (is_at (char "]") (drop 1 t))) e
+
+  hyphen_ends : (t : Source) → is_at (char "-") t ≡ true → begins_range t ≡ false → is_at (char "]") (drop 1 t) ≡ true
+  hyphen_ends t dash none = by (is_at (char "]") (drop 1 t)) (sym (ap (λ (b : Bool). b && not (is_at (char "]") (drop 1 t))) dash) ∙ none)
+    where
+      by : (b : Bool) → not b ≡ false → b ≡ true
+      by true e = refl
+      by false e = sym e
+
   -- NonemptyClassRangesNoDash, where no hyphen begins a range
-  to_no_dash : (node : ClassContents) (t rest : Source) → begins_range t ≡ false → Ranges node t (AtEnd rest) → NoDash node t (AtEnd rest)
-  to_no_dash node t rest none h = ?
+  to_no_dash : (node : ClassContents) (t rest : Source) → begins_range t ≡ false → Ranges node t (char "]" ∷ rest) → NoDash node t (char "]" ∷ rest)
+  to_no_dash empty t rest none h = h
+  to_no_dash (atom_then a more) t rest none (u, e, inl (is_empty, same)) = (u, inl (e, is_empty, same))
+  to_no_dash (atom_then a more) t rest none (u, e, inr h) =
+      by_case (is_at (char "-") t) dash (λ other. (u, inr (sym (other_first t other) ∙ e, h)))
+    where
+      dash : is_at (char "-") t ≡ true → NoDash (atom_then a more) t (char "]" ∷ rest)
+      dash f =
+          let at_end : u ≡ char "]" ∷ drop 1 (drop 1 t) =
+          ap (λ (x : ClassAtom × Source). x.1) (hyphen_rest t (a, u) f e) ∙ front_is (char "]") (drop 1 t) (hyphen_ends t f none) in
+          absurd (none_at_end_either more (drop 1 (drop 1 t)) (char "]" ∷ rest) (subst (λ (w : Source). NoDash more w (char "]" ∷ rest)) at_end h))
+  to_no_dash (range_then a b more) t rest none (u, v, e, f, h) =
+      by_case (is_at (char "-") t) dash (λ other. (u, v, sym (other_first t other) ∙ e, f, h))
+    where
+      dash : is_at (char "-") t ≡ true → NoDash (range_then a b more) t (char "]" ∷ rest)
+      dash g =
+          let same : char "-" ∷ u ≡ drop 1 t = ap (λ (x : ClassAtom × Source). x.1) (hyphen_rest t (a, char "-" ∷ u) g e) in
+          absurd (false≢true (ap (is_at (char "]")) same ∙ hyphen_ends t g none))
+  to_no_dash (intersection left right) t rest none h = h
+  to_no_dash (subtraction left right) t rest none h = h
 
-  -- No hyphen begins a range before what is derived.
-  no_range : (node : ClassContents) (t rest : Source) → NoDash node t (AtEnd rest) → begins_range t ≡ false
-  no_range node t rest h = ?
+  -- No hyphen begins a range there.
+  no_range : (node : ClassContents) (t rest : Source) → NoDash node t (char "]" ∷ rest) → begins_range t ≡ false
+  no_range empty t rest h = absurd h
+  no_range (atom_then a more) t rest (u, inl (e, is_empty, same)) = by_case (is_at (char "-") t) dash (begins_not t)
+    where
+      dash : is_at (char "-") t ≡ true → begins_range t ≡ false
+      dash f =
+          let at_end : char "]" ∷ rest ≡ drop 1 t = sym same ∙ ap (λ (x : ClassAtom × Source). x.1) (hyphen_rest t (a, u) f e) in
+          ap (λ (b : Bool). b && not (is_at (char "]") (drop 1 t))) f ∙ ap (λ (w : Source). not (is_at (char "]") w)) (sym at_end)
+  no_range (atom_then a more) t rest (u, inr (e, h)) = begins_not t (is_atom t u a e).1
+  no_range (range_then a b more) t rest (u, v, e, f, h) = begins_not t (is_atom t (char "-" ∷ u) a e).1
+  no_range (intersection left right) t rest h = absurd h
+  no_range (subtraction left right) t rest h = absurd h
 
-  from_no_dash : (node : ClassContents) (t rest : Source) → NoDash node t (AtEnd rest) → Ranges node t (AtEnd rest)
-  from_no_dash node t rest h = ?
-
-  -- ---- one atom or range, and the rest
-
-  one_then : (a : ClassAtom) (t u rest : Source) (more : ClassContents) → atom t ≡ Some (a, u) → begins_range u ≡ false → Contents more u (AtEnd rest) →
-      Contents (atom_then a more) t (AtEnd rest)
-  one_then a t u rest more e none (inl (is_empty, same)) = inr (u, e, inl (is_empty, same))
-  one_then a t u rest more e none (inr h) = inr (u, e, inr (to_no_dash more u rest none h))
-
-  range_and : (a b : ClassAtom) (t u v rest : Source) (more : ClassContents) → atom t ≡ Some (a, char "-" ∷ u) → atom u ≡ Some (b, v) →
-      Contents more v (AtEnd rest) → Contents (range_then a b more) t (AtEnd rest)
-  range_and a b t u v rest more e f h = inr (u, v, e, f, h)
+  from_no_dash : (node : ClassContents) (t rest : Source) → NoDash node t (char "]" ∷ rest) → Ranges node t (char "]" ∷ rest)
+  from_no_dash empty t rest h = h
+  from_no_dash (atom_then a more) t rest (u, inl (e, is_empty, same)) = (u, e, inl (is_empty, same))
+  from_no_dash (atom_then a more) t rest (u, inr (e, h)) = (u, (is_atom t u a e).0, inr h)
+  from_no_dash (range_then a b more) t rest (u, v, e, f, h) = (u, v, (is_atom t (char "-" ∷ u) a e).0, f, h)
+  from_no_dash (intersection left right) t rest h = h
+  from_no_dash (subtraction left right) t rest h = h
 
   -- ---- from the parts
 
-  abbrev Split : ClassAtom → Bool
-  Split a = is_split table parameters a
+  abbrev IsPart : Source → (ClassContents → ClassContents) × Source → Type 0
+  IsPart t x = (more : ClassContents) (rest : Source) → Contents more x.1 (char "]" ∷ rest) → Ranges (x.0 more) t (char "]" ∷ rest)
 
-  -- an atom as it is parsed
-  pub record Parsed (t : Source) (a : ClassAtom) (rest : Source) : Type 0 where
-    pub first_found : (u : Source) × (atom t ≡ Some (first_of table parameters a, u))
-        × ((Split a ≡ false) × (u ≡ rest) ⊎ (Split a ≡ true) × (no_dash u ≡ Some (trail a, rest)))
+  one_then : (a : ClassAtom) (t u : Source) → parsed t ≡ Some (a, u) → begins_range u ≡ false → IsPart t (atom_then a, u)
+  one_then a t u e none more rest (inl (is_empty, same)) = (u, atom_u table icase named t ∙ e, inl (is_empty, same))
+  one_then a t u e none more rest (inr h) = (u, atom_u table icase named t ∙ e, inr (to_no_dash more u rest none h))
 
-  parsed : (t : Source) (a : ClassAtom) (rest : Source) → class_atom_at table parameters t ≡ Some (a, rest) → Parsed t a rest
-  parsed t a rest e = ?
+  range_and : (a b : ClassAtom) (t u v : Source) → parsed t ≡ Some (a, u) → begins_range u ≡ true → parsed (drop 1 u) ≡ Some (b, v) →
+      IsPart t (range_then a b, v)
+  range_and a b t u v e begins f more rest h =
+      (drop 1 u, v,
+      atom_u table icase named t ∙ e ∙ ap (λ (w : Source). Some (a, w)) (front_is (char "-") u (and_parts (is_at (char "-") u) _ begins).0),
+      atom_u table icase named (drop 1 u) ∙ f, h)
+
+  part_is : (t : Source) → Each (IsPart t) (class_part_at table parameters t)
+  part_is t =
+      each_then (IsPart t) (parsed t) _
+      (λ x e. each_if (IsPart t) (begins_range x.1) _ _
+      (λ begins. each_then (IsPart t) (parsed (drop 1 x.1)) _ (λ y f. each_some (IsPart t) (range_then x.0 y.0, y.1) (range_and x.0 y.0 t x.1 y.1 e begins f)))
+      (λ none. each_some (IsPart t) (atom_then x.0, x.1) (one_then x.0 t x.1 e none)))
+
+  abbrev AreContents : Source → ClassContents × Source → Type 0
+  AreContents t x = Contents x.0 t (char "]" ∷ x.1)
+
+  pub parts_derive : (n : ℕ) (t : Source) → Each (AreContents t) (class_ranges_by table parameters n t)
+  unfolding class_ranges_by
+  parts_derive zero t = each_none (AreContents t)
+  parts_derive (suc n) t =
+      each_if (AreContents t) (is_at (char "]") t) _ _ (λ closes. each_some (AreContents t) (empty, drop 1 t) (inl (refl, front_is (char "]") t closes)))
+      (λ _. each_then (AreContents t) (class_part_at table parameters t) _
+      (λ x e. each_then (AreContents t) (class_ranges_by table parameters n x.1) _
+      (λ y f. each_some (AreContents t) (x.0 y.0, y.1)
+      (inr (each_at (IsPart t) _ (part_is t) x e y.0 y.1 (each_at (AreContents x.1) _ (parts_derive n x.1) y f))))))
+
+  -- ---- to the parts
+
+  abbrev Parts : ℕ → Source → Found ClassContents
+  Parts n t = class_ranges_by table parameters n t
+
+  goes_on : (n : ℕ) (t u rest : Source) (with_part : ClassContents → ClassContents) (more : ClassContents) → is_at (char "]") t ≡ false →
+      class_part_at table parameters t ≡ Some (with_part, u) → Parts n u ≡ Some (more, rest) → Parts (suc n) t ≡ Some (with_part more, rest)
+  unfolding class_ranges_by
+  goes_on n t u rest with_part more open_ e f = rw (class_ranges_by, open_, e, f) refl
+
+  not_closed : (node : ClassContents) (t rest : Source) → Ranges node t rest → is_at (char "]") t ≡ false
+  not_closed node t rest h =
+      by_case (is_at (char "]") t)
+      (λ closes. absurd (none_at_end node (drop 1 t) rest (subst (λ (w : Source). Ranges node w rest) (front_is (char "]") t closes) h))) (λ e. e)
+
+  atom_part : (t u : Source) (a : ClassAtom) → atom t ≡ Some (a, u) → begins_range u ≡ false → class_part_at table parameters t ≡ Some (atom_then a, u)
+  atom_part t u a e none = let found = sym (atom_u table icase named t) ∙ e in rw (found, none) refl
+
+  range_part : (t u v : Source) (a b : ClassAtom) → atom t ≡ Some (a, char "-" ∷ u) → atom u ≡ Some (b, v) →
+      class_part_at table parameters t ≡ Some (range_then a b, v)
+  range_part t u v a b e f = ?
+
+  pub derived_parts : (n : ℕ) (t : Source) → length t < n → (node : ClassContents) (rest : Source) → Contents node t (char "]" ∷ rest) →
+      Parts n t ≡ Some (node, rest)
+  derived_parts zero t short node rest h = absurd (omega arith)
+  derived_parts (suc n) t short node rest h = ?
