@@ -270,11 +270,48 @@ module _ (table : Table) (icase named : Bool) where
   atom_part : (t u : Source) (a : ClassAtom) → atom t ≡ Some (a, u) → begins_range u ≡ false → class_part_at table parameters t ≡ Some (atom_then a, u)
   atom_part t u a e none = let found = sym (atom_u table icase named t) ∙ e in rw (found, none) refl
 
+  atom_opens : (t u : Source) (a : ClassAtom) → atom t ≡ Some (a, u) → is_at (char "]") t ≡ false
+  atom_opens t u a e =
+      by_case (is_at (char "]") t)
+      (λ closes. absurd (none-some (a, u) (sym (no_atom (drop 1 t)) ∙ sym (ap atom (front_is (char "]") t closes)) ∙ e))) (λ f. f)
+
   range_part : (t u v : Source) (a b : ClassAtom) → atom t ≡ Some (a, char "-" ∷ u) → atom u ≡ Some (b, v) →
       class_part_at table parameters t ≡ Some (range_then a b, v)
-  range_part t u v a b e f = ?
+  range_part t u v a b e f =
+      let found = sym (atom_u table icase named t) ∙ e in
+      let next = sym (atom_u table icase named u) ∙ f in
+      let opens = atom_opens u v b f in
+      rw (found, opens, next) refl
+
+  shorter : (w u : Source) (a : ClassAtom) → atom w ≡ Some (a, u) → length u < length w
+  shorter w u a e = atom-shortens table parameters w u a (sym (atom_u table icase named w) ∙ e)
+
+  ranges_step : (n : ℕ) (t : Source) → length t < suc n →
+      ((u : Source) → length u < n → (more : ClassContents) (rest : Source) → Contents more u (char "]" ∷ rest) → Parts n u ≡ Some (more, rest)) →
+      (m : ClassContents) (rest : Source) → Ranges m t (char "]" ∷ rest) → Parts (suc n) t ≡ Some (m, rest)
+  ranges_step n t short others empty rest k = absurd k
+  ranges_step n t short others (atom_then a more) rest (u, e, inl (is_empty, same)) =
+      let less = shorter t u a e in
+      goes_on n t u rest (atom_then a) more (not_closed (atom_then a more) t (char "]" ∷ rest) (u, e, inl (is_empty, same)))
+      (atom_part t u a e (end_closes u rest same)) (others u (omega arith) more rest (inl (is_empty, same)))
+  ranges_step n t short others (atom_then a more) rest (u, e, inr k) =
+      let less = shorter t u a e in
+      goes_on n t u rest (atom_then a) more (not_closed (atom_then a more) t (char "]" ∷ rest) (u, e, inr k))
+      (atom_part t u a e (no_range more u rest k)) (others u (omega arith) more rest (inr (from_no_dash more u rest k)))
+  ranges_step n t short others (range_then a b more) rest (u, v, e, f, k) =
+      let less = shorter t (char "-" ∷ u) a e in
+      let less_again = shorter u v b f in
+      goes_on n t v rest (range_then a b) more (not_closed (range_then a b more) t (char "]" ∷ rest) (u, v, e, f, k))
+      (range_part t u v a b e f) (others v (omega arith) more rest k)
+  ranges_step n t short others (intersection left right) rest k = absurd k
+  ranges_step n t short others (subtraction left right) rest k = absurd k
 
   pub derived_parts : (n : ℕ) (t : Source) → length t < n → (node : ClassContents) (rest : Source) → Contents node t (char "]" ∷ rest) →
       Parts n t ≡ Some (node, rest)
+  unfolding class_ranges_by
   derived_parts zero t short node rest h = absurd (omega arith)
-  derived_parts (suc n) t short node rest h = ?
+  derived_parts (suc n) t short node rest (inl (is_empty, same)) =
+      subst (λ (w : Source). Parts (suc n) w ≡ Some (node, rest)) (sym same)
+      (subst (λ (m : ClassContents). Parts (suc n) (char "]" ∷ rest) ≡ Some (m, rest)) (sym is_empty) refl)
+  derived_parts (suc n) t short node rest (inr h) =
+      ranges_step n t short (λ u less more after k. derived_parts n u less more after k) node rest h

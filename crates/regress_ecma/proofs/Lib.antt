@@ -40,3 +40,5 @@ mod OctalEscapes
 mod EscapesWithoutU
 mod ClassAtomNodes
 mod ClassRangeNodes
+mod ClassRangeErrors
+mod AcceptedClasses

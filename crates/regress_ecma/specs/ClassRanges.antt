@@ -133,3 +133,8 @@ has_early_error unicode (atom_then a more) = has_early_error unicode more
 has_early_error unicode (range_then a b more) = is_wrong_range unicode a b || has_early_error unicode more
 has_early_error unicode (intersection left right) = false
 has_early_error unicode (subtraction left right) = false
+
+-- The source derives the class, without an early error.
+abbrev pub IsAcceptedClass : Table → (unicode named : Bool) → CharacterClass → (t rest : Source) → Type 0
+IsAcceptedClass table unicode named node t rest =
+    IsCharacterClass table unicode named node t rest × (has_early_error unicode node.contents ≡ false)
