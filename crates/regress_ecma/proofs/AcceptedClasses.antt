@@ -17,7 +17,7 @@ use Rattle.regress_ecma.proofs.ClassRangeErrors.{parts_follow, parts_back}
 
 -- any flags
 some_flags : Flags
-some_flags = record { icase = false; multiline = false; dot_all = false; no_opt = false; unicode = true; unicode_sets = false }
+some_flags = record { icase = false; multiline = false; dot_all = false; unicode = true; unicode_sets = false }
 
 module _ (table : Table) where
   -- accepted by ECMA-262, with this parse node
@@ -33,9 +33,6 @@ module _ (table : Table) where
     -- the contents, after `^`
     abbrev inside : Bool → Source → Source
     inside b t = if b then drop 1 t else t
-
-    contents_of : Source → Source
-    contents_of t = inside (is_at (char "^") t) t
 
     node_of : (t : Source) (contents : ClassContents) (rest : Source) → IsClassContents table true named contents (inside (is_at (char "^") t) t) (char "]" ∷ rest) →
         has_early_error true contents ≡ false →
@@ -61,3 +58,62 @@ module _ (table : Table) where
       where
         s : Source
         s = inside (is_at (char "^") t) t
+
+    contents_of : (node : CharacterClass) (t rest : Source) → IsAcceptedClass table true named node (char "[" ∷ t) rest →
+        (node.invert ≡ is_at (char "^") t) × IsClassContents table true named node.contents (inside (is_at (char "^") t) t) (char "]" ∷ rest)
+    contents_of node t rest ((u, inl (same, none, invert), h), fine) =
+        let at_u : t ≡ u = ap (drop 1) same in
+        let not_at : is_at (char "^") t ≡ false = ap (is_at (char "^")) at_u ∙ none in
+        (invert ∙ sym not_at,
+        subst (λ (w : Source). IsClassContents table true named node.contents w (char "]" ∷ rest)) (sym at_u ∙ sym (ap (λ (b : Bool). inside b t) not_at)) h)
+    contents_of node t rest ((u, inr (same, invert), h), fine) =
+        let at_u : t ≡ char "^" ∷ u = ap (drop 1) same in
+        let at : is_at (char "^") t ≡ true = ap (is_at (char "^")) at_u in
+        (invert ∙ sym at,
+        subst (λ (w : Source). IsClassContents table true named node.contents w (char "]" ∷ rest))
+        (sym (ap (drop 1) at_u) ∙ sym (ap (λ (b : Bool). inside b t) at)) h)
+
+    -- members are found
+    abbrev IsFound : Source → (negated : Bool) → (rest : Source) → Type 0
+    IsFound t negated rest = (members : List Bounds) × (class_at table parameters t ≡ Some ((negated, members), rest))
+
+    derived : (node : CharacterClass) (t rest : Source) → IsAcceptedClass table true named node (char "[" ∷ t) rest →
+        (character_class_at table parameters false t ≡ Some (node, rest)) × IsFound t node.invert rest
+    unfolding class_at character_class_at
+    derived node t rest h =
+        let opened = contents_of node t rest h in
+        let s : Source = inside (is_at (char "^") t) t in
+        let found : class_ranges_by table parameters (length s + 1) s ≡ Some (node.contents, rest) =
+        derived_parts table icase named (length s + 1) s (omega arith) node.contents rest opened.1 in
+        let back = each_at _ _ (parts_back table some_flags icase named (length s + 1) s) (node.contents, rest) found h.1 in
+        (ap (found_map (λ (contents : ClassContents). record { invert = is_at (char "^") t; contents = contents })) found
+        ∙ ap (λ (b : Bool). Some (record { invert = b; contents = node.contents }, rest)) (sym opened.0),
+        (back.0,
+        ap (λ (o : Found (List Bounds)). o >>= λ (members, after). Some ((is_at (char "^") t, members), after)) back.1
+        ∙ ap (λ (b : Bool). Some ((b, back.0), rest)) (sym opened.0)))
+
+  -- the same for parameters of the dialect with the flag u
+  parameters_are : (parameters : Parameters) → parameters.dialect ≡ Ecma → parameters.unicode ≡ true →
+      own parameters.icase true parameters.named ≡ parameters
+  parameters_are parameters ecma unicode =
+      sym (ap₂ (λ (d : Dialect) (u : Bool). record parameters { dialect = d; unicode = u }) ecma unicode)
+
+  pub class_with_u : (parameters : Parameters) → parameters.dialect ≡ Ecma → parameters.unicode ≡ true →
+      (t rest : Source) (negated : Bool) (members : List Bounds) → class_at table parameters t ≡ Some ((negated, members), rest) →
+      IsNode parameters t negated rest
+  class_with_u parameters ecma unicode t rest negated members =
+      subst (λ (p : Parameters). class_at table p t ≡ Some ((negated, members), rest) → IsNode p t negated rest)
+      (parameters_are parameters ecma unicode)
+      (λ e. each_at _ _ (accepted parameters.icase parameters.named t) ((negated, members), rest) e)
+
+  pub node_with_u : (parameters : Parameters) → parameters.dialect ≡ Ecma → parameters.unicode ≡ true →
+      (t rest : Source) (node : CharacterClass) → IsAcceptedClass table true parameters.named node (char "[" ∷ t) rest →
+      (character_class_at table parameters false t ≡ Some (node, rest))
+      × ((members : List Bounds) × (class_at table parameters t ≡ Some ((node.invert, members), rest)))
+  node_with_u parameters ecma unicode t rest node =
+      subst
+      (λ (p : Parameters). IsAcceptedClass table true p.named node (char "[" ∷ t) rest →
+      (character_class_at table p false t ≡ Some (node, rest))
+      × ((members : List Bounds) × (class_at table p t ≡ Some ((node.invert, members), rest))))
+      (parameters_are parameters ecma unicode)
+      (λ h. derived parameters.icase parameters.named node t rest h)

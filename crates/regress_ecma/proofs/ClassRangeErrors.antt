@@ -208,8 +208,9 @@ module _ (table : Table) (rer : Flags) (icase named : Bool) where
       let found = in_order first last from.value to.value from.related to.related parts.0 in
       let start = from.found in
       let end = to.found in
-      let members = found.1 in
-      (parts.1, (found.0, rw (start, begins, end, members) refl))
+      (parts.1,
+      (found.0, rw (start, begins, end)
+      (ap (λ (o : Option (List Bounds)). elim o as (λ _. Found (List Bounds)) [ None ↦ None | Some members ↦ Some (members, v) ]) found.1)))
 
   atom_alone_back : (t u : Source) (first : ClassAtom) → class_atom_at table parameters t ≡ Some (first, u) → begins_range u ≡ false →
       PartBack t (atom_then first, u)
