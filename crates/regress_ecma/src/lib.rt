@@ -3,4 +3,5 @@
 
 mod law;
 
+pub use law::accepts_what_ecma_accepts;
 pub use law::first_outcome_is_the_match;
