@@ -12,7 +12,8 @@ use Rattle.regress_ecma.specs.ClassGrammar.{class_ranges_by, character_class_at}
 use Rattle.regress_ecma.specs.ClassNodes.{ClassContents, CharacterClass}
 use Rattle.regress_ecma.specs.ClassRanges.{IsClassContents, IsAcceptedClass, has_early_error}
 use Rattle.regress_ecma.proofs.ClassAtomNodes.{own}
-use Rattle.regress_ecma.proofs.ClassRangeNodes.{Each, each_some, each_then, each_at, front_is, parts_derive, derived_parts}
+use Rattle.regress_ecma.proofs.ClassRangeNodes.{Each, each_some, each_then, each_at, parts_derive, derived_parts}
+use Rattle.regress_ecma.proofs.ClassDerivations.{front_is}
 use Rattle.regress_ecma.proofs.ClassRangeErrors.{parts_follow, parts_back}
 
 -- any flags

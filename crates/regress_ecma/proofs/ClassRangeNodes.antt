@@ -18,6 +18,7 @@ use Rattle.regress_ecma.specs.ClassNodes.{ClassAtom, character, class_escape, Cl
 use Rattle.regress_ecma.specs.ClassRanges.{class_atom, class_atom_no_dash, IsNonemptyClassRanges, IsNonemptyClassRangesNoDash, IsClassContents}
 use Rattle.regress_ecma.proofs.EscapesWithU.{by_case, or_none}
 use Rattle.regress_ecma.proofs.ClassAtomNodes.{own, atom_u}
+use Rattle.regress_ecma.proofs.ClassDerivations.{front_is, end_closes, to_no_dash, no_range, from_no_dash, not_closed, atom_opens}
 
 -- ---- an atom consumes
 
@@ -50,13 +51,14 @@ module _ (table : Table) (parameters : Parameters) where
       by (Some named) = one-ends _ c t
       by None = first_production-has (λ found. Ends found (c ∷ t)) (escape_productions table parameters c t) (ends_none (c ∷ t)) (productions-end c t)
 
+  pub atom-ends : (c : ℕ) (t : Source) → Ends (class_atom_at table parameters (c ∷ t)) t
+  atom-ends c t =
+      ends_cond (c == char "]") _ _ t (ends_none t)
+      (ends_cond (c == char "\\") _ _ t (escape-ends t) (ends_some (character c, t) t (after_same t)))
+
   pub atom-shortens : (t u : Source) (a : ClassAtom) → class_atom_at table parameters t ≡ Some (a, u) → length u < length t
   atom-shortens [] u a e = absurd (none-some (a, u) e)
-  atom-shortens (c ∷ t) u a e =
-      let ends : Ends (class_atom_at table parameters (c ∷ t)) t =
-      ends_cond (c == char "]") _ _ t (ends_none t)
-      (ends_cond (c == char "\\") _ _ t (escape-ends t) (ends_some (character c, t) t (after_same t))) in
-      omega (arith, after_shorter t u (ends.each (a, u) e))
+  atom-shortens (c ∷ t) u a e = omega (arith, after_shorter t u ((atom-ends c t).each (a, u) e))
 
 -- ---- what is found
 
@@ -86,11 +88,6 @@ pub each_at : {A : Type 0} (P : A × Source → Type 0) (found : Found A) → Ea
 unfolding Each
 each_at P found h x e = h x e
 
--- what a source begins with
-pub front_is : (k : ℕ) (t : Source) → is_at k t ≡ true → t ≡ k ∷ drop 1 t
-front_is k [] e = absurd (false≢true e)
-front_is k (c ∷ t) e = ap (λ (d : ℕ). d ∷ t) (eqb-true c k e)
-
 module _ (table : Table) (icase named : Bool) where
   abbrev parameters : Parameters
   parameters = own icase true named
@@ -101,120 +98,11 @@ module _ (table : Table) (icase named : Bool) where
   abbrev atom : Source → Found ClassAtom
   atom t = class_atom table true named t
 
-  abbrev no_dash : Source → Found ClassAtom
-  no_dash t = class_atom_no_dash table true named t
-
   abbrev Ranges : ClassContents → (t rest : Source) → Type 0
   Ranges node t rest = IsNonemptyClassRanges table true named node t rest
 
-  abbrev NoDash : ClassContents → (t rest : Source) → Type 0
-  NoDash node t rest = IsNonemptyClassRangesNoDash table true named node t rest
-
   abbrev Contents : ClassContents → (t rest : Source) → Type 0
   Contents node t rest = IsClassContents table true named node t rest
-
-  -- ---- atoms
-
-  no_dash_first : (t : Source) → no_dash (char "-" ∷ t) ≡ None
-  unfolding class_atom_no_dash
-  no_dash_first t = refl
-
-  no_atom : (t : Source) → atom (char "]" ∷ t) ≡ None
-  unfolding class_atom class_atom_no_dash
-  no_atom t = refl
-
-  other_first : (t : Source) → is_at (char "-") t ≡ false → atom t ≡ no_dash t
-  unfolding class_atom
-  other_first [] e = or_none (no_dash [])
-  other_first (c ∷ t) e =
-      ap (λ (b : Bool). option_or (if b then Some (character (char "-"), t) else None) (option_or (no_dash (c ∷ t)) None)) e ∙ or_none (no_dash (c ∷ t))
-
-  -- An atom that is no hyphen is ClassAtom too.
-  is_atom : (t u : Source) (a : ClassAtom) → no_dash t ≡ Some (a, u) → (atom t ≡ Some (a, u)) × (is_at (char "-") t ≡ false)
-  is_atom t u a e = by_case (is_at (char "-") t) dash (λ other. (other_first t other ∙ e, other))
-    where
-      dash : is_at (char "-") t ≡ true → (atom t ≡ Some (a, u)) × (is_at (char "-") t ≡ false)
-      dash f = absurd (none-some (a, u) (sym (no_dash_first (drop 1 t)) ∙ sym (ap no_dash (front_is (char "-") t f)) ∙ e))
-
-  hyphen_rest : (t : Source) (x : ClassAtom × Source) → is_at (char "-") t ≡ true → atom t ≡ Some x → x ≡ (character (char "-"), drop 1 t)
-  unfolding class_atom
-  hyphen_rest t x f e = sym (same_Some (character (char "-"), drop 1 t) x (sym (ap atom (front_is (char "-") t f)) ∙ e))
-
-  -- ---- what follows an atom
-
-  end_closes : (t rest : Source) → t ≡ char "]" ∷ rest → begins_range t ≡ false
-  end_closes t rest e = ap begins_range e
-
-  -- Nothing begins with `]`.
-  pub none_at_end : (node : ClassContents) (t rest : Source) → Ranges node (char "]" ∷ t) rest → ⊥
-  none_at_end empty t rest h = h
-  none_at_end (atom_then a more) t rest h = none-some (a, h.0) (sym (no_atom t) ∙ h.1)
-  none_at_end (range_then a b more) t rest h = none-some (a, char "-" ∷ h.0) (sym (no_atom t) ∙ h.2)
-  none_at_end (intersection left right) t rest h = h
-  none_at_end (subtraction left right) t rest h = h
-
-  none_at_end_either : (node : ClassContents) (t rest : Source) → NoDash node (char "]" ∷ t) rest → ⊥
-  none_at_end_either empty t rest h = h
-  none_at_end_either (atom_then a more) t rest (u, inl (e, is_empty, same)) = none-some (a, u) (sym (no_atom t) ∙ e)
-  none_at_end_either (atom_then a more) t rest (u, inr (e, h)) = none-some (a, u) (sym (no_atom t) ∙ (is_atom (char "]" ∷ t) u a e).0)
-  none_at_end_either (range_then a b more) t rest h =
-      none-some (a, char "-" ∷ h.0) (sym (no_atom t) ∙ (is_atom (char "]" ∷ t) (char "-" ∷ h.0) a h.2).0)
-  none_at_end_either (intersection left right) t rest h = h
-  none_at_end_either (subtraction left right) t rest h = h
-
-  begins_not : (t : Source) → is_at (char "-") t ≡ false → begins_range t ≡ false
-  begins_not t e = ap (λ (b : Bool). b && not (is_at (char "]") (drop 1 t))) e
-
-  hyphen_ends : (t : Source) → is_at (char "-") t ≡ true → begins_range t ≡ false → is_at (char "]") (drop 1 t) ≡ true
-  hyphen_ends t dash none = by (is_at (char "]") (drop 1 t)) (sym (ap (λ (b : Bool). b && not (is_at (char "]") (drop 1 t))) dash) ∙ none)
-    where
-      by : (b : Bool) → not b ≡ false → b ≡ true
-      by true e = refl
-      by false e = sym e
-
-  -- NonemptyClassRangesNoDash, where no hyphen begins a range
-  to_no_dash : (node : ClassContents) (t rest : Source) → begins_range t ≡ false → Ranges node t (char "]" ∷ rest) → NoDash node t (char "]" ∷ rest)
-  to_no_dash empty t rest none h = h
-  to_no_dash (atom_then a more) t rest none (u, e, inl (is_empty, same)) = (u, inl (e, is_empty, same))
-  to_no_dash (atom_then a more) t rest none (u, e, inr h) =
-      by_case (is_at (char "-") t) dash (λ other. (u, inr (sym (other_first t other) ∙ e, h)))
-    where
-      dash : is_at (char "-") t ≡ true → NoDash (atom_then a more) t (char "]" ∷ rest)
-      dash f =
-          let at_end : u ≡ char "]" ∷ drop 1 (drop 1 t) =
-          ap (λ (x : ClassAtom × Source). x.1) (hyphen_rest t (a, u) f e) ∙ front_is (char "]") (drop 1 t) (hyphen_ends t f none) in
-          absurd (none_at_end_either more (drop 1 (drop 1 t)) (char "]" ∷ rest) (subst (λ (w : Source). NoDash more w (char "]" ∷ rest)) at_end h))
-  to_no_dash (range_then a b more) t rest none (u, v, e, f, h) =
-      by_case (is_at (char "-") t) dash (λ other. (u, v, sym (other_first t other) ∙ e, f, h))
-    where
-      dash : is_at (char "-") t ≡ true → NoDash (range_then a b more) t (char "]" ∷ rest)
-      dash g =
-          let same : char "-" ∷ u ≡ drop 1 t = ap (λ (x : ClassAtom × Source). x.1) (hyphen_rest t (a, char "-" ∷ u) g e) in
-          absurd (false≢true (ap (is_at (char "]")) same ∙ hyphen_ends t g none))
-  to_no_dash (intersection left right) t rest none h = h
-  to_no_dash (subtraction left right) t rest none h = h
-
-  -- No hyphen begins a range there.
-  no_range : (node : ClassContents) (t rest : Source) → NoDash node t (char "]" ∷ rest) → begins_range t ≡ false
-  no_range empty t rest h = absurd h
-  no_range (atom_then a more) t rest (u, inl (e, is_empty, same)) = by_case (is_at (char "-") t) dash (begins_not t)
-    where
-      dash : is_at (char "-") t ≡ true → begins_range t ≡ false
-      dash f =
-          let at_end : char "]" ∷ rest ≡ drop 1 t = sym same ∙ ap (λ (x : ClassAtom × Source). x.1) (hyphen_rest t (a, u) f e) in
-          ap (λ (b : Bool). b && not (is_at (char "]") (drop 1 t))) f ∙ ap (λ (w : Source). not (is_at (char "]") w)) (sym at_end)
-  no_range (atom_then a more) t rest (u, inr (e, h)) = begins_not t (is_atom t u a e).1
-  no_range (range_then a b more) t rest (u, v, e, f, h) = begins_not t (is_atom t (char "-" ∷ u) a e).1
-  no_range (intersection left right) t rest h = absurd h
-  no_range (subtraction left right) t rest h = absurd h
-
-  from_no_dash : (node : ClassContents) (t rest : Source) → NoDash node t (char "]" ∷ rest) → Ranges node t (char "]" ∷ rest)
-  from_no_dash empty t rest h = h
-  from_no_dash (atom_then a more) t rest (u, inl (e, is_empty, same)) = (u, e, inl (is_empty, same))
-  from_no_dash (atom_then a more) t rest (u, inr (e, h)) = (u, (is_atom t u a e).0, inr h)
-  from_no_dash (range_then a b more) t rest (u, v, e, f, h) = (u, v, (is_atom t (char "-" ∷ u) a e).0, f, h)
-  from_no_dash (intersection left right) t rest h = h
-  from_no_dash (subtraction left right) t rest h = h
 
   -- ---- from the parts
 
@@ -223,7 +111,7 @@ module _ (table : Table) (icase named : Bool) where
 
   one_then : (a : ClassAtom) (t u : Source) → parsed t ≡ Some (a, u) → begins_range u ≡ false → IsPart t (atom_then a, u)
   one_then a t u e none more rest (inl (is_empty, same)) = (u, atom_u table icase named t ∙ e, inl (is_empty, same))
-  one_then a t u e none more rest (inr h) = (u, atom_u table icase named t ∙ e, inr (to_no_dash more u rest none h))
+  one_then a t u e none more rest (inr h) = (u, atom_u table icase named t ∙ e, inr (to_no_dash table true named more u rest none h))
 
   range_and : (a b : ClassAtom) (t u v : Source) → parsed t ≡ Some (a, u) → begins_range u ≡ true → parsed (drop 1 u) ≡ Some (b, v) →
       IsPart t (range_then a b, v)
@@ -262,25 +150,15 @@ module _ (table : Table) (icase named : Bool) where
   unfolding class_ranges_by
   goes_on n t u rest with_part more open_ e f = rw (class_ranges_by, open_, e, f) refl
 
-  not_closed : (node : ClassContents) (t rest : Source) → Ranges node t rest → is_at (char "]") t ≡ false
-  not_closed node t rest h =
-      by_case (is_at (char "]") t)
-      (λ closes. absurd (none_at_end node (drop 1 t) rest (subst (λ (w : Source). Ranges node w rest) (front_is (char "]") t closes) h))) (λ e. e)
-
   atom_part : (t u : Source) (a : ClassAtom) → atom t ≡ Some (a, u) → begins_range u ≡ false → class_part_at table parameters t ≡ Some (atom_then a, u)
   atom_part t u a e none = let found = sym (atom_u table icase named t) ∙ e in rw (found, none) refl
-
-  atom_opens : (t u : Source) (a : ClassAtom) → atom t ≡ Some (a, u) → is_at (char "]") t ≡ false
-  atom_opens t u a e =
-      by_case (is_at (char "]") t)
-      (λ closes. absurd (none-some (a, u) (sym (no_atom (drop 1 t)) ∙ sym (ap atom (front_is (char "]") t closes)) ∙ e))) (λ f. f)
 
   range_part : (t u v : Source) (a b : ClassAtom) → atom t ≡ Some (a, char "-" ∷ u) → atom u ≡ Some (b, v) →
       class_part_at table parameters t ≡ Some (range_then a b, v)
   range_part t u v a b e f =
       let found = sym (atom_u table icase named t) ∙ e in
       let next = sym (atom_u table icase named u) ∙ f in
-      let opens = atom_opens u v b f in
+      let opens = atom_opens table true named u v b f in
       rw (found, opens, next) refl
 
   shorter : (w u : Source) (a : ClassAtom) → atom w ≡ Some (a, u) → length u < length w
@@ -292,16 +170,16 @@ module _ (table : Table) (icase named : Bool) where
   ranges_step n t short others empty rest k = absurd k
   ranges_step n t short others (atom_then a more) rest (u, e, inl (is_empty, same)) =
       let less = shorter t u a e in
-      goes_on n t u rest (atom_then a) more (not_closed (atom_then a more) t (char "]" ∷ rest) (u, e, inl (is_empty, same)))
+      goes_on n t u rest (atom_then a) more (not_closed table true named (atom_then a more) t (char "]" ∷ rest) (u, e, inl (is_empty, same)))
       (atom_part t u a e (end_closes u rest same)) (others u (omega arith) more rest (inl (is_empty, same)))
   ranges_step n t short others (atom_then a more) rest (u, e, inr k) =
       let less = shorter t u a e in
-      goes_on n t u rest (atom_then a) more (not_closed (atom_then a more) t (char "]" ∷ rest) (u, e, inr k))
-      (atom_part t u a e (no_range more u rest k)) (others u (omega arith) more rest (inr (from_no_dash more u rest k)))
+      goes_on n t u rest (atom_then a) more (not_closed table true named (atom_then a more) t (char "]" ∷ rest) (u, e, inr k))
+      (atom_part t u a e (no_range table true named more u rest k)) (others u (omega arith) more rest (inr (from_no_dash table true named more u rest k)))
   ranges_step n t short others (range_then a b more) rest (u, v, e, f, k) =
       let less = shorter t (char "-" ∷ u) a e in
       let less_again = shorter u v b f in
-      goes_on n t v rest (range_then a b) more (not_closed (range_then a b more) t (char "]" ∷ rest) (u, v, e, f, k))
+      goes_on n t v rest (range_then a b) more (not_closed table true named (range_then a b more) t (char "]" ∷ rest) (u, v, e, f, k))
       (range_part t u v a b e f) (others v (omega arith) more rest k)
   ranges_step n t short others (intersection left right) rest k = absurd k
   ranges_step n t short others (subtraction left right) rest k = absurd k

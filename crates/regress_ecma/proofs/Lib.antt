@@ -39,6 +39,8 @@ mod EscapesWithU
 mod OctalEscapes
 mod EscapesWithoutU
 mod ClassAtomNodes
+mod ClassDerivations
 mod ClassRangeNodes
+mod ClassUnitNodes
 mod ClassRangeErrors
 mod AcceptedClasses

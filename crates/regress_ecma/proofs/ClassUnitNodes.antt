@@ -1,0 +1,244 @@
+-- The parts of a class without the flags u and v are those that NonemptyClassRanges of ECMA-262 derives. A code point above
+-- U+FFFF is two characters there.
+use Rattle.std.proofs.Common.{◌≡◌, ℕ, zero, suc, ◌+◌, ◌-◌, ◌/◌, ◌<◌, ◌≤◌, ◌==◌, ◌⊎◌, inl, inr, Bool, true, false, not, ◌&&◌, ◌||◌, List, [], ◌∷◌, length, drop, Option, Some, None, if◌then◌else◌, refl, sym, ap, subst, ◌∙◌, eqb-true, nat_le, arith}
+use Rattle.std.specs.Option.{option_or}
+use Rattle.std.specs.List.{All}
+use Rattle.std.proofs.lemmas.Bool.{false≢true, and_parts}
+use Rattle.std.proofs.lemmas.Bool.Decides.{nat_tests}
+use Rattle.std.proofs.lemmas.Option.{none-some, same_Some}
+use Rattle.std.proofs.lemmas.List.Elements.{All-head}
+use Rattle.regress_base.specs.Intervals.{code_point_max}
+use Rattle.regress_base.specs.Table.{Table}
+use Rattle.regress_lexer.specs.Escapes.{lead_surrogate, trail_surrogate}
+use Rattle.regress_base.specs.declared.charclasses.CharacterClassType.{CharacterClassType}
+use Rattle.regress_lexer.specs.Source.{Source, Found, ◌>>=◌, found_map, first_production, IsCodePoint, char, is_at, is_one_of}
+use Rattle.regress_lexer.specs.Digits.{is_decimal, is_letter, control}
+use Rattle.regress_lexer.proofs.lemmas.Sources.{EachProduction, no_more, ◌also◌, first_production-has}
+use Rattle.regress_lexer.proofs.lemmas.InRange.{Finds, finds_none, finds_some, finds_cond, finds_map, finds_then, character_escape_at-in_range}
+use Rattle.regress_lexer.proofs.lemmas.After.{after_all, after_drop}
+use Rattle.regress_classes.specs.ClassProductions.{begins_range, class_letter}
+use Rattle.regress_classes.specs.declared.parameters.Parameters.{Parameters}
+use Rattle.regress_classes.specs.Properties.{Property, of_points, of_strings, property_at}
+use Rattle.regress_ecma.specs.ClassGrammar.{property_node, control_at, escape_productions, class_escape_at, is_pair, lead, trail, class_atom_at, with_before, with_atom, with_range, with_ranges, class_part_at, class_ranges_by}
+use Rattle.regress_ecma.specs.ClassNodes.{ClassAtom, character, class_escape, property, string_property, class_strings, nested_class, ClassContents, empty, atom_then, range_then, intersection, subtraction}
+use Rattle.regress_ecma.specs.ClassRanges.{class_atom, class_atom_no_dash, IsNonemptyClassRanges, IsNonemptyClassRangesNoDash, IsClassContents, is_wrong_range, has_early_error}
+use Rattle.regress_ecma.proofs.EscapesWithU.{by_case}
+use Rattle.regress_ecma.proofs.ClassAtomNodes.{own, IsAtomOf, atom_is}
+use Rattle.regress_ecma.proofs.ClassDerivations.{front_is, to_no_dash, is_atom, no_atom, atom_opens, not_closed, Alone, InRange, by_first}
+use Rattle.regress_ecma.proofs.ClassRangeNodes.{atom-ends, atom-shortens, Each, each_none, each_some, each_if, each_then, each_at}
+
+-- ---- atoms are code points
+
+abbrev IsPoint : ClassAtom → Type 0
+IsPoint (character c) = IsCodePoint c
+IsPoint (class_escape kind capital) = Unit {0}
+IsPoint (property members capital) = Unit {0}
+IsPoint (string_property strings) = Unit {0}
+IsPoint (class_strings strings) = Unit {0}
+IsPoint (nested_class invert contents) = Unit {0}
+
+Anything : Property → Type 0
+Anything p = Unit {0}
+
+anything : (found : Found Property) → Finds Anything found
+unfolding Anything
+anything found = record { each = λ x e. tt }
+
+property_point : (capital : Bool) (p : Property) → Anything p → IsPoint (property_node capital p)
+property_point capital (of_points members) h = tt
+property_point capital (of_strings strings) h = tt
+
+control_point : (t : Source) → Finds IsPoint (control_at t)
+control_point [] = finds_some IsPoint (character (char "\\"), char "c" ∷ []) (omega arith)
+control_point (d ∷ t) =
+    finds_cond IsPoint (is_letter d || is_decimal d || d == char "_") _ _ (λ _. finds_some IsPoint (character (control d), t) (omega arith))
+    (λ _. finds_some IsPoint (character (char "\\"), char "c" ∷ d ∷ t) (omega arith))
+
+module _ (table : Table) (parameters : Parameters) where
+  escape_point : (t : Source) → All IsCodePoint t → Finds IsPoint (class_escape_at table parameters t)
+  escape_point [] h = finds_none IsPoint
+  escape_point (c ∷ t) h = by (class_letter c)
+    where
+      each : EachProduction (λ found. Finds IsPoint found) (escape_productions table parameters c t)
+      each =
+          (λ _. finds_some IsPoint (character 8, t) (omega arith))
+          also (λ _. finds_some IsPoint (character (char "-"), t) (omega arith))
+          also (λ e. control_point t)
+          also (λ _. finds_map Anything IsPoint (property_node (c == char "P")) (property_at false table t) (property_point (c == char "P")) (anything (property_at false table t)))
+          also (λ _. finds_none IsPoint)
+          also (λ _. finds_map IsCodePoint IsPoint character _ (λ x k. k) (character_escape_at-in_range parameters.dialect parameters.unicode (c ∷ t) h))
+          also no_more
+      by : (letter : Option (CharacterClassType × Bool)) →
+          Finds IsPoint (elim letter as (λ _. Found ClassAtom) [
+            | None ↦ first_production (escape_productions table parameters c t)
+            | Some named ↦ Some (class_escape named.0 named.1, t)
+          ])
+      by (Some named) = finds_some IsPoint (class_escape named.0 named.1, t) tt
+      by None = first_production-has (λ found. Finds IsPoint found) (escape_productions table parameters c t) (finds_none IsPoint) each
+
+  atom_point : (t : Source) → All IsCodePoint t → Finds IsPoint (class_atom_at table parameters t)
+  atom_point [] h = finds_none IsPoint
+  atom_point (c ∷ t) h =
+      finds_cond IsPoint (c == char "]") _ _ (λ _. finds_none IsPoint)
+      (λ _. finds_cond IsPoint (c == char "\\") _ _ (λ _. escape_point t (after_all (c ∷ t) t (after_drop 1 (c ∷ t)) h)) (λ _. finds_some IsPoint (character c, t) (All-head IsCodePoint c t h)))
+
+  rest_points : (t u : Source) (a : ClassAtom) → All IsCodePoint t → class_atom_at table parameters t ≡ Some (a, u) → All IsCodePoint u
+  rest_points [] u a h e = absurd (none-some (a, u) e)
+  rest_points (c ∷ t) u a h e = after_all t u ((atom-ends table parameters c t).each (a, u) e) (after_all (c ∷ t) t (after_drop 1 (c ∷ t)) h)
+
+-- A lead surrogate is below a trail surrogate.
+units_apart : (x y : ℕ) → y ≤ code_point_max → nat_le (trail_surrogate x) (lead_surrogate y) ≡ false
+units_apart x y within =
+    let lead_small : lead_surrogate y < 0xDC00 = omega arith in
+    let trail_large : 0xDC00 ≤ trail_surrogate x = omega arith in
+    grind (arith, nat_tests)
+
+wrong_pair : (a b : ClassAtom) → is_pair a ≡ true → is_pair b ≡ true → IsPoint b → is_wrong_range false (trail a) (lead b) ≡ true
+wrong_pair (character x) (character y) first second point = ap not (units_apart x y point)
+wrong_pair (character x) (class_escape kind capital) first second point = absurd (false≢true second)
+wrong_pair (character x) (property members capital) first second point = absurd (false≢true second)
+wrong_pair (character x) (string_property strings) first second point = absurd (false≢true second)
+wrong_pair (character x) (class_strings strings) first second point = absurd (false≢true second)
+wrong_pair (character x) (nested_class invert contents) first second point = absurd (false≢true second)
+wrong_pair (class_escape kind capital) b first second point = absurd (false≢true first)
+wrong_pair (property members capital) b first second point = absurd (false≢true first)
+wrong_pair (string_property strings) b first second point = absurd (false≢true first)
+wrong_pair (class_strings strings) b first second point = absurd (false≢true first)
+wrong_pair (nested_class invert contents) b first second point = absurd (false≢true first)
+
+module _ (table : Table) (icase named : Bool) where
+  abbrev parameters : Parameters
+  parameters = own icase false named
+
+  abbrev parsed : Source → Found ClassAtom
+  parsed t = class_atom_at table parameters t
+
+  abbrev atom : Source → Found ClassAtom
+  atom t = class_atom table false named t
+
+  abbrev no_dash : Source → Found ClassAtom
+  no_dash t = class_atom_no_dash table false named t
+
+  abbrev Ranges : ClassContents → (t rest : Source) → Type 0
+  Ranges node t rest = IsNonemptyClassRanges table false named node t rest
+
+  abbrev Contents : ClassContents → (t rest : Source) → Type 0
+  Contents node t rest = IsClassContents table false named node t rest
+
+  abbrev error : ClassContents → Bool
+  error node = has_early_error false node
+
+  -- An atom is one character, or two.
+  abbrev At : Bool → ClassAtom → (t rest : Source) → Type 0
+  At false a t rest = atom t ≡ Some (a, rest)
+  At true a t rest = (u : Source) × (atom t ≡ Some (lead a, u)) × (no_dash u ≡ Some (trail a, rest))
+
+  view : (t rest : Source) (a : ClassAtom) → parsed t ≡ Some (a, rest) → At (is_pair a) a t rest
+  view t rest a e = by (subst (λ (found : Found ClassAtom). IsAtomOf table icase false named (atom t) found) e (atom_is table icase false named t))
+    where
+      by : IsAtomOf table icase false named (atom t) (Some (a, rest)) → At (is_pair a) a t rest
+      by (inl (whole, f)) = subst (λ (b : Bool). At b a t rest) (sym whole) f
+      by (inr (u, split, f, g)) = subst (λ (b : Bool). At b a t rest) (sym split) (u, f, g)
+
+  unparsed : (t : Source) → parsed t ≡ None → atom t ≡ None
+  unparsed t e = subst (λ (found : Found ClassAtom). IsAtomOf table icase false named (atom t) found) e (atom_is table icase false named t)
+
+  -- ---- what the parts make of the rest, by whether each atom is two characters
+
+  abbrev before_by : Bool → ClassAtom → ClassContents → ClassContents
+  before_by b a node = if b then atom_then (lead a) node else node
+
+  abbrev last_by : Bool → ClassAtom → ClassAtom
+  last_by b a = if b then trail a else a
+
+  abbrev first_by : Bool → ClassAtom → ClassAtom
+  first_by b a = if b then lead a else a
+
+  abbrev after_by : Bool → ClassAtom → ClassContents → ClassContents
+  after_by b a node = if b then atom_then (trail a) node else node
+
+  error_before : (b : Bool) (a : ClassAtom) (node : ClassContents) → error (before_by b a node) ≡ error node
+  error_before true a node = refl
+  error_before false a node = refl
+
+  error_after : (b : Bool) (a : ClassAtom) (node : ClassContents) → error (after_by b a node) ≡ error node
+  error_after true a node = refl
+  error_after false a node = refl
+
+  one_then : (a : ClassAtom) (t u rest : Source) (more : ClassContents) → atom t ≡ Some (a, u) → begins_range u ≡ false → Contents more u (char "]" ∷ rest) →
+      Ranges (atom_then a more) t (char "]" ∷ rest)
+  one_then a t u rest more e none (inl (is_empty, same)) = (u, e, inl (is_empty, same))
+  one_then a t u rest more e none (inr h) = (u, e, inr (to_no_dash table false named more u rest none h))
+
+  begins_not : (u : Source) → is_at (char "-") u ≡ false → begins_range u ≡ false
+  begins_not u e = ap (λ (b : Bool). b && not (is_at (char "]") (drop 1 u))) e
+
+  -- the first atom, of which the last character is followed by what is derived
+  after_first : (b : Bool) (a : ClassAtom) (t u rest : Source) (node : ClassContents) → At b a t u →
+      ((w : Source) → atom w ≡ Some (last_by b a, u) → Ranges node w (char "]" ∷ rest)) → Ranges (before_by b a node) t (char "]" ∷ rest)
+  after_first false a t u rest node e next = next t e
+  after_first true a t u rest node (w, e, f) next =
+      let found = is_atom table false named w u (trail a) f in
+      one_then (lead a) t w rest node e (begins_not w found.1) (inr (next w found.0))
+
+  -- what follows the last atom of a range
+  after_last : (d : Bool) (c : ClassAtom) (v z rest : Source) (more : ClassContents) → At d c v z → (d && begins_range z) ≡ false →
+      Contents more z (char "]" ∷ rest) → (w : Source) × (atom v ≡ Some (first_by d c, w)) × Contents (after_by d c more) w (char "]" ∷ rest)
+  after_last false c v z rest more e none h = (z, e, h)
+  after_last true c v z rest more (w, e, f) none h =
+      (w, e, inr (one_then (trail c) w z rest more (is_atom table false named w z (trail c) f).0 none h))
+
+  -- ---- from the parts
+
+  or_parts : (a b : Bool) → (a || b) ≡ false → (a ≡ false) × (b ≡ false)
+  or_parts true b e = absurd (false≢true (sym e))
+  or_parts false b e = (refl, e)
+
+  -- What a part makes of the rest, if it has no error.
+  abbrev IsPart : Source → (ClassContents → ClassContents) × Source → Type 0
+  IsPart t x =
+      (more : ClassContents) (rest : Source) → error (x.0 more) ≡ false →
+      (error more ≡ false) × (Contents more x.1 (char "]" ∷ rest) → Ranges (x.0 more) t (char "]" ∷ rest))
+
+  alone_part : (b : Bool) (a : ClassAtom) (t u : Source) → At b a t u → begins_range u ≡ false →
+      IsPart t ((λ more. before_by b a (atom_then (last_by b a) more)), u)
+  alone_part b a t u e none more rest ok =
+      (sym (error_before b a (atom_then (last_by b a) more)) ∙ ok,
+      λ h. after_first b a t u rest (atom_then (last_by b a) more) e (λ w f. one_then (last_by b a) w u rest more f none h))
+
+  range_part : (b d : Bool) (a c : ClassAtom) (t u z : Source) → At b a t u → begins_range u ≡ true → At d c (drop 1 u) z →
+      (d && begins_range z) ≡ false →
+      IsPart t ((λ more. before_by b a (range_then (last_by b a) (first_by d c) (after_by d c more))), z)
+  range_part b d a c t u z e begins f none more rest ok =
+      let fine = or_parts (is_wrong_range false (last_by b a) (first_by d c)) (error (after_by d c more))
+      (sym (error_before b a (range_then (last_by b a) (first_by d c) (after_by d c more))) ∙ ok) in
+      (sym (error_after d c more) ∙ fine.1,
+      λ h. after_first b a t u rest (range_then (last_by b a) (first_by d c) (after_by d c more)) e
+      (λ w g.
+      let tail = after_last d c (drop 1 u) z rest more f none h in
+      (drop 1 u, tail.0,
+      g ∙ ap (λ (k : Source). Some (last_by b a, k)) (front_is (char "-") u (and_parts (is_at (char "-") u) _ begins).0), tail.1, tail.2)))
+
+  abbrev ranges_by : (b d g : Bool) (a c n : ClassAtom) → ClassContents → ClassContents
+  ranges_by b d g a c n more =
+      before_by b a (range_then (last_by b a) (first_by d c) (range_then (last_by d c) (first_by g n) (after_by g n more)))
+
+  -- The last character of the second atom begins a range, whose end is one character, since it is no lead surrogate.
+  ranges_part : (b g : Bool) (a c n : ClassAtom) (t u z y : Source) → At b a t u → begins_range u ≡ true → At true c (drop 1 u) z →
+      begins_range z ≡ true → At g n (drop 1 z) y → (g ≡ true → is_wrong_range false (trail c) (lead n) ≡ true) →
+      IsPart t (ranges_by b true g a c n, y)
+  ranges_part b true a c n t u z y e begins f again k wrong more rest ok =
+      let fine = or_parts (is_wrong_range false (last_by b a) (lead c)) (error (range_then (trail c) (lead n) (atom_then (trail n) more)))
+      (sym (error_before b a (range_then (last_by b a) (lead c) (range_then (trail c) (lead n) (atom_then (trail n) more)))) ∙ ok) in
+      absurd (false≢true (sym (or_parts (is_wrong_range false (trail c) (lead n)) (error more) fine.1).0 ∙ wrong refl))
+  ranges_part b false a c n t u z y e begins (w, f, f') again k wrong more rest ok =
+      let fine = or_parts (is_wrong_range false (last_by b a) (lead c)) (error (range_then (trail c) n more))
+      (sym (error_before b a (range_then (last_by b a) (lead c) (range_then (trail c) n more))) ∙ ok) in
+      ((or_parts (is_wrong_range false (trail c) n) (error more) fine.1).1,
+      λ h. after_first b a t u rest (range_then (last_by b a) (lead c) (range_then (trail c) n more)) e
+      (λ x g.
+      (drop 1 u, w,
+      g ∙ ap (λ (l : Source). Some (last_by b a, l)) (front_is (char "-") u (and_parts (is_at (char "-") u) _ begins).0), f,
+      inr (drop 1 z, y,
+      (is_atom table false named w z (trail c) f').0
+      ∙ ap (λ (l : Source). Some (trail c, l)) (front_is (char "-") z (and_parts (is_at (char "-") z) _ again).0), k, h))))
