@@ -25,14 +25,14 @@ use Rattle.regress_ecma.proofs.ClassRangeNodes.{Each, each_none, each_some, each
 use Rattle.regress_ecma.proofs.Follows.{Follows, follows_none, follows_some, follows_if, follows_then, follows_map, follows_same}
 
 -- any two sets
-abbrev Any : CharSet → CharSet → Type 0
+abbrev pub Any : CharSet → CharSet → Type 0
 Any a b = Unit {0}
 
-found_if : {A : Type 0} (b : Bool) (x y : A) → (if b then Some x else None) ≡ Some y → b ≡ true
+pub found_if : {A : Type 0} (b : Bool) (x y : A) → (if b then Some x else None) ≡ Some y → b ≡ true
 found_if true x y e = refl
 found_if false x y e = absurd (none-some y e)
 
-or_parts : (a b : Bool) → (a || b) ≡ false → (a ≡ false) × (b ≡ false)
+pub or_parts : (a b : Bool) → (a || b) ≡ false → (a ≡ false) × (b ≡ false)
 or_parts true b e = absurd (false≢true (sym e))
 or_parts false b e = (refl, e)
 
@@ -40,7 +40,7 @@ not_false : (b : Bool) → not b ≡ false → b ≡ true
 not_false true e = refl
 not_false false e = sym e
 
-set_is : (node : ClassAtom) → character_of node ≡ None → is_character_class node ≡ true
+pub set_is : (node : ClassAtom) → character_of node ≡ None → is_character_class node ≡ true
 set_is (character c) e = absurd (cc)
 set_is (class_escape kind capital) e = refl
 set_is (property members capital) e = refl

@@ -242,3 +242,53 @@ module _ (table : Table) (icase named : Bool) where
       inr (drop 1 z, y,
       (is_atom table false named w z (trail c) f').0
       ∙ ap (λ (l : Source). Some (trail c, l)) (front_is (char "-") z (and_parts (is_at (char "-") z) _ again).0), k, h))))
+
+  -- code points are left, and it is such a part
+  abbrev IsPartOf : Source → (ClassContents → ClassContents) × Source → Type 0
+  IsPartOf t x = All IsCodePoint x.1 × IsPart t x
+
+  ranges_case : (t : Source) → All IsCodePoint t → (a c n : ClassAtom) (u z y : Source) → parsed t ≡ Some (a, u) → begins_range u ≡ true →
+      parsed (drop 1 u) ≡ Some (c, z) → (is_pair c && begins_range z) ≡ true → parsed (drop 1 z) ≡ Some (n, y) →
+      IsPartOf t (with_ranges table parameters a c n, y)
+  ranges_case t points a c n u z y e begins f both g =
+      let at_c = rest_points table parameters t u a points e in
+      let at_z = rest_points table parameters (drop 1 u) z c (after_all u (drop 1 u) (after_drop 1 u) at_c) f in
+      let at_n = after_all z (drop 1 z) (after_drop 1 z) at_z in
+      let parts = and_parts (is_pair c) (begins_range z) both in
+      (rest_points table parameters (drop 1 z) y n at_n g,
+      subst (λ (d : Bool). At d c (drop 1 u) z → IsPart t (ranges_by (is_pair a) d (is_pair n) a c n, y)) (sym parts.0)
+      (λ k. ranges_part (is_pair a) (is_pair n) a c n t u z y (view t u a e) begins k parts.1 (view (drop 1 z) y n g)
+      (λ pair. wrong_pair c n parts.0 pair ((atom_point table parameters (drop 1 z) at_n).each (n, y) g)))
+      (view (drop 1 u) z c f))
+
+  part_is : (t : Source) → All IsCodePoint t → Each (IsPartOf t) (class_part_at table parameters t)
+  part_is t points =
+      each_then (IsPartOf t) (parsed t) _
+      (λ x e. each_if (IsPartOf t) (begins_range x.1) _ _
+      (λ begins. each_then (IsPartOf t) (parsed (drop 1 x.1)) _
+      (λ y f. each_if (IsPartOf t) (is_pair y.0 && begins_range y.1) _ _
+      (λ both. each_then (IsPartOf t) (parsed (drop 1 y.1)) _
+      (λ z g. each_some (IsPartOf t) (with_ranges table parameters x.0 y.0 z.0, z.1) (ranges_case t points x.0 y.0 z.0 x.1 y.1 z.1 e begins f both g)))
+      (λ none. each_some (IsPartOf t) (with_range table parameters x.0 y.0, y.1)
+      (rest_points table parameters (drop 1 x.1) y.1 y.0 (after_all x.1 (drop 1 x.1) (after_drop 1 x.1) (rest_points table parameters t x.1 x.0 points e)) f,
+      range_part (is_pair x.0) (is_pair y.0) x.0 y.0 t x.1 y.1 (view t x.1 x.0 e) begins (view (drop 1 x.1) y.1 y.0 f) none))))
+      (λ none. each_some (IsPartOf t) (with_atom table parameters x.0, x.1)
+      (rest_points table parameters t x.1 x.0 points e, alone_part (is_pair x.0) x.0 t x.1 (view t x.1 x.0 e) none)))
+
+  abbrev AreContents : Source → ClassContents × Source → Type 0
+  AreContents t x = error x.0 ≡ false → Contents x.0 t (char "]" ∷ x.1)
+
+  pub parts_derive : (n : ℕ) (t : Source) → All IsCodePoint t → Each (AreContents t) (class_ranges_by table parameters n t)
+  unfolding class_ranges_by
+  parts_derive zero t points = each_none (AreContents t)
+  parts_derive (suc n) t points =
+      each_if (AreContents t) (is_at (char "]") t) _ _
+      (λ closes. each_some (AreContents t) (empty, drop 1 t) (λ ok. inl (refl, front_is (char "]") t closes)))
+      (λ _. each_then (AreContents t) (class_part_at table parameters t) _
+      (λ x e.
+      let part = each_at (IsPartOf t) _ (part_is t points) x e in
+      each_then (AreContents t) (class_ranges_by table parameters n x.1) _
+      (λ y f. each_some (AreContents t) (x.0 y.0, y.1)
+      (λ ok.
+      let fine = part.1 y.0 y.1 ok in
+      inr (fine.1 (each_at (AreContents x.1) _ (parts_derive n x.1 part.0) y f fine.0))))))

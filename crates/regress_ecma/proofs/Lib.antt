@@ -43,4 +43,5 @@ mod ClassDerivations
 mod ClassRangeNodes
 mod ClassUnitNodes
 mod ClassRangeErrors
+mod ClassUnitErrors
 mod AcceptedClasses
