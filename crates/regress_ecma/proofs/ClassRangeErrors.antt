@@ -36,7 +36,7 @@ pub or_parts : (a b : Bool) → (a || b) ≡ false → (a ≡ false) × (b ≡ f
 or_parts true b e = absurd (false≢true (sym e))
 or_parts false b e = (refl, e)
 
-not_false : (b : Bool) → not b ≡ false → b ≡ true
+pub not_false : (b : Bool) → not b ≡ false → b ≡ true
 not_false true e = refl
 not_false false e = sym e
 
@@ -47,6 +47,71 @@ set_is (property members capital) e = refl
 set_is (string_property strings) e = refl
 set_is (class_strings strings) e = refl
 set_is (nested_class invert contents) e = refl
+
+-- ---- atoms of ECMA-262 are parsed
+
+module _ (table : Table) (rer : Flags) (parameters : Parameters) where
+  abbrev pub Back : ClassProductions.ClassAtom → ClassAtom → Type 0
+  Back a node = IsAtomOf table rer Any node a
+
+  control_back : (t : Source) → Follows Back (control_at t) (class_control_at t)
+  control_back [] = follows_some Back (point (char "\\")) (character (char "\\")) (char "c" ∷ []) refl
+  control_back (d ∷ t) =
+      follows_if Back (is_letter d || is_decimal d || d == char "_") _ _ _ _ (λ _. follows_some Back _ _ t refl)
+      (λ _. follows_some Back _ _ (char "c" ∷ d ∷ t) refl)
+
+  abbrev SamePoints : Property → Property → Type 0
+  SamePoints q p = (q ≡ p) × IsOfPoints p
+
+  property_back : (negated : Bool) (q p : Property) (t : Source) → SamePoints q p → Follows Back (Some (property_node negated p, t)) (class_property negated (q, t))
+  property_back negated q (of_points members) t same =
+      subst (λ (r : Property). Follows Back (Some (property members negated, t)) (class_property negated (r, t))) (sym same.0)
+      (follows_some Back (set (complement_if negated members)) (property members negated) t (refl, tt))
+  property_back negated q (of_strings written) t same = absurd same.1
+
+  escapes_back : (c : ℕ) (t : Source) →
+      Follows Back (first_production (escape_productions table parameters c t)) (first_production (class_escape_productions table parameters c t))
+  escapes_back c t =
+      follows_if Back (c == char "b") _ _ _ _ (λ _. follows_some Back (point 8) (character 8) t refl)
+      (λ _. follows_if Back (c == char "-" && parameters.unicode) _ _ _ _ (λ _. follows_some Back (point (char "-")) (character (char "-")) t refl)
+      (λ _. follows_if Back (c == char "c" && not parameters.unicode) _ _ _ _ (λ _. control_back t)
+      (λ _. follows_if Back (is_one_of "pP" c && parameters.unicode) _ _ _ _
+      (λ _.
+      follows_then SamePoints Back (property_at false table t) (property_at false table t) _ _
+      (record { each = λ x u e. record { value = x; found = e; related = (refl, (property_points table t).each (x, u) e) } })
+      (λ p q u same. property_back (c == char "P") q p u same))
+      (λ _.
+      follows_if Back (c == char "k" && parameters.named && reserves_k parameters.dialect) _ _ _ _ (λ _. follows_none Back None)
+      (λ _.
+      follows_map (λ (y x : ℕ). y ≡ x) Back character point
+      (character_escape_at parameters.dialect parameters.unicode (c ∷ t)) (character_escape_at parameters.dialect parameters.unicode (c ∷ t)) (follows_same _)
+      (λ x y same. ap character (sym same)))))))
+
+  class_escape_back : (t : Source) → Follows Back (class_escape_at table parameters t) (ClassProductions.class_escape_at table parameters t)
+  class_escape_back [] = follows_none Back None
+  class_escape_back (c ∷ t) = by (class_letter c)
+    where
+      by : (letter : Option (CharacterClassType × Bool)) →
+          Follows Back
+          (elim letter as (λ _. Found ClassAtom) [
+            | None ↦ first_production (escape_productions table parameters c t)
+            | Some named ↦ Some (class_escape named.0 named.1, t)
+          ])
+          (elim letter as (λ _. Found ClassProductions.ClassAtom) [
+            | None ↦ first_production (class_escape_productions table parameters c t)
+            | Some named ↦ Some (set (class_members table parameters named), t)
+          ])
+      by None = escapes_back c t
+      by (Some (kind, capital)) =
+          follows_some Back (set (class_members table parameters (kind, capital))) (class_escape kind capital) t (refl, tt)
+
+  pub atom_back : (t : Source) → Follows Back (class_atom_at table parameters t) (ClassProductions.class_atom_at table parameters t)
+  atom_back [] = follows_none Back None
+  atom_back (c ∷ t) =
+      follows_if Back (c == char "]") _ _ _ _ (λ _. follows_none Back None)
+      (λ _.
+      follows_if Back (c == char "\\") _ _ _ _ (λ _. class_escape_back t)
+      (λ _. follows_some Back (point c) (character c) t refl))
 
 module _ (table : Table) (rer : Flags) (icase named : Bool) where
   abbrev parameters : Parameters
@@ -129,68 +194,6 @@ module _ (table : Table) (rer : Flags) (icase named : Bool) where
 
   -- ---- parts without an error are accepted
 
-  abbrev Back : ClassProductions.ClassAtom → ClassAtom → Type 0
-  Back a node = Is node a
-
-  control_back : (t : Source) → Follows Back (control_at t) (class_control_at t)
-  control_back [] = follows_some Back (point (char "\\")) (character (char "\\")) (char "c" ∷ []) refl
-  control_back (d ∷ t) =
-      follows_if Back (is_letter d || is_decimal d || d == char "_") _ _ _ _ (λ _. follows_some Back _ _ t refl)
-      (λ _. follows_some Back _ _ (char "c" ∷ d ∷ t) refl)
-
-  abbrev SamePoints : Property → Property → Type 0
-  SamePoints q p = (q ≡ p) × IsOfPoints p
-
-  property_back : (negated : Bool) (q p : Property) (t : Source) → SamePoints q p → Follows Back (Some (property_node negated p, t)) (class_property negated (q, t))
-  property_back negated q (of_points members) t same =
-      subst (λ (r : Property). Follows Back (Some (property members negated, t)) (class_property negated (r, t))) (sym same.0)
-      (follows_some Back (set (complement_if negated members)) (property members negated) t (refl, tt))
-  property_back negated q (of_strings written) t same = absurd same.1
-
-  escapes_back : (c : ℕ) (t : Source) →
-      Follows Back (first_production (escape_productions table parameters c t)) (first_production (class_escape_productions table parameters c t))
-  escapes_back c t =
-      follows_if Back (c == char "b") _ _ _ _ (λ _. follows_some Back (point 8) (character 8) t refl)
-      (λ _. follows_if Back (c == char "-" && parameters.unicode) _ _ _ _ (λ _. follows_some Back (point (char "-")) (character (char "-")) t refl)
-      (λ _. follows_if Back (c == char "c" && not parameters.unicode) _ _ _ _ (λ _. control_back t)
-      (λ _. follows_if Back (is_one_of "pP" c && parameters.unicode) _ _ _ _
-      (λ _.
-      follows_then SamePoints Back (property_at false table t) (property_at false table t) _ _
-      (record { each = λ x u e. record { value = x; found = e; related = (refl, (property_points table t).each (x, u) e) } })
-      (λ p q u same. property_back (c == char "P") q p u same))
-      (λ _.
-      follows_if Back (c == char "k" && parameters.named && reserves_k parameters.dialect) _ _ _ _ (λ _. follows_none Back None)
-      (λ _.
-      follows_map (λ (y x : ℕ). y ≡ x) Back character point
-      (character_escape_at parameters.dialect parameters.unicode (c ∷ t)) (character_escape_at parameters.dialect parameters.unicode (c ∷ t)) (follows_same _)
-      (λ x y same. ap character (sym same)))))))
-
-  class_escape_back : (t : Source) → Follows Back (class_escape_at table parameters t) (ClassProductions.class_escape_at table parameters t)
-  class_escape_back [] = follows_none Back None
-  class_escape_back (c ∷ t) = by (class_letter c)
-    where
-      by : (letter : Option (CharacterClassType × Bool)) →
-          Follows Back
-          (elim letter as (λ _. Found ClassAtom) [
-            | None ↦ first_production (escape_productions table parameters c t)
-            | Some named ↦ Some (class_escape named.0 named.1, t)
-          ])
-          (elim letter as (λ _. Found ClassProductions.ClassAtom) [
-            | None ↦ first_production (class_escape_productions table parameters c t)
-            | Some named ↦ Some (set (class_members table parameters named), t)
-          ])
-      by None = escapes_back c t
-      by (Some (kind, capital)) =
-          follows_some Back (set (class_members table parameters (kind, capital))) (class_escape kind capital) t (refl, tt)
-
-  atom_back : (t : Source) → Follows Back (class_atom_at table parameters t) (ClassProductions.class_atom_at table parameters t)
-  atom_back [] = follows_none Back None
-  atom_back (c ∷ t) =
-      follows_if Back (c == char "]") _ _ _ _ (λ _. follows_none Back None)
-      (λ _.
-      follows_if Back (c == char "\\") _ _ _ _ (λ _. class_escape_back t)
-      (λ _. follows_some Back (point c) (character c) t refl))
-
   -- members are found, and this source is left
   abbrev IsFound : Found (List Bounds) → Source → Type 0
   IsFound found rest = (members : List Bounds) × (found ≡ Some (members, rest))
@@ -202,8 +205,8 @@ module _ (table : Table) (rer : Flags) (icase named : Bool) where
   range_back : (t u v : Source) (first last : ClassAtom) → class_atom_at table parameters t ≡ Some (first, u) → begins_range u ≡ true →
       class_atom_at table parameters (drop 1 u) ≡ Some (last, v) → PartBack t (range_then first last, v)
   range_back t u v first last e begins f more ok =
-      let from = (atom_back t).each first u e in
-      let to = (atom_back (drop 1 u)).each last v f in
+      let from = (atom_back table rer parameters t).each first u e in
+      let to = (atom_back table rer parameters (drop 1 u)).each last v f in
       let parts = or_parts (is_wrong_range true first last) (has_early_error true more) ok in
       let found = in_order first last from.value to.value from.related to.related parts.0 in
       let start = from.found in
@@ -215,7 +218,7 @@ module _ (table : Table) (rer : Flags) (icase named : Bool) where
   atom_alone_back : (t u : Source) (first : ClassAtom) → class_atom_at table parameters t ≡ Some (first, u) → begins_range u ≡ false →
       PartBack t (atom_then first, u)
   atom_alone_back t u first e none more ok =
-      let from = (atom_back t).each first u e in
+      let from = (atom_back table rer parameters t).each first u e in
       let start = from.found in
       (ok, (atom_members false from.value, rw (start, none) refl))
 

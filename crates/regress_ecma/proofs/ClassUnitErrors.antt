@@ -8,7 +8,7 @@ use Rattle.regress_base.specs.declared.types.Flags.{Flags}
 use Rattle.regress_lexer.specs.Escapes.{lead_surrogate, trail_surrogate}
 use Rattle.regress_lexer.specs.Source.{Source, Found, ◌>>=◌, found_map, char, is_at}
 use Rattle.regress_classes.specs.declared.parameters.Parameters.{Parameters}
-use Rattle.regress_classes.specs.ClassProductions.{point, set, atom_members, last_unit, first_unit, range_of, begins_range, begins_next, range_to, range_end_at, ranges_to, class_parts_by}
+use Rattle.regress_classes.specs.ClassProductions.{point, set, one_point, units_before, units_after, atom_members, last_unit, first_unit, range_of, begins_range, begins_next, range_to, range_end_at, ranges_to, class_parts_by}
 use Rattle.regress_classes.specs.ClassProductions as ClassProductions
 use Rattle.regress_ecma.specs.Notation.{CharSet}
 use Rattle.regress_ecma.specs.CharSets.{character_of}
@@ -17,7 +17,8 @@ use Rattle.regress_ecma.specs.ClassNodes.{ClassAtom, character, class_escape, pr
 use Rattle.regress_ecma.specs.ClassRanges.{is_character_class, character_value, is_wrong_range, has_early_error}
 use Rattle.regress_ecma.proofs.ClassAtoms.{IsAtomOf, HasRelatedSets, atom_follows}
 use Rattle.regress_ecma.proofs.ClassAtomNodes.{own}
-use Rattle.regress_ecma.proofs.ClassRangeErrors.{Any, found_if, set_is}
+use Rattle.regress_ecma.proofs.ClassRangeErrors.{Any, found_if, or_parts, not_false, set_is, atom_back}
+use Rattle.regress_ecma.proofs.ClassRangeNodes.{Each, each_none, each_some, each_if, each_then, each_at}
 use Rattle.regress_ecma.proofs.Follows.{Follows, follows_none, follows_some, follows_if, follows_then}
 
 set_whole : (node : ClassAtom) → character_of node ≡ None → is_pair node ≡ false
@@ -204,3 +205,105 @@ module _ (table : Table) (rer : Flags) (icase named : Bool) where
       (λ members with_part rest is_part.
       follows_then IsFine IsFine _ _ _ _ (parts_follow n rest)
       (λ others more after fine. follows_some IsFine (with_part more) (members ++ others) after (is_part more fine))))
+
+  -- ---- parts without an error are accepted
+
+  in_order : (first last : ClassAtom) (a b : ClassProductions.ClassAtom) → Is first a → Is last b →
+      is_wrong_range false (last_unit_of first) (first_unit_of last) ≡ false → (members : List Bounds) × (range_of true false a b ≡ Some members)
+  in_order first last (point a) (point b) is_first is_last ok =
+      let units = of_units (nat_le 0x10000 a) (nat_le 0x10000 b) (trail_surrogate a) a (lead_surrogate b) b in
+      let fine : not (nat_le (last_unit true a) (first_unit true b)) ≡ false = sym units ∙ (rw (is_first, is_last) at ok) in
+      let members : List Bounds = units_before true a ++ record { first = last_unit true a; last = first_unit true b } ∷ units_after true b in
+      (members, ap (λ (b : Bool). if b then Some members else None) (not_false (nat_le (last_unit true a) (first_unit true b)) fine))
+  in_order first last (point a) (set others) is_first is_last ok = (atom_members true (point a) ++ one_point (char "-") ++ others, refl)
+  in_order first last (set others) (point b) is_first is_last ok = (others ++ one_point (char "-") ++ atom_members true (point b), refl)
+  in_order first last (set others) (set more) is_first is_last ok = (others ++ one_point (char "-") ++ more, refl)
+
+  abbrev IsFound : Found (List Bounds) → Source → Type 0
+  IsFound found rest = (members : List Bounds) × (found ≡ Some (members, rest))
+
+  abbrev PartBack : Source → (ClassContents → ClassContents) × Source → Type 0
+  PartBack t x = (more : ClassContents) → error (x.0 more) ≡ false →
+      (error more ≡ false) × IsFound (ClassProductions.class_part_at table parameters t) x.1
+
+  alone_back : (t u : Source) (first : ClassAtom) → class_atom_at table parameters t ≡ Some (first, u) → begins_range u ≡ false →
+      PartBack t (with_atom table parameters first, u)
+  alone_back t u first e none more ok =
+      let from = (atom_back table rer parameters t).each first u e in
+      let start = from.found in
+      (sym (error_before first (atom_then (last_unit_of first) more)) ∙ ok, (atom_members true from.value, rw (start, none) refl))
+
+  range_back : (t u z : Source) (first last : ClassAtom) → class_atom_at table parameters t ≡ Some (first, u) → begins_range u ≡ true →
+      class_atom_at table parameters (drop 1 u) ≡ Some (last, z) → (is_pair last && begins_range z) ≡ false →
+      PartBack t (with_range table parameters first last, z)
+  range_back t u z first last e begins f none more ok =
+      let from = (atom_back table rer parameters t).each first u e in
+      let to = (atom_back table rer parameters (drop 1 u)).each last z f in
+      let parts = or_parts (is_wrong_range false (last_unit_of first) (first_unit_of last)) (error (with_after table parameters last more))
+      (sym (error_before first (range_then (last_unit_of first) (first_unit_of last) (with_after table parameters last more))) ∙ ok) in
+      let found = in_order first last from.value to.value from.related to.related parts.0 in
+      let start = from.found in
+      let end = to.found in
+      let stops : begins_next parameters to.value z ≡ false = ap (λ (b : Bool). b && begins_range z) (sym (pair_is last to.value to.related)) ∙ none in
+      (sym (error_after last more) ∙ parts.1,
+      (found.0, rw (start, begins, end, stops) (ap (λ (o : Option (List Bounds)). found_by o z) found.1)))
+
+  ranges_back : (t u z y : Source) (first last next : ClassAtom) → class_atom_at table parameters t ≡ Some (first, u) → begins_range u ≡ true →
+      class_atom_at table parameters (drop 1 u) ≡ Some (last, z) → (is_pair last && begins_range z) ≡ true →
+      class_atom_at table parameters (drop 1 z) ≡ Some (next, y) → PartBack t (with_ranges table parameters first last next, y)
+  ranges_back t u z y first last next e begins f both g more ok =
+      let from = (atom_back table rer parameters t).each first u e in
+      let to = (atom_back table rer parameters (drop 1 u)).each last z f in
+      let over = (atom_back table rer parameters (drop 1 z)).each next y g in
+      let tail : ClassContents = range_then (last_unit_of last) (first_unit_of next) (with_after table parameters next more) in
+      let parts = or_parts (is_wrong_range false (last_unit_of first) (first_unit_of last)) (error tail)
+      (sym (error_before first (range_then (last_unit_of first) (first_unit_of last) tail)) ∙ ok) in
+      let rest = or_parts (is_wrong_range false (last_unit_of last) (first_unit_of next)) (error (with_after table parameters next more)) parts.1 in
+      let found = in_order first last from.value to.value from.related to.related parts.0 in
+      let again = in_order last next to.value over.value to.related over.related rest.0 in
+      let start = from.found in
+      let end = to.found in
+      let goes_on : begins_next parameters to.value z ≡ true = ap (λ (b : Bool). b && begins_range z) (sym (pair_is last to.value to.related)) ∙ both in
+      (sym (error_after next more) ∙ rest.1,
+      (found.0 ++ again.0, rw (start, begins, end, goes_on)
+      (ap (λ (o : Option (List Bounds)). found_by o (drop 1 z) >>= λ (members, after). (range_end_at table parameters to.value after >>= added members)) found.1
+      ∙ ap (λ (o : Found ClassProductions.ClassAtom). (o >>= range_to table parameters to.value) >>= added found.0) over.found
+      ∙ ap (λ (o : Option (List Bounds)). found_by o y >>= added found.0) again.1)))
+
+  part_back : (t : Source) → Each (PartBack t) (class_part_at table parameters t)
+  part_back t =
+      each_then (PartBack t) (class_atom_at table parameters t) _
+      (λ x e. each_if (PartBack t) (begins_range x.1) _ _
+      (λ begins. each_then (PartBack t) (class_atom_at table parameters (drop 1 x.1)) _
+      (λ y f. each_if (PartBack t) (is_pair y.0 && begins_range y.1) _ _
+      (λ both. each_then (PartBack t) (class_atom_at table parameters (drop 1 y.1)) _
+      (λ z g. each_some (PartBack t) (with_ranges table parameters x.0 y.0 z.0, z.1) (ranges_back t x.1 y.1 z.1 x.0 y.0 z.0 e begins f both g)))
+      (λ none. each_some (PartBack t) (with_range table parameters x.0 y.0, y.1) (range_back t x.1 y.1 x.0 y.0 e begins f none))))
+      (λ none. each_some (PartBack t) (with_atom table parameters x.0, x.1) (alone_back t x.1 x.0 e none)))
+
+  abbrev PartsBack : ℕ → Source → ClassContents × Source → Type 0
+  PartsBack n t x = error x.0 ≡ false → IsFound (class_parts_by table parameters n t) x.1
+
+  more_back : (n : ℕ) (t u rest : Source) (members others : List Bounds) → is_at (char "]") t ≡ false →
+      ClassProductions.class_part_at table parameters t ≡ Some (members, u) → class_parts_by table parameters n u ≡ Some (others, rest) →
+      class_parts_by table parameters (suc n) t ≡ Some (members ++ others, rest)
+  unfolding class_parts_by
+  more_back n t u rest members others opens e f = rw (class_parts_by, opens, e, f) refl
+
+  closed_back : (n : ℕ) (t : Source) → is_at (char "]") t ≡ true → class_parts_by table parameters (suc n) t ≡ Some ([], drop 1 t)
+  unfolding class_parts_by
+  closed_back n t closes = rw (class_parts_by, closes) refl
+
+  pub parts_back : (n : ℕ) (t : Source) → Each (PartsBack n t) (class_ranges_by table parameters n t)
+  unfolding class_ranges_by
+  parts_back zero t = each_none (PartsBack zero t)
+  parts_back (suc n) t =
+      each_if (PartsBack (suc n) t) (is_at (char "]") t) _ _
+      (λ closes. each_some (PartsBack (suc n) t) (empty, drop 1 t) (λ ok. ([], closed_back n t closes)))
+      (λ opens. each_then (PartsBack (suc n) t) (class_part_at table parameters t) _
+      (λ x e. each_then (PartsBack (suc n) t) (class_ranges_by table parameters n x.1) _
+      (λ y f. each_some (PartsBack (suc n) t) (x.0 y.0, y.1)
+      (λ ok.
+      let part = each_at (PartBack t) _ (part_back t) x e y.0 ok in
+      let others = each_at (PartsBack n x.1) _ (parts_back n x.1) y f part.0 in
+      (part.1.0 ++ others.0, more_back n t x.1 y.1 part.1.0 others.0 opens part.1.1 others.1)))))

@@ -292,3 +292,84 @@ module _ (table : Table) (icase named : Bool) where
       (λ ok.
       let fine = part.1 y.0 y.1 ok in
       inr (fine.1 (each_at (AreContents x.1) _ (parts_derive n x.1 part.0) y f fine.0))))))
+
+  -- ---- to the parts
+
+  -- The first atom alone, or a range that begins with it.
+  abbrev AloneBy : Bool → ClassAtom → (u : Source) → ClassContents → (rest : Source) → Type 0
+  AloneBy b a u node rest =
+      (more : ClassContents) × (node ≡ before_by b a (atom_then (last_by b a) more)) × (begins_range u ≡ false) × Contents more u (char "]" ∷ rest)
+
+  abbrev RangeBy : Bool → ClassAtom → (u : Source) → ClassContents → (rest : Source) → Type 0
+  RangeBy b a u node rest =
+      (v : Source) × (c : ClassAtom) × (w : Source) × (more : ClassContents)
+      × (u ≡ char "-" ∷ v) × (node ≡ before_by b a (range_then (last_by b a) c more)) × (atom v ≡ Some (c, w)) × Contents more w (char "]" ∷ rest)
+
+  not_at_end : (a : ClassAtom) (w u : Source) (rest : Source) → no_dash w ≡ Some (a, u) → w ≡ char "]" ∷ rest → ⊥
+  not_at_end a w u rest f at_end =
+      none-some (a, u) (sym (no_atom table false named rest) ∙ sym (ap atom at_end) ∙ (is_atom table false named w u a f).0)
+
+  first_by_unit : (b : Bool) (a : ClassAtom) (t u rest : Source) (node : ClassContents) → At b a t u → Ranges node t (char "]" ∷ rest) →
+      AloneBy b a u node rest ⊎ RangeBy b a u node rest
+  first_by_unit false a t u rest node e h = by_first table false named node t u rest a e h
+  first_by_unit true a t u rest node (w, e, f) h = outer (by_first table false named node t w rest (lead a) e h)
+    where
+      inner : (m : ClassContents) → node ≡ atom_then (lead a) m → Alone table false named (trail a) u m rest ⊎ InRange table false named (trail a) u m rest →
+          AloneBy true a u node rest ⊎ RangeBy true a u node rest
+      inner m eq (inl (more, eq2, none, k)) = inl (more, eq ∙ ap (λ (l : ClassContents). atom_then (lead a) l) eq2, none, k)
+      inner m eq (inr (v, c, w2, more, at_u, eq2, g, k)) = inr (v, c, w2, more, at_u, eq ∙ ap (λ (l : ClassContents). atom_then (lead a) l) eq2, g, k)
+      outer : Alone table false named (lead a) w node rest ⊎ InRange table false named (lead a) w node rest →
+          AloneBy true a u node rest ⊎ RangeBy true a u node rest
+      outer (inl (m, eq, none, inl (is_empty, at_end))) = absurd (not_at_end (trail a) w u rest f at_end)
+      outer (inl (m, eq, none, inr k)) = inner m eq (by_first table false named m w u rest (trail a) (is_atom table false named w u (trail a) f).0 k)
+      outer (inr (v, c, w2, more, at_w, eq, g, k)) =
+          absurd (false≢true (sym (is_atom table false named w u (trail a) f).1 ∙ ap (is_at (char "-")) at_w))
+
+  -- The last atom of a range, or its first character where the other one begins a range.
+  abbrev LastBy : Bool → ClassAtom → (z : Source) → ClassAtom → ClassContents → (rest : Source) → Type 0
+  LastBy d c z b node rest =
+      (more : ClassContents) × (b ≡ first_by d c) × (node ≡ after_by d c more) × ((d && begins_range z) ≡ false) × Contents more z (char "]" ∷ rest)
+
+  abbrev AgainBy : Bool → ClassAtom → (z : Source) → ClassAtom → ClassContents → (rest : Source) → Type 0
+  AgainBy d c z b node rest =
+      (d ≡ true) × (v : Source) × (n : ClassAtom) × (y : Source) × (more : ClassContents)
+      × (z ≡ char "-" ∷ v) × (b ≡ lead c) × (node ≡ range_then (trail c) n more) × (atom v ≡ Some (n, y)) × Contents more y (char "]" ∷ rest)
+
+  last_by_unit : (d : Bool) (c b : ClassAtom) (v z w rest : Source) (node : ClassContents) → At d c v z → atom v ≡ Some (b, w) →
+      Contents node w (char "]" ∷ rest) → LastBy d c z b node rest ⊎ AgainBy d c z b node rest
+  last_by_unit false c b v z w rest node e g h =
+      let same : (c, z) ≡ (b, w) = same_Some (c, z) (b, w) (sym e ∙ g) in
+      inl (node, sym (ap (λ (x : ClassAtom × Source). x.0) same), refl, refl,
+      subst (λ (k : Source). Contents node k (char "]" ∷ rest)) (sym (ap (λ (x : ClassAtom × Source). x.1) same)) h)
+  last_by_unit true c b v z w rest node (x, e, f) g h =
+      let same : (lead c, x) ≡ (b, w) = same_Some (lead c, x) (b, w) (sym e ∙ g) in
+      outer (sym (ap (λ (y : ClassAtom × Source). y.0) same))
+      (subst (λ (k : Source). Contents node k (char "]" ∷ rest)) (sym (ap (λ (y : ClassAtom × Source). y.1) same)) h)
+    where
+      inner : b ≡ lead c → Alone table false named (trail c) z node rest ⊎ InRange table false named (trail c) z node rest →
+          LastBy true c z b node rest ⊎ AgainBy true c z b node rest
+      inner first (inl (more, eq, none, k)) = inl (more, first, eq, none, k)
+      inner first (inr (v2, n, y, more, at_z, eq, found, k)) = inr (refl, v2, n, y, more, at_z, first, eq, found, k)
+      outer : b ≡ lead c → Contents node x (char "]" ∷ rest) → LastBy true c z b node rest ⊎ AgainBy true c z b node rest
+      outer first (inl (is_empty, at_end)) = absurd (not_at_end (trail c) x z rest f at_end)
+      outer first (inr k) = inner first (by_first table false named node x z rest (trail c) (is_atom table false named x z (trail c) f).0 k)
+
+  -- The part at the start, and the rest.
+  pub record HasPart (t : Source) (node : ClassContents) (rest : Source) : Type 0 where
+    pub with_part : ClassContents → ClassContents
+    pub left : Source
+    pub more : ClassContents
+    pub found : class_part_at table parameters t ≡ Some (with_part, left)
+    pub is_node : node ≡ with_part more
+    pub contents : Contents more left (char "]" ∷ rest)
+    pub shorter : length left < length t
+
+  abbrev Looked : Source → Type 0
+  Looked t = ((x : ClassAtom × Source) × (parsed t ≡ Some x)) ⊎ (parsed t ≡ None)
+
+  looked : (t : Source) → Looked t
+  looked t = by (parsed t) refl
+    where
+      by : (found : Found ClassAtom) → parsed t ≡ found → Looked t
+      by None e = inr e
+      by (Some x) e = inl (x, e)
