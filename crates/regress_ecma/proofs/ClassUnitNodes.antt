@@ -1,6 +1,6 @@
 -- The parts of a class without the flags u and v are those that NonemptyClassRanges of ECMA-262 derives. A code point above
 -- U+FFFF is two characters there.
-use Rattle.std.proofs.Common.{◌≡◌, ℕ, zero, suc, ◌+◌, ◌-◌, ◌/◌, ◌<◌, ◌≤◌, ◌==◌, ◌⊎◌, inl, inr, Bool, true, false, not, ◌&&◌, ◌||◌, List, [], ◌∷◌, length, drop, Option, Some, None, if◌then◌else◌, refl, sym, ap, subst, ◌∙◌, eqb-true, nat_le, arith}
+use Rattle.std.proofs.Common.{◌≡◌, ℕ, zero, suc, ◌+◌, ◌-◌, ◌/◌, ◌<◌, ◌≤◌, ◌==◌, ◌⊎◌, inl, inr, Bool, true, false, not, ◌&&◌, ◌||◌, List, [], ◌∷◌, length, drop, Option, Some, None, if◌then◌else◌, refl, sym, ap, ap₂, subst, ◌∙◌, eqb-true, nat_le, arith}
 use Rattle.std.specs.Option.{option_or}
 use Rattle.std.specs.List.{All}
 use Rattle.std.proofs.lemmas.Bool.{false≢true, and_parts}
@@ -373,3 +373,150 @@ module _ (table : Table) (icase named : Bool) where
       by : (found : Found ClassAtom) → parsed t ≡ found → Looked t
       by None e = inr e
       by (Some x) e = inl (x, e)
+
+  ranges_first : (node : ClassContents) (t rest : Source) → Ranges node t rest → (x : ClassAtom × Source) × (atom t ≡ Some x)
+  ranges_first empty t rest h = absurd h
+  ranges_first (atom_then a more) t rest h = ((a, h.0), h.1)
+  ranges_first (range_then a b more) t rest h = ((a, char "-" ∷ h.0), h.2)
+  ranges_first (intersection left right) t rest h = absurd h
+  ranges_first (subtraction left right) t rest h = absurd h
+
+  shortens : (t u : Source) (a : ClassAtom) → parsed t ≡ Some (a, u) → length u < length t
+  shortens t u a e = atom-shortens table parameters t u a e
+
+  -- A range whose last atom begins no other one.
+  one_range : (t v z rest : Source) (a c b : ClassAtom) (node more m : ClassContents) → parsed t ≡ Some (a, char "-" ∷ v) → is_at (char "]") v ≡ false →
+      parsed v ≡ Some (c, z) → (is_pair c && begins_range z) ≡ false →
+      node ≡ before_by (is_pair a) a (range_then (last_by (is_pair a) a) b more) → b ≡ first_by (is_pair c) c → more ≡ after_by (is_pair c) c m →
+      Contents m z (char "]" ∷ rest) → HasPart t node rest
+  one_range t v z rest a c b node more m e opens f stops eq first after k =
+      let less = shortens t (char "-" ∷ v) a e in
+      let less_again = shortens v z c f in
+      record {
+        with_part = with_range table parameters a c;
+        left = z;
+        more = m;
+        found = rw (e, opens, f, stops) refl;
+        is_node = eq ∙ ap₂ (λ (x : ClassAtom) (l : ClassContents). before_by (is_pair a) a (range_then (last_by (is_pair a) a) x l)) first after;
+        contents = k;
+        shorter = omega arith;
+      }
+
+  -- A range whose last atom begins another one.
+  two_ranges : (t v w y rest : Source) (a c n : ClassAtom) (node m : ClassContents) → parsed t ≡ Some (a, char "-" ∷ v) → is_at (char "]") v ≡ false →
+      parsed v ≡ Some (c, char "-" ∷ w) → is_pair c ≡ true → is_at (char "]") w ≡ false → parsed w ≡ Some (n, y) → is_pair n ≡ false →
+      node ≡ before_by (is_pair a) a (range_then (last_by (is_pair a) a) (lead c) (range_then (trail c) n m)) →
+      Contents m y (char "]" ∷ rest) → HasPart t node rest
+  two_ranges t v w y rest a c n node m e opens f pair opens_again g whole eq k =
+      let less = shortens t (char "-" ∷ v) a e in
+      let less_again = shortens v (char "-" ∷ w) c f in
+      let less_at_last = shortens w y n g in
+      let both : (is_pair c && begins_range (char "-" ∷ w)) ≡ true = ap₂ (λ (p q : Bool). p && not q) pair opens_again in
+      record {
+        with_part = with_ranges table parameters a c n;
+        left = y;
+        more = m;
+        found = rw (e, opens, f, both, g) refl;
+        is_node =
+            eq
+            ∙ ap₂
+            (λ (d g : Bool). before_by (is_pair a) a (range_then (last_by (is_pair a) a) (first_by d c)
+            (range_then (last_by d c) (first_by g n) (after_by g n m))))
+            (sym pair) (sym whole);
+        contents = k;
+        shorter = omega arith;
+      }
+
+  abbrev no_error_in : (a c n : ClassAtom) (m : ClassContents) → Type 0
+  no_error_in a c n m = error (before_by (is_pair a) a (range_then (last_by (is_pair a) a) (lead c) (range_then (trail c) n m))) ≡ false
+
+  second_fine : (a c n : ClassAtom) (m : ClassContents) → no_error_in a c n m → is_wrong_range false (trail c) n ≡ false
+  second_fine a c n m ok =
+      (or_parts (is_wrong_range false (trail c) n) (error m)
+      (or_parts (is_wrong_range false (last_by (is_pair a) a) (lead c)) (error (range_then (trail c) n m))
+      (sym (error_before (is_pair a) a (range_then (last_by (is_pair a) a) (lead c) (range_then (trail c) n m))) ∙ ok)).1).0
+
+  again_case : (t v w y rest : Source) (a c n : ClassAtom) (node m : ClassContents) → parsed t ≡ Some (a, char "-" ∷ v) → is_at (char "]") v ≡ false →
+      parsed v ≡ Some (c, char "-" ∷ w) → is_pair c ≡ true → All IsCodePoint w → atom w ≡ Some (n, y) →
+      node ≡ before_by (is_pair a) a (range_then (last_by (is_pair a) a) (lead c) (range_then (trail c) n m)) → error node ≡ false →
+      Contents m y (char "]" ∷ rest) → HasPart t node rest
+  again_case t v w y rest a c n node m e opens f pair points g eq ok k = by (looked w)
+    where
+      whole_case : (n' : ClassAtom) (y' : Source) → parsed w ≡ Some (n', y') → is_pair n' ≡ false → ◌≡◌ {A = ClassAtom × Source} (n', y') (n, y) → HasPart t node rest
+      whole_case n' y' h whole same =
+          two_ranges t v w y' rest a c n' node m e opens f pair (atom_opens table false named w y n g) h whole
+          (eq
+          ∙ ap (λ (x : ClassAtom). before_by (is_pair a) a (range_then (last_by (is_pair a) a) (lead c) (range_then (trail c) x m)))
+          (sym (ap (λ (x : ClassAtom × Source). x.0) same)))
+          (subst (λ (l : Source). Contents m l (char "]" ∷ rest)) (sym (ap (λ (x : ClassAtom × Source). x.1) same)) k)
+      with_view : (n' : ClassAtom) (y' : Source) → parsed w ≡ Some (n', y') → (b : Bool) → is_pair n' ≡ b → At b n' w y' → HasPart t node rest
+      with_view n' y' h false whole k' = whole_case n' y' h whole (same_Some (n', y') (n, y) (sym k' ∙ g))
+      with_view n' y' h true is_two (x, k', l) =
+          let same : lead n' ≡ n = ap (λ (x : ClassAtom × Source). x.0) (same_Some (lead n', x) (n, y) (sym k' ∙ g)) in
+          let fine : is_wrong_range false (trail c) (lead n') ≡ false =
+          ap (is_wrong_range false (trail c)) same ∙ second_fine a c n m (sym (ap error eq) ∙ ok) in
+          absurd (false≢true (sym fine ∙ wrong_pair c n' pair is_two ((atom_point table parameters w points).each (n', y') h)))
+      by : Looked w → HasPart t node rest
+      by (inr none) = absurd (none-some (n, y) (sym (unparsed w none) ∙ g))
+      by (inl (x, h)) = with_view x.0 x.1 h (is_pair x.0) refl (view w x.1 x.0 h)
+
+  range_case : (t v w rest : Source) (a b : ClassAtom) (node more : ClassContents) → parsed t ≡ Some (a, char "-" ∷ v) → All IsCodePoint v →
+      node ≡ before_by (is_pair a) a (range_then (last_by (is_pair a) a) b more) → error node ≡ false → atom v ≡ Some (b, w) →
+      Contents more w (char "]" ∷ rest) → HasPart t node rest
+  range_case t v w rest a b node more e points eq ok g k = by (looked v)
+    where
+      opens : is_at (char "]") v ≡ false
+      opens = atom_opens table false named v w b g
+      chosen : (c : ClassAtom) (z : Source) → parsed v ≡ Some (c, z) → LastBy (is_pair c) c z b more rest ⊎ AgainBy (is_pair c) c z b more rest → HasPart t node rest
+      chosen c z f (inl (m, first, after, stops, l)) = one_range t v z rest a c b node more m e opens f stops eq first after l
+      chosen c z f (inr (pair, x, n, y, m, at_z, first, is_more, h, l)) =
+          again_case t v x y rest a c n node m e opens (f ∙ ap (λ (s : Source). Some (c, s)) at_z) pair
+          (after_all (char "-" ∷ x) x (after_drop 1 (char "-" ∷ x)) (subst (All IsCodePoint) at_z (rest_points table parameters v z c points f))) h
+          (eq ∙ ap₂ (λ (d : ClassAtom) (s : ClassContents). before_by (is_pair a) a (range_then (last_by (is_pair a) a) d s)) first is_more) ok l
+      by : Looked v → HasPart t node rest
+      by (inr none) = absurd (none-some (b, w) (sym (unparsed v none) ∙ g))
+      by (inl (x, f)) = chosen x.0 x.1 f (last_by_unit (is_pair x.0) x.0 b v x.1 w rest more (view v x.1 x.0 f) g k)
+
+  has_part : (t : Source) (node : ClassContents) (rest : Source) → All IsCodePoint t → Ranges node t (char "]" ∷ rest) → error node ≡ false → HasPart t node rest
+  has_part t node rest points h ok = by (looked t)
+    where
+      chosen : (a : ClassAtom) (u : Source) → parsed t ≡ Some (a, u) → AloneBy (is_pair a) a u node rest ⊎ RangeBy (is_pair a) a u node rest → HasPart t node rest
+      chosen a u e (inl (more, eq, none, k)) =
+          record {
+            with_part = with_atom table parameters a;
+            left = u;
+            more = more;
+            found = rw (e, none) refl;
+            is_node = eq;
+            contents = k;
+            shorter = shortens t u a e;
+          }
+      chosen a u e (inr (v, b, w, more, at_u, eq, g, k)) =
+          range_case t v w rest a b node more (e ∙ ap (λ (s : Source). Some (a, s)) at_u)
+          (after_all (char "-" ∷ v) v (after_drop 1 (char "-" ∷ v)) (subst (All IsCodePoint) at_u (rest_points table parameters t u a points e))) eq ok g k
+      by : Looked t → HasPart t node rest
+      by (inr none) = let first = ranges_first node t (char "]" ∷ rest) h in absurd (none-some first.0 (sym (unparsed t none) ∙ first.1))
+      by (inl (x, e)) = chosen x.0 x.1 e (first_by_unit (is_pair x.0) x.0 t x.1 rest node (view t x.1 x.0 e) h)
+
+  abbrev Parts : ℕ → Source → Found ClassContents
+  Parts n t = class_ranges_by table parameters n t
+
+  goes_on : (n : ℕ) (t u rest : Source) (with_part : ClassContents → ClassContents) (more node : ClassContents) → is_at (char "]") t ≡ false →
+      class_part_at table parameters t ≡ Some (with_part, u) → Parts n u ≡ Some (more, rest) → node ≡ with_part more → Parts (suc n) t ≡ Some (node, rest)
+  unfolding class_ranges_by
+  goes_on n t u rest with_part more node opens e f same = rw (class_ranges_by, opens, e, f) (ap (λ (m : ClassContents). Some (m, rest)) (sym same))
+
+  pub derived_parts : (n : ℕ) (t : Source) → length t < n → All IsCodePoint t → (node : ClassContents) (rest : Source) → Contents node t (char "]" ∷ rest) →
+      error node ≡ false → Parts n t ≡ Some (node, rest)
+  unfolding class_ranges_by
+  derived_parts zero t short points node rest h ok = absurd (omega arith)
+  derived_parts (suc n) t short points node rest (inl (is_empty, same)) ok =
+      subst (λ (w : Source). Parts (suc n) w ≡ Some (node, rest)) (sym same)
+      (subst (λ (m : ClassContents). Parts (suc n) (char "]" ∷ rest) ≡ Some (m, rest)) (sym is_empty) refl)
+  derived_parts (suc n) t short points node rest (inr h) ok =
+      let part = has_part t node rest points h ok in
+      let is_part = each_at (IsPartOf t) _ (part_is t points) (part.with_part, part.left) part.found in
+      let fine = is_part.1 part.more rest (sym (ap error part.is_node) ∙ ok) in
+      let less : length part.left < length t = part.shorter in
+      goes_on n t part.left rest part.with_part part.more node (not_closed table false named node t (char "]" ∷ rest) h) part.found
+      (derived_parts n part.left (omega arith) is_part.0 part.more rest part.contents fine.0) part.is_node
