@@ -23,16 +23,16 @@ use Rattle.regress_ecma.proofs.OctalEscapes.{octal_found, octal_escape, no_octal
 
 lead_of_pair : (lead trail : ℕ) → is_lead lead ≡ true → is_trail trail ≡ true → lead_unit (paired lead trail) ≡ lead
 lead_of_pair lead trail h l =
-    let low : trail ≤ 0xDFFF = leb-true _ _ (and_parts _ _ l).1 in
-    let above : 0xD800 ≤ lead = leb-true _ _ (and_parts _ _ h).0 in
-    let above_trail : 0xDC00 ≤ trail = leb-true _ _ (and_parts _ _ l).0 in
+    let low : trail ≤ 0xDFFF = leb-true trail 0xDFFF (and_parts (nat_le 0xDC00 trail) (nat_le trail 0xDFFF) l).1 in
+    let above : 0xD800 ≤ lead = leb-true 0xD800 lead (and_parts (nat_le 0xD800 lead) (nat_le lead 0xDBFF) h).0 in
+    let above_trail : 0xDC00 ≤ trail = leb-true 0xDC00 trail (and_parts (nat_le 0xDC00 trail) (nat_le trail 0xDFFF) l).0 in
     omega arith
 
 trail_of_pair : (lead trail : ℕ) → is_lead lead ≡ true → is_trail trail ≡ true → trail_unit (paired lead trail) ≡ trail
 trail_of_pair lead trail h l =
-    let low : trail ≤ 0xDFFF = leb-true _ _ (and_parts _ _ l).1 in
-    let above : 0xD800 ≤ lead = leb-true _ _ (and_parts _ _ h).0 in
-    let above_trail : 0xDC00 ≤ trail = leb-true _ _ (and_parts _ _ l).0 in
+    let low : trail ≤ 0xDFFF = leb-true trail 0xDFFF (and_parts (nat_le 0xDC00 trail) (nat_le trail 0xDFFF) l).1 in
+    let above : 0xD800 ≤ lead = leb-true 0xD800 lead (and_parts (nat_le 0xD800 lead) (nat_le lead 0xDBFF) h).0 in
+    let above_trail : 0xDC00 ≤ trail = leb-true 0xDC00 trail (and_parts (nat_le 0xDC00 trail) (nat_le trail 0xDFFF) l).0 in
     omega arith
 
 pair_above : (lead trail : ℕ) → nat_le 0x10000 (paired lead trail) ≡ true

@@ -45,3 +45,4 @@ mod ClassUnitNodes
 mod ClassRangeErrors
 mod ClassUnitErrors
 mod AcceptedClasses
+mod Examples
