@@ -1,5 +1,5 @@
 -- A class without the flag v is accepted exactly where ECMA-262 accepts it, and its parse node is that of ECMA-262.
-use Rattle.std.proofs.Common.{◌≡◌, ℕ, ◌+◌, ◌<◌, ◌⊎◌, inl, inr, Bool, true, false, List, [], ◌∷◌, length, drop, Some, None, if◌then◌else◌, refl, sym, ap, ap₂, subst, ◌∙◌, arith}
+use Rattle.std.proofs.Common.{◌≡◌, ◌+◌, inl, inr, Bool, true, false, List, ◌∷◌, length, drop, Some, if◌then◌else◌, refl, sym, ap, ap₂, subst, ◌∙◌, arith}
 use Rattle.regress_base.specs.Intervals.{Bounds}
 use Rattle.regress_base.specs.Table.{Table}
 use Rattle.regress_base.specs.declared.types.Flags.{Flags}
@@ -52,15 +52,17 @@ module _ (table : Table) where
         (node.invert ≡ is_at (char "^") t) × IsClassContents table unicode named node.contents (inside (is_at (char "^") t) t) (char "]" ∷ rest)
     contents_of node t rest ((u, inl (same, none, invert), h), fine) =
         let at_u : t ≡ u = ap (drop 1) same in
-        let not_at : is_at (char "^") t ≡ false = ap (is_at (char "^")) at_u ∙ none in
-        (invert ∙ sym not_at,
-        subst (λ (w : Source). IsClassContents table unicode named node.contents w (char "]" ∷ rest)) (sym at_u ∙ sym (ap (λ (b : Bool). inside b t) not_at)) h)
+        let not_at : is_at (char "^") t ≡ false = ap (is_at (char "^")) at_u ∙ none in (
+          invert ∙ sym not_at,
+          subst (λ (w : Source). IsClassContents table unicode named node.contents w (char "]" ∷ rest)) (sym at_u ∙ sym (ap (λ (b : Bool). inside b t) not_at)) h,
+        )
     contents_of node t rest ((u, inr (same, invert), h), fine) =
         let at_u : t ≡ char "^" ∷ u = ap (drop 1) same in
-        let at : is_at (char "^") t ≡ true = ap (is_at (char "^")) at_u in
-        (invert ∙ sym at,
-        subst (λ (w : Source). IsClassContents table unicode named node.contents w (char "]" ∷ rest))
-        (sym (ap (drop 1) at_u) ∙ sym (ap (λ (b : Bool). inside b t) at)) h)
+        let at : is_at (char "^") t ≡ true = ap (is_at (char "^")) at_u in (
+          invert ∙ sym at,
+          subst (λ (w : Source). IsClassContents table unicode named node.contents w (char "]" ∷ rest))
+              (sym (ap (drop 1) at_u) ∙ sym (ap (λ (b : Bool). inside b t) at)) h,
+        )
 
   -- ---- with the flag u
 
@@ -74,11 +76,12 @@ module _ (table : Table) where
         each_then (λ (x : (Bool × List Bounds) × Source). IsNode parameters t x.0.0 x.1) (class_parts_by table parameters (length s + 1) s) _
         (λ x e. each_some (λ (x : (Bool × List Bounds) × Source). IsNode parameters t x.0.0 x.1) ((is_at (char "^") t, x.0), x.1)
         (let found = (parts_follow table some_flags icase named (length s + 1) s).each x.0 x.1 e in
-        let same = found.found in
-        (record { invert = is_at (char "^") t; contents = found.value },
-        node_of true named t found.value x.1 (each_at _ _ (parts_derive table icase named (length s + 1) s) (found.value, x.1) same) found.related,
-        ap (found_map (λ (contents : ClassContents). record { invert = is_at (char "^") t; contents = contents })) same,
-        refl)))
+        let same = found.found in (
+          record { invert = is_at (char "^") t; contents = found.value },
+          node_of true named t found.value x.1 (each_at _ _ (parts_derive table icase named (length s + 1) s) (found.value, x.1) same) found.related,
+          ap (found_map (λ (contents : ClassContents). record { invert = is_at (char "^") t; contents = contents })) same,
+          refl,
+        )))
       where
         s : Source
         s = inside true named (is_at (char "^") t) t
@@ -95,12 +98,15 @@ module _ (table : Table) where
         let s : Source = inside true named (is_at (char "^") t) t in
         let found : class_ranges_by table parameters (length s + 1) s ≡ Some (node.contents, rest) =
         derived_parts table icase named (length s + 1) s (omega arith) node.contents rest opened.1 in
-        let back = each_at _ _ (parts_back table some_flags icase named (length s + 1) s) (node.contents, rest) found h.1 in
-        (ap (found_map (λ (contents : ClassContents). record { invert = is_at (char "^") t; contents = contents })) found
-        ∙ ap (λ (b : Bool). Some (record { invert = b; contents = node.contents }, rest)) (sym opened.0),
-        (back.0,
-        ap (λ (o : Found (List Bounds)). o >>= λ (members, after). Some ((is_at (char "^") t, members), after)) back.1
-        ∙ ap (λ (b : Bool). Some ((b, back.0), rest)) (sym opened.0)))
+        let back = each_at _ _ (parts_back table some_flags icase named (length s + 1) s) (node.contents, rest) found h.1 in (
+          ap (found_map (λ (contents : ClassContents). record { invert = is_at (char "^") t; contents = contents })) found
+              ∙ ap (λ (b : Bool). Some (record { invert = b; contents = node.contents }, rest)) (sym opened.0),
+          (
+            back.0,
+            ap (λ (o : Found (List Bounds)). o >>= λ (members, after). Some ((is_at (char "^") t, members), after)) back.1
+                ∙ ap (λ (b : Bool). Some ((b, back.0), rest)) (sym opened.0),
+          ),
+        )
 
   -- ---- without it
 
@@ -121,11 +127,12 @@ module _ (table : Table) where
         each_then (λ (x : (Bool × List Bounds) × Source). IsNode parameters' t x.0.0 x.1) (class_parts_by table parameters' (length s + 1) s) _
         (λ x e. each_some (λ (x : (Bool × List Bounds) × Source). IsNode parameters' t x.0.0 x.1) ((is_at (char "^") t, x.0), x.1)
         (let found = (Units.parts_follow table some_flags icase named (length s + 1) s).each x.0 x.1 e in
-        let same = found.found in
-        (record { invert = is_at (char "^") t; contents = found.value },
-        node_of false named t found.value x.1 (each_at _ _ (Derived.parts_derive table icase named (length s + 1) s (inside_points t points)) (found.value, x.1) same found.related) found.related,
-        ap (found_map (λ (contents : ClassContents). record { invert = is_at (char "^") t; contents = contents })) same,
-        refl)))
+        let same = found.found in (
+          record { invert = is_at (char "^") t; contents = found.value },
+          node_of false named t found.value x.1 (each_at _ _ (Derived.parts_derive table icase named (length s + 1) s (inside_points t points)) (found.value, x.1) same found.related) found.related,
+          ap (found_map (λ (contents : ClassContents). record { invert = is_at (char "^") t; contents = contents })) same,
+          refl,
+        )))
       where
         s : Source
         s = inside false named (is_at (char "^") t) t
@@ -142,12 +149,15 @@ module _ (table : Table) where
         let s : Source = inside false named (is_at (char "^") t) t in
         let found : class_ranges_by table parameters' (length s + 1) s ≡ Some (node.contents, rest) =
         Derived.derived_parts table icase named (length s + 1) s (omega arith) (inside_points t points) node.contents rest opened.1 h.1 in
-        let back = each_at _ _ (Units.parts_back table some_flags icase named (length s + 1) s) (node.contents, rest) found h.1 in
-        (ap (found_map (λ (contents : ClassContents). record { invert = is_at (char "^") t; contents = contents })) found
-        ∙ ap (λ (b : Bool). Some (record { invert = b; contents = node.contents }, rest)) (sym opened.0),
-        (back.0,
-        ap (λ (o : Found (List Bounds)). o >>= λ (members, after). Some ((is_at (char "^") t, members), after)) back.1
-        ∙ ap (λ (b : Bool). Some ((b, back.0), rest)) (sym opened.0)))
+        let back = each_at _ _ (Units.parts_back table some_flags icase named (length s + 1) s) (node.contents, rest) found h.1 in (
+          ap (found_map (λ (contents : ClassContents). record { invert = is_at (char "^") t; contents = contents })) found
+              ∙ ap (λ (b : Bool). Some (record { invert = b; contents = node.contents }, rest)) (sym opened.0),
+          (
+            back.0,
+            ap (λ (o : Found (List Bounds)). o >>= λ (members, after). Some ((is_at (char "^") t, members), after)) back.1
+                ∙ ap (λ (b : Bool). Some ((b, back.0), rest)) (sym opened.0),
+          ),
+        )
 
   -- the same for parameters of the dialect with the flag u
   parameters_are : (parameters : Parameters) → parameters.dialect ≡ Ecma → parameters.unicode ≡ true →

@@ -1,15 +1,14 @@
 -- The productions of an atom of a class without the flag v find what ClassAtom of ECMA-262 derives.
-use Rattle.std.proofs.Common.{◌≡◌, ℕ, ◌==◌, ◌⊎◌, inl, inr, Bool, true, false, not, ◌&&◌, ◌||◌, List, [], ◌∷◌, Option, Some, None, if◌then◌else◌, refl, sym, ap, subst, ◌∙◌, nat_le, arith}
+use Rattle.std.proofs.Common.{◌≡◌, ℕ, ◌==◌, ◌⊎◌, inl, inr, Bool, true, false, ◌&&◌, ◌||◌, List, [], ◌∷◌, Option, Some, None, if◌then◌else◌, refl, sym, ap, subst, ◌∙◌, nat_le, arith}
 use Rattle.std.specs.Option.{option_or}
-use Rattle.std.proofs.lemmas.Bool.{false≢true}
 use Rattle.std.proofs.lemmas.Option.{none-some, same_Some}
 use Rattle.regress_base.specs.Table.{Table}
 use Rattle.regress_lexer.specs.declared.dialect.Dialect.TheVariants.{Ecma}
 use Rattle.regress_lexer.specs.Source.{Source, Found, ◌>>=◌, found_map, char, is_at, is_one_of}
 use Rattle.regress_classes.specs.declared.parameters.Parameters.{Parameters}
 use Rattle.regress_classes.specs.Properties.{Property, of_points, of_strings, property_at}
-use Rattle.regress_ecma.specs.ClassGrammar.{property_node, is_pair, lead, trail, class_atom_at, is_split}
-use Rattle.regress_ecma.specs.ClassNodes.{ClassAtom, character, class_escape, property, string_property}
+use Rattle.regress_ecma.specs.ClassGrammar.{property_node, lead, trail, class_atom_at, is_split}
+use Rattle.regress_ecma.specs.ClassNodes.{ClassAtom, character, class_escape}
 use Rattle.regress_ecma.specs.ClassRanges.{class_atom, class_atom_no_dash, class_escape_of}
 use Rattle.std.specs.Option.{option_map}
 use Rattle.std.proofs.lemmas.Bool.Decides.{nat_tests}
@@ -19,7 +18,7 @@ use Rattle.regress_lexer.specs.Digits.{is_decimal, is_letter, control}
 use Rattle.regress_lexer.specs.Source.{first_production}
 use Rattle.regress_lexer.specs.Escapes.{character_escape_at}
 use Rattle.regress_classes.specs.ClassProductions.{class_letter}
-use Rattle.regress_ecma.specs.ClassGrammar.{escape_productions, control_at}
+use Rattle.regress_ecma.specs.ClassGrammar.{escape_productions}
 use Rattle.regress_ecma.specs.CharacterEscapes.{legacy_octal_escape, identity_escape, lead_unit, trail_unit}
 use Rattle.regress_ecma.proofs.OctalEscapes.{no_octal_escape}
 use Rattle.regress_base.specs.Intervals.{Bounds}
@@ -31,7 +30,7 @@ use Rattle.regress_classes.specs.Properties.{closed_property, value_in, list_nam
 use Rattle.regress_ecma.specs.CharacterEscapes.{character_escape, is_no_identity}
 use Rattle.regress_ecma.specs.ClassGrammar.{class_escape_at}
 use Rattle.regress_ecma.specs.ClassRanges.{property_value, property_escape, backslash_before_c}
-use Rattle.regress_ecma.proofs.EscapesWithU.{at_character, by_case, or_none, and_false, escape_with_u}
+use Rattle.regress_ecma.proofs.EscapesWithU.{at_character, or_none, and_false, escape_with_u}
 use Rattle.regress_ecma.proofs.EscapesWithoutU.{IsUnits, escape_without_u, literal_trail}
 
 -- the parameters of a class in the dialect
@@ -172,6 +171,7 @@ module _ (table : Table) (icase named : Bool) where
           (c == char "W") ≡ false → (c == char "b") ≡ false → (c == char "-") ≡ false → (c == char "p") ≡ false → (c == char "P") ≡ false →
           class_escape_of table true named (c ∷ t) ≡ option_or (found_map character (character_escape true named (c ∷ t))) None
       left d dd s ss w ww b dash p pp = rw (d, dd, s, ss, w, ww, b, dash, p, pp) refl
+
       right : (c == char "b") ≡ false → (c == char "-") ≡ false → (c == char "p") ≡ false → (c == char "P") ≡ false → (c == char "k") ≡ false →
           first_production (escape_productions table (own icase true named) c t) ≡ found_map character (escape_at true (c ∷ t))
       right b dash p pp k = rw (b, dash, and_false (c == char "c"), not_p c p pp, k, no_brace_u c t) refl
@@ -262,6 +262,7 @@ module _ (table : Table) (icase named : Bool) where
           (c == char "W") ≡ false → (c == char "b") ≡ false → (c == char "c") ≡ false →
           class_escape_of table false named (c ∷ t) ≡ option_or (found_map character (character_escape false named (c ∷ t))) None
       left d dd s ss w ww b letter = rw (d, dd, s, ss, w, ww, b, letter) refl
+
       right : (c == char "b") ≡ false → (c == char "c") ≡ false → (c == char "k") ≡ false →
           first_production (escape_productions table (own icase false named) c t) ≡ found_map character (character_escape_at Ecma false (c ∷ t))
       right b letter k = rw (b, and_false (c == char "-"), letter, and_false (is_one_of "pP" c), k) refl

@@ -1,7 +1,7 @@
 -- The parts of a class with the flag u and without v are accepted where they have no early error of ECMA-262.
 use Rattle.std.proofs.Common.{◌≡◌, ℕ, zero, suc, ◌==◌, Bool, true, false, not, ◌&&◌, ◌||◌, nat_le, List, [], ◌∷◌, ◌++◌, drop, Option, Some, None, if◌then◌else◌, refl, sym, ap, subst, ◌∙◌}
 use Rattle.std.proofs.lemmas.Bool.{false≢true}
-use Rattle.std.proofs.lemmas.Option.{none-some, same_Some}
+use Rattle.std.proofs.lemmas.Option.{none-some}
 use Rattle.regress_base.specs.Intervals.{Bounds}
 use Rattle.regress_base.specs.Table.{Table}
 use Rattle.regress_base.specs.declared.charclasses.CharacterClassType.{CharacterClassType}
@@ -9,7 +9,7 @@ use Rattle.regress_base.specs.declared.types.Flags.{Flags}
 use Rattle.regress_lexer.specs.Dialects.{reserves_k}
 use Rattle.regress_lexer.specs.Digits.{is_decimal, is_letter}
 use Rattle.regress_lexer.specs.Escapes.{character_escape_at}
-use Rattle.regress_lexer.specs.Source.{Source, Found, ◌>>=◌, found_map, first_production, char, is_one_of, is_at}
+use Rattle.regress_lexer.specs.Source.{Source, Found, first_production, char, is_one_of, is_at}
 use Rattle.regress_classes.specs.declared.parameters.Parameters.{Parameters}
 use Rattle.regress_classes.specs.ClassProductions.{class_letter, class_members, complement_if, point, set, atom_members, range_of, units_between, begins_range, range_to, class_control_at, class_property, class_escape_productions, class_parts_by}
 use Rattle.regress_classes.specs.ClassProductions as ClassProductions
@@ -210,10 +210,14 @@ module _ (table : Table) (rer : Flags) (icase named : Bool) where
       let parts = or_parts (is_wrong_range true first last) (has_early_error true more) ok in
       let found = in_order first last from.value to.value from.related to.related parts.0 in
       let start = from.found in
-      let end = to.found in
-      (parts.1,
-      (found.0, rw (start, begins, end)
-      (ap (λ (o : Option (List Bounds)). elim o as (λ _. Found (List Bounds)) [ None ↦ None | Some members ↦ Some (members, v) ]) found.1)))
+      let end = to.found in (
+        parts.1,
+        (
+          found.0,
+          rw (start, begins, end)
+              (ap (λ (o : Option (List Bounds)). elim o as (λ _. Found (List Bounds)) [ None ↦ None | Some members ↦ Some (members, v) ]) found.1),
+        ),
+      )
 
   atom_alone_back : (t u : Source) (first : ClassAtom) → class_atom_at table parameters t ≡ Some (first, u) → begins_range u ≡ false →
       PartBack t (atom_then first, u)

@@ -1,22 +1,20 @@
 -- The parts of a class with the flag u and without v are those that NonemptyClassRanges of ECMA-262 derives.
-use Rattle.std.proofs.Common.{◌≡◌, ℕ, zero, suc, ◌+◌, ◌<◌, ◌≤◌, ◌==◌, ◌⊎◌, inl, inr, Bool, true, false, not, ◌&&◌, ◌||◌, List, [], ◌∷◌, length, drop, Option, Some, None, if◌then◌else◌, refl, sym, ap, subst, ◌∙◌, eqb-true, nat_le, arith}
-use Rattle.std.specs.Option.{option_or}
-use Rattle.std.proofs.lemmas.Bool.{false≢true, and_parts}
+use Rattle.std.proofs.Common.{◌≡◌, ℕ, zero, suc, ◌<◌, ◌==◌, inl, inr, Bool, true, false, ◌||◌, [], ◌∷◌, length, drop, Option, Some, None, if◌then◌else◌, refl, sym, ap, subst, ◌∙◌, eqb-true, arith}
+use Rattle.std.proofs.lemmas.Bool.{and_parts}
 use Rattle.std.proofs.lemmas.Option.{none-some, same_Some}
 use Rattle.regress_base.specs.Table.{Table}
 use Rattle.regress_base.specs.declared.charclasses.CharacterClassType.{CharacterClassType}
-use Rattle.regress_lexer.specs.Source.{Source, Found, ◌>>=◌, found_map, first_production, char, is_at, is_one_of}
+use Rattle.regress_lexer.specs.Source.{Source, Found, ◌>>=◌, first_production, char, is_at}
 use Rattle.regress_lexer.specs.Digits.{is_decimal, is_letter}
-use Rattle.regress_lexer.proofs.lemmas.Sources.{found_then, EachProduction, no_more, ◌also◌, first_production-has}
-use Rattle.regress_lexer.proofs.lemmas.After.{IsSuffix, after_same, after_drop, after_shorter, Ends, ends_none, ends_some, one-ends, ends_more, ends_map, ends_cond, character_escape_at-ends}
+use Rattle.regress_lexer.proofs.lemmas.Sources.{EachProduction, no_more, ◌also◌, first_production-has}
+use Rattle.regress_lexer.proofs.lemmas.After.{after_same, after_drop, after_shorter, Ends, ends_none, ends_some, one-ends, ends_more, ends_map, ends_cond, character_escape_at-ends}
 use Rattle.regress_classes.proofs.lemmas.Pieces.{property_at-ends}
 use Rattle.regress_classes.specs.declared.parameters.Parameters.{Parameters}
 use Rattle.regress_classes.specs.ClassProductions.{begins_range, class_letter}
-use Rattle.regress_classes.specs.Properties.{Property, property_at}
+use Rattle.regress_classes.specs.Properties.{property_at}
 use Rattle.regress_ecma.specs.ClassGrammar.{property_node, control_at, escape_productions, class_escape_at, class_atom_at, class_part_at, class_ranges_by}
 use Rattle.regress_ecma.specs.ClassNodes.{ClassAtom, character, class_escape, ClassContents, empty, atom_then, range_then, intersection, subtraction}
-use Rattle.regress_ecma.specs.ClassRanges.{class_atom, class_atom_no_dash, IsNonemptyClassRanges, IsNonemptyClassRangesNoDash, IsClassContents}
-use Rattle.regress_ecma.proofs.EscapesWithU.{by_case, or_none}
+use Rattle.regress_ecma.specs.ClassRanges.{class_atom, IsNonemptyClassRanges, IsClassContents}
 use Rattle.regress_ecma.proofs.ClassAtomNodes.{own, atom_u}
 use Rattle.regress_ecma.proofs.ClassDerivations.{front_is, end_closes, to_no_dash, no_range, from_no_dash, not_closed, atom_opens}
 
@@ -115,10 +113,13 @@ module _ (table : Table) (icase named : Bool) where
 
   range_and : (a b : ClassAtom) (t u v : Source) → parsed t ≡ Some (a, u) → begins_range u ≡ true → parsed (drop 1 u) ≡ Some (b, v) →
       IsPart t (range_then a b, v)
-  range_and a b t u v e begins f more rest h =
-      (drop 1 u, v,
-      atom_u table icase named t ∙ e ∙ ap (λ (w : Source). Some (a, w)) (front_is (char "-") u (and_parts (is_at (char "-") u) _ begins).0),
-      atom_u table icase named (drop 1 u) ∙ f, h)
+  range_and a b t u v e begins f more rest h = (
+    drop 1 u,
+    v,
+    atom_u table icase named t ∙ e ∙ ap (λ (w : Source). Some (a, w)) (front_is (char "-") u (and_parts (is_at (char "-") u) _ begins).0),
+    atom_u table icase named (drop 1 u) ∙ f,
+    h,
+  )
 
   part_is : (t : Source) → Each (IsPart t) (class_part_at table parameters t)
   part_is t =

@@ -1,7 +1,5 @@
 -- The parts of a class without the flags u and v that are accepted have no early error of ECMA-262.
-use Rattle.std.proofs.Common.{◌≡◌, ℕ, zero, suc, ◌==◌, Bool, true, false, not, ◌&&◌, ◌||◌, nat_le, List, [], ◌∷◌, ◌++◌, drop, Option, Some, None, if◌then◌else◌, refl, sym, ap, subst, ◌∙◌}
-use Rattle.std.proofs.lemmas.Bool.{false≢true, and_parts}
-use Rattle.std.proofs.lemmas.Option.{none-some, same_Some}
+use Rattle.std.proofs.Common.{◌≡◌, ℕ, zero, suc, Bool, true, false, not, ◌&&◌, ◌||◌, nat_le, List, [], ◌∷◌, ◌++◌, drop, Option, Some, None, if◌then◌else◌, refl, sym, ap, subst, ◌∙◌}
 use Rattle.regress_base.specs.Intervals.{Bounds}
 use Rattle.regress_base.specs.Table.{Table}
 use Rattle.regress_base.specs.declared.types.Flags.{Flags}
@@ -10,7 +8,6 @@ use Rattle.regress_lexer.specs.Source.{Source, Found, ◌>>=◌, found_map, char
 use Rattle.regress_classes.specs.declared.parameters.Parameters.{Parameters}
 use Rattle.regress_classes.specs.ClassProductions.{point, set, one_point, units_before, units_after, atom_members, last_unit, first_unit, range_of, begins_range, begins_next, range_to, range_end_at, ranges_to, class_parts_by}
 use Rattle.regress_classes.specs.ClassProductions as ClassProductions
-use Rattle.regress_ecma.specs.Notation.{CharSet}
 use Rattle.regress_ecma.specs.CharSets.{character_of}
 use Rattle.regress_ecma.specs.ClassGrammar.{is_pair, lead, trail, class_atom_at, first_of, last_of, with_before, with_after, with_atom, with_range, with_ranges, range_at, class_part_at, class_ranges_by}
 use Rattle.regress_ecma.specs.ClassNodes.{ClassAtom, character, class_escape, property, string_property, class_strings, nested_class, ClassContents, empty, atom_then, range_then}
@@ -145,6 +142,7 @@ module _ (table : Table) (rer : Flags) (icase named : Bool) where
       one n next rest is_next (Some others) f =
           follows_some IsPart (with_ranges table parameters first last next) (members ++ others) rest
           (ranges_part first last next a b n is_first is_last is_next members others e f)
+
       from : (found : Found ClassProductions.ClassAtom) (mine : Found ClassAtom) → Follows Is found mine →
           Follows IsPart ((found >>= range_to table parameters b) >>= added members)
           (found_map (λ next contents. with_ranges table parameters first last next contents) mine)
@@ -244,9 +242,10 @@ module _ (table : Table) (rer : Flags) (icase named : Bool) where
       let found = in_order first last from.value to.value from.related to.related parts.0 in
       let start = from.found in
       let end = to.found in
-      let stops : begins_next parameters to.value z ≡ false = ap (λ (b : Bool). b && begins_range z) (sym (pair_is last to.value to.related)) ∙ none in
-      (sym (error_after last more) ∙ parts.1,
-      (found.0, rw (start, begins, end, stops) (ap (λ (o : Option (List Bounds)). found_by o z) found.1)))
+      let stops : begins_next parameters to.value z ≡ false = ap (λ (b : Bool). b && begins_range z) (sym (pair_is last to.value to.related)) ∙ none in (
+        sym (error_after last more) ∙ parts.1,
+        (found.0, rw (start, begins, end, stops) (ap (λ (o : Option (List Bounds)). found_by o z) found.1)),
+      )
 
   ranges_back : (t u z y : Source) (first last next : ClassAtom) → class_atom_at table parameters t ≡ Some (first, u) → begins_range u ≡ true →
       class_atom_at table parameters (drop 1 u) ≡ Some (last, z) → (is_pair last && begins_range z) ≡ true →
@@ -263,12 +262,16 @@ module _ (table : Table) (rer : Flags) (icase named : Bool) where
       let again = in_order last next to.value over.value to.related over.related rest.0 in
       let start = from.found in
       let end = to.found in
-      let goes_on : begins_next parameters to.value z ≡ true = ap (λ (b : Bool). b && begins_range z) (sym (pair_is last to.value to.related)) ∙ both in
-      (sym (error_after next more) ∙ rest.1,
-      (found.0 ++ again.0, rw (start, begins, end, goes_on)
-      (ap (λ (o : Option (List Bounds)). found_by o (drop 1 z) >>= λ (members, after). (range_end_at table parameters to.value after >>= added members)) found.1
-      ∙ ap (λ (o : Found ClassProductions.ClassAtom). (o >>= range_to table parameters to.value) >>= added found.0) over.found
-      ∙ ap (λ (o : Option (List Bounds)). found_by o y >>= added found.0) again.1)))
+      let goes_on : begins_next parameters to.value z ≡ true = ap (λ (b : Bool). b && begins_range z) (sym (pair_is last to.value to.related)) ∙ both in (
+        sym (error_after next more) ∙ rest.1,
+        (
+          found.0 ++ again.0,
+          rw (start, begins, end, goes_on)
+              (ap (λ (o : Option (List Bounds)). found_by o (drop 1 z) >>= λ (members, after). (range_end_at table parameters to.value after >>= added members)) found.1
+              ∙ ap (λ (o : Found ClassProductions.ClassAtom). (o >>= range_to table parameters to.value) >>= added found.0) over.found
+              ∙ ap (λ (o : Option (List Bounds)). found_by o y >>= added found.0) again.1),
+        ),
+      )
 
   part_back : (t : Source) → Each (PartBack t) (class_part_at table parameters t)
   part_back t =

@@ -1,7 +1,6 @@
 -- The parts of a class without the flags u and v are those that NonemptyClassRanges of ECMA-262 derives. A code point above
 -- U+FFFF is two characters there.
-use Rattle.std.proofs.Common.{◌≡◌, ℕ, zero, suc, ◌+◌, ◌-◌, ◌/◌, ◌<◌, ◌≤◌, ◌==◌, ◌⊎◌, inl, inr, Bool, true, false, not, ◌&&◌, ◌||◌, List, [], ◌∷◌, length, drop, Option, Some, None, if◌then◌else◌, refl, sym, ap, ap₂, subst, ◌∙◌, eqb-true, nat_le, arith}
-use Rattle.std.specs.Option.{option_or}
+use Rattle.std.proofs.Common.{◌≡◌, ℕ, zero, suc, ◌<◌, ◌≤◌, ◌==◌, ◌⊎◌, inl, inr, Bool, true, false, not, ◌&&◌, ◌||◌, [], ◌∷◌, length, drop, Option, Some, None, if◌then◌else◌, refl, sym, ap, ap₂, subst, ◌∙◌, nat_le, arith}
 use Rattle.std.specs.List.{All}
 use Rattle.std.proofs.lemmas.Bool.{false≢true, and_parts}
 use Rattle.std.proofs.lemmas.Bool.Decides.{nat_tests}
@@ -11,18 +10,17 @@ use Rattle.regress_base.specs.Intervals.{code_point_max}
 use Rattle.regress_base.specs.Table.{Table}
 use Rattle.regress_lexer.specs.Escapes.{lead_surrogate, trail_surrogate}
 use Rattle.regress_base.specs.declared.charclasses.CharacterClassType.{CharacterClassType}
-use Rattle.regress_lexer.specs.Source.{Source, Found, ◌>>=◌, found_map, first_production, IsCodePoint, char, is_at, is_one_of}
+use Rattle.regress_lexer.specs.Source.{Source, Found, first_production, IsCodePoint, char, is_at}
 use Rattle.regress_lexer.specs.Digits.{is_decimal, is_letter, control}
 use Rattle.regress_lexer.proofs.lemmas.Sources.{EachProduction, no_more, ◌also◌, first_production-has}
-use Rattle.regress_lexer.proofs.lemmas.InRange.{Finds, finds_none, finds_some, finds_cond, finds_map, finds_then, character_escape_at-in_range}
+use Rattle.regress_lexer.proofs.lemmas.InRange.{Finds, finds_none, finds_some, finds_cond, finds_map, character_escape_at-in_range}
 use Rattle.regress_lexer.proofs.lemmas.After.{after_all, after_drop}
 use Rattle.regress_classes.specs.ClassProductions.{begins_range, class_letter}
 use Rattle.regress_classes.specs.declared.parameters.Parameters.{Parameters}
 use Rattle.regress_classes.specs.Properties.{Property, of_points, of_strings, property_at}
-use Rattle.regress_ecma.specs.ClassGrammar.{property_node, control_at, escape_productions, class_escape_at, is_pair, lead, trail, class_atom_at, with_before, with_atom, with_range, with_ranges, class_part_at, class_ranges_by}
+use Rattle.regress_ecma.specs.ClassGrammar.{property_node, control_at, escape_productions, class_escape_at, is_pair, lead, trail, class_atom_at, with_atom, with_range, with_ranges, class_part_at, class_ranges_by}
 use Rattle.regress_ecma.specs.ClassNodes.{ClassAtom, character, class_escape, property, string_property, class_strings, nested_class, ClassContents, empty, atom_then, range_then, intersection, subtraction}
-use Rattle.regress_ecma.specs.ClassRanges.{class_atom, class_atom_no_dash, IsNonemptyClassRanges, IsNonemptyClassRangesNoDash, IsClassContents, is_wrong_range, has_early_error}
-use Rattle.regress_ecma.proofs.EscapesWithU.{by_case}
+use Rattle.regress_ecma.specs.ClassRanges.{class_atom, class_atom_no_dash, IsNonemptyClassRanges, IsClassContents, is_wrong_range, has_early_error}
 use Rattle.regress_ecma.proofs.ClassAtomNodes.{own, IsAtomOf, atom_is}
 use Rattle.regress_ecma.proofs.ClassDerivations.{front_is, to_no_dash, is_atom, no_atom, atom_opens, not_closed, Alone, InRange, by_first}
 use Rattle.regress_ecma.proofs.ClassRangeNodes.{atom-ends, atom-shortens, Each, each_none, each_some, each_if, each_then, each_at}
@@ -68,6 +66,7 @@ module _ (table : Table) (parameters : Parameters) where
           also (λ _. finds_none IsPoint)
           also (λ _. finds_map IsCodePoint IsPoint character _ (λ x k. k) (character_escape_at-in_range parameters.dialect parameters.unicode (c ∷ t) h))
           also no_more
+
       by : (letter : Option (CharacterClassType × Bool)) →
           Finds IsPoint (elim letter as (λ _. Found ClassAtom) [
             | None ↦ first_production (escape_productions table parameters c t)
@@ -202,22 +201,28 @@ module _ (table : Table) (icase named : Bool) where
 
   alone_part : (b : Bool) (a : ClassAtom) (t u : Source) → At b a t u → begins_range u ≡ false →
       IsPart t ((λ more. before_by b a (atom_then (last_by b a) more)), u)
-  alone_part b a t u e none more rest ok =
-      (sym (error_before b a (atom_then (last_by b a) more)) ∙ ok,
-      λ h. after_first b a t u rest (atom_then (last_by b a) more) e (λ w f. one_then (last_by b a) w u rest more f none h))
+  alone_part b a t u e none more rest ok = (
+    sym (error_before b a (atom_then (last_by b a) more)) ∙ ok,
+    λ h. after_first b a t u rest (atom_then (last_by b a) more) e (λ w f. one_then (last_by b a) w u rest more f none h),
+  )
 
   range_part : (b d : Bool) (a c : ClassAtom) (t u z : Source) → At b a t u → begins_range u ≡ true → At d c (drop 1 u) z →
       (d && begins_range z) ≡ false →
       IsPart t ((λ more. before_by b a (range_then (last_by b a) (first_by d c) (after_by d c more))), z)
   range_part b d a c t u z e begins f none more rest ok =
       let fine = or_parts (is_wrong_range false (last_by b a) (first_by d c)) (error (after_by d c more))
-      (sym (error_before b a (range_then (last_by b a) (first_by d c) (after_by d c more))) ∙ ok) in
-      (sym (error_after d c more) ∙ fine.1,
-      λ h. after_first b a t u rest (range_then (last_by b a) (first_by d c) (after_by d c more)) e
-      (λ w g.
-      let tail = after_last d c (drop 1 u) z rest more f none h in
-      (drop 1 u, tail.0,
-      g ∙ ap (λ (k : Source). Some (last_by b a, k)) (front_is (char "-") u (and_parts (is_at (char "-") u) _ begins).0), tail.1, tail.2)))
+      (sym (error_before b a (range_then (last_by b a) (first_by d c) (after_by d c more))) ∙ ok) in (
+        sym (error_after d c more) ∙ fine.1,
+        λ h. after_first b a t u rest (range_then (last_by b a) (first_by d c) (after_by d c more)) e
+            (λ w g.
+            let tail = after_last d c (drop 1 u) z rest more f none h in (
+              drop 1 u,
+              tail.0,
+              g ∙ ap (λ (k : Source). Some (last_by b a, k)) (front_is (char "-") u (and_parts (is_at (char "-") u) _ begins).0),
+              tail.1,
+              tail.2,
+            )),
+      )
 
   abbrev ranges_by : (b d g : Bool) (a c n : ClassAtom) → ClassContents → ClassContents
   ranges_by b d g a c n more =
@@ -233,15 +238,24 @@ module _ (table : Table) (icase named : Bool) where
       absurd (false≢true (sym (or_parts (is_wrong_range false (trail c) (lead n)) (error more) fine.1).0 ∙ wrong refl))
   ranges_part b false a c n t u z y e begins (w, f, f') again k wrong more rest ok =
       let fine = or_parts (is_wrong_range false (last_by b a) (lead c)) (error (range_then (trail c) n more))
-      (sym (error_before b a (range_then (last_by b a) (lead c) (range_then (trail c) n more))) ∙ ok) in
-      ((or_parts (is_wrong_range false (trail c) n) (error more) fine.1).1,
-      λ h. after_first b a t u rest (range_then (last_by b a) (lead c) (range_then (trail c) n more)) e
-      (λ x g.
-      (drop 1 u, w,
-      g ∙ ap (λ (l : Source). Some (last_by b a, l)) (front_is (char "-") u (and_parts (is_at (char "-") u) _ begins).0), f,
-      inr (drop 1 z, y,
-      (is_atom table false named w z (trail c) f').0
-      ∙ ap (λ (l : Source). Some (trail c, l)) (front_is (char "-") z (and_parts (is_at (char "-") z) _ again).0), k, h))))
+      (sym (error_before b a (range_then (last_by b a) (lead c) (range_then (trail c) n more))) ∙ ok) in (
+        (or_parts (is_wrong_range false (trail c) n) (error more) fine.1).1,
+        λ h. after_first b a t u rest (range_then (last_by b a) (lead c) (range_then (trail c) n more)) e
+            (λ x g. (
+              drop 1 u,
+              w,
+              g ∙ ap (λ (l : Source). Some (last_by b a, l)) (front_is (char "-") u (and_parts (is_at (char "-") u) _ begins).0),
+              f,
+              inr (
+                drop 1 z,
+                y,
+                (is_atom table false named w z (trail c) f').0
+                    ∙ ap (λ (l : Source). Some (trail c, l)) (front_is (char "-") z (and_parts (is_at (char "-") z) _ again).0),
+                k,
+                h,
+              ),
+            )),
+      )
 
   -- code points are left, and it is such a part
   abbrev IsPartOf : Source → (ClassContents → ClassContents) × Source → Type 0
@@ -254,12 +268,13 @@ module _ (table : Table) (icase named : Bool) where
       let at_c = rest_points table parameters t u a points e in
       let at_z = rest_points table parameters (drop 1 u) z c (after_all u (drop 1 u) (after_drop 1 u) at_c) f in
       let at_n = after_all z (drop 1 z) (after_drop 1 z) at_z in
-      let parts = and_parts (is_pair c) (begins_range z) both in
-      (rest_points table parameters (drop 1 z) y n at_n g,
-      subst (λ (d : Bool). At d c (drop 1 u) z → IsPart t (ranges_by (is_pair a) d (is_pair n) a c n, y)) (sym parts.0)
-      (λ k. ranges_part (is_pair a) (is_pair n) a c n t u z y (view t u a e) begins k parts.1 (view (drop 1 z) y n g)
-      (λ pair. wrong_pair c n parts.0 pair ((atom_point table parameters (drop 1 z) at_n).each (n, y) g)))
-      (view (drop 1 u) z c f))
+      let parts = and_parts (is_pair c) (begins_range z) both in (
+        rest_points table parameters (drop 1 z) y n at_n g,
+        subst (λ (d : Bool). At d c (drop 1 u) z → IsPart t (ranges_by (is_pair a) d (is_pair n) a c n, y)) (sym parts.0)
+            (λ k. ranges_part (is_pair a) (is_pair n) a c n t u z y (view t u a e) begins k parts.1 (view (drop 1 z) y n g)
+            (λ pair. wrong_pair c n parts.0 pair ((atom_point table parameters (drop 1 z) at_n).each (n, y) g)))
+            (view (drop 1 u) z c f),
+      )
 
   part_is : (t : Source) → All IsCodePoint t → Each (IsPartOf t) (class_part_at table parameters t)
   part_is t points =
@@ -269,9 +284,10 @@ module _ (table : Table) (icase named : Bool) where
       (λ y f. each_if (IsPartOf t) (is_pair y.0 && begins_range y.1) _ _
       (λ both. each_then (IsPartOf t) (parsed (drop 1 y.1)) _
       (λ z g. each_some (IsPartOf t) (with_ranges table parameters x.0 y.0 z.0, z.1) (ranges_case t points x.0 y.0 z.0 x.1 y.1 z.1 e begins f both g)))
-      (λ none. each_some (IsPartOf t) (with_range table parameters x.0 y.0, y.1)
-      (rest_points table parameters (drop 1 x.1) y.1 y.0 (after_all x.1 (drop 1 x.1) (after_drop 1 x.1) (rest_points table parameters t x.1 x.0 points e)) f,
-      range_part (is_pair x.0) (is_pair y.0) x.0 y.0 t x.1 y.1 (view t x.1 x.0 e) begins (view (drop 1 x.1) y.1 y.0 f) none))))
+      (λ none. each_some (IsPartOf t) (with_range table parameters x.0 y.0, y.1) (
+        rest_points table parameters (drop 1 x.1) y.1 y.0 (after_all x.1 (drop 1 x.1) (after_drop 1 x.1) (rest_points table parameters t x.1 x.0 points e)) f,
+        range_part (is_pair x.0) (is_pair y.0) x.0 y.0 t x.1 y.1 (view t x.1 x.0 e) begins (view (drop 1 x.1) y.1 y.0 f) none,
+      ))))
       (λ none. each_some (IsPartOf t) (with_atom table parameters x.0, x.1)
       (rest_points table parameters t x.1 x.0 points e, alone_part (is_pair x.0) x.0 t x.1 (view t x.1 x.0 e) none)))
 
@@ -318,6 +334,7 @@ module _ (table : Table) (icase named : Bool) where
           AloneBy true a u node rest ⊎ RangeBy true a u node rest
       inner m eq (inl (more, eq2, none, k)) = inl (more, eq ∙ ap (λ (l : ClassContents). atom_then (lead a) l) eq2, none, k)
       inner m eq (inr (v, c, w2, more, at_u, eq2, g, k)) = inr (v, c, w2, more, at_u, eq ∙ ap (λ (l : ClassContents). atom_then (lead a) l) eq2, g, k)
+
       outer : Alone table false named (lead a) w node rest ⊎ InRange table false named (lead a) w node rest →
           AloneBy true a u node rest ⊎ RangeBy true a u node rest
       outer (inl (m, eq, none, inl (is_empty, at_end))) = absurd (not_at_end (trail a) w u rest f at_end)
@@ -339,8 +356,13 @@ module _ (table : Table) (icase named : Bool) where
       Contents node w (char "]" ∷ rest) → LastBy d c z b node rest ⊎ AgainBy d c z b node rest
   last_by_unit false c b v z w rest node e g h =
       let same : (c, z) ≡ (b, w) = same_Some (c, z) (b, w) (sym e ∙ g) in
-      inl (node, sym (ap (λ (x : ClassAtom × Source). x.0) same), refl, refl,
-      subst (λ (k : Source). Contents node k (char "]" ∷ rest)) (sym (ap (λ (x : ClassAtom × Source). x.1) same)) h)
+      inl (
+        node,
+        sym (ap (λ (x : ClassAtom × Source). x.0) same),
+        refl,
+        refl,
+        subst (λ (k : Source). Contents node k (char "]" ∷ rest)) (sym (ap (λ (x : ClassAtom × Source). x.1) same)) h,
+      )
   last_by_unit true c b v z w rest node (x, e, f) g h =
       let same : (lead c, x) ≡ (b, w) = same_Some (lead c, x) (b, w) (sym e ∙ g) in
       outer (sym (ap (λ (y : ClassAtom × Source). y.0) same))
@@ -350,6 +372,7 @@ module _ (table : Table) (icase named : Bool) where
           LastBy true c z b node rest ⊎ AgainBy true c z b node rest
       inner first (inl (more, eq, none, k)) = inl (more, first, eq, none, k)
       inner first (inr (v2, n, y, more, at_z, eq, found, k)) = inr (refl, v2, n, y, more, at_z, first, eq, found, k)
+
       outer : b ≡ lead c → Contents node x (char "]" ∷ rest) → LastBy true c z b node rest ⊎ AgainBy true c z b node rest
       outer first (inl (is_empty, at_end)) = absurd (not_at_end (trail c) x z rest f at_end)
       outer first (inr k) = inner first (by_first table false named node x z rest (trail c) (is_atom table false named x z (trail c) f).0 k)
@@ -449,6 +472,7 @@ module _ (table : Table) (icase named : Bool) where
           ∙ ap (λ (x : ClassAtom). before_by (is_pair a) a (range_then (last_by (is_pair a) a) (lead c) (range_then (trail c) x m)))
           (sym (ap (λ (x : ClassAtom × Source). x.0) same)))
           (subst (λ (l : Source). Contents m l (char "]" ∷ rest)) (sym (ap (λ (x : ClassAtom × Source). x.1) same)) k)
+
       with_view : (n' : ClassAtom) (y' : Source) → parsed w ≡ Some (n', y') → (b : Bool) → is_pair n' ≡ b → At b n' w y' → HasPart t node rest
       with_view n' y' h false whole k' = whole_case n' y' h whole (same_Some (n', y') (n, y) (sym k' ∙ g))
       with_view n' y' h true is_two (x, k', l) =
@@ -456,6 +480,7 @@ module _ (table : Table) (icase named : Bool) where
           let fine : is_wrong_range false (trail c) (lead n') ≡ false =
           ap (is_wrong_range false (trail c)) same ∙ second_fine a c n m (sym (ap error eq) ∙ ok) in
           absurd (false≢true (sym fine ∙ wrong_pair c n' pair is_two ((atom_point table parameters w points).each (n', y') h)))
+
       by : Looked w → HasPart t node rest
       by (inr none) = absurd (none-some (n, y) (sym (unparsed w none) ∙ g))
       by (inl (x, h)) = with_view x.0 x.1 h (is_pair x.0) refl (view w x.1 x.0 h)
@@ -467,12 +492,14 @@ module _ (table : Table) (icase named : Bool) where
     where
       opens : is_at (char "]") v ≡ false
       opens = atom_opens table false named v w b g
+
       chosen : (c : ClassAtom) (z : Source) → parsed v ≡ Some (c, z) → LastBy (is_pair c) c z b more rest ⊎ AgainBy (is_pair c) c z b more rest → HasPart t node rest
       chosen c z f (inl (m, first, after, stops, l)) = one_range t v z rest a c b node more m e opens f stops eq first after l
       chosen c z f (inr (pair, x, n, y, m, at_z, first, is_more, h, l)) =
           again_case t v x y rest a c n node m e opens (f ∙ ap (λ (s : Source). Some (c, s)) at_z) pair
           (after_all (char "-" ∷ x) x (after_drop 1 (char "-" ∷ x)) (subst (All IsCodePoint) at_z (rest_points table parameters v z c points f))) h
           (eq ∙ ap₂ (λ (d : ClassAtom) (s : ClassContents). before_by (is_pair a) a (range_then (last_by (is_pair a) a) d s)) first is_more) ok l
+
       by : Looked v → HasPart t node rest
       by (inr none) = absurd (none-some (b, w) (sym (unparsed v none) ∙ g))
       by (inl (x, f)) = chosen x.0 x.1 f (last_by_unit (is_pair x.0) x.0 b v x.1 w rest more (view v x.1 x.0 f) g k)
@@ -494,6 +521,7 @@ module _ (table : Table) (icase named : Bool) where
       chosen a u e (inr (v, b, w, more, at_u, eq, g, k)) =
           range_case t v w rest a b node more (e ∙ ap (λ (s : Source). Some (a, s)) at_u)
           (after_all (char "-" ∷ v) v (after_drop 1 (char "-" ∷ v)) (subst (All IsCodePoint) at_u (rest_points table parameters t u a points e))) eq ok g k
+
       by : Looked t → HasPart t node rest
       by (inr none) = let first = ranges_first node t (char "]" ∷ rest) h in absurd (none-some first.0 (sym (unparsed t none) ∙ first.1))
       by (inl (x, e)) = chosen x.0 x.1 e (first_by_unit (is_pair x.0) x.0 t x.1 rest node (view t x.1 x.0 e) h)

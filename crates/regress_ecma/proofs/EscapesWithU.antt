@@ -1,15 +1,14 @@
 -- With the flag u the productions of an escape find what CharacterEscape of ECMA-262 derives.
-use Rattle.std.proofs.Common.{◌≡◌, ℕ, ◌==◌, ◌+◌, ◌-◌, Bool, true, false, not, ◌&&◌, ◌||◌, List, [], ◌∷◌, length, take, drop, Option, Some, None, if◌then◌else◌, refl, sym, ap, subst, ◌∙◌, eqb-true, nat_le, arith}
+use Rattle.std.proofs.Common.{◌≡◌, ℕ, ◌==◌, Bool, true, false, not, ◌&&◌, ◌||◌, [], ◌∷◌, length, take, drop, Option, Some, None, if◌then◌else◌, refl, sym, ap, subst, ◌∙◌, eqb-true, arith}
 use Rattle.std.specs.Prelude.{codes}
 use Rattle.std.specs.Option.{option_or}
 use Rattle.std.proofs.lemmas.Bool.Decides.{nat_tests}
 use Rattle.std.proofs.lemmas.List.Folds.{list_any-append}
-use Rattle.std.specs.List.{list_all, list_any}
-use Rattle.regress_lexer.specs.Source.{Source, Found, ◌>>=◌, char, is_at, is_one_of}
-use Rattle.regress_lexer.specs.Digits.{hex_at, is_between, is_decimal, is_letter, is_hex, control, number}
+use Rattle.regress_lexer.specs.Source.{Source, Found, ◌>>=◌, char}
+use Rattle.regress_lexer.specs.Digits.{hex_at, is_between, is_decimal, is_letter, control, number}
 use Rattle.regress_lexer.specs.Escapes.{escape_at, unicode_at, braced_hex_at, with_trail_surrogate, trail_surrogate_at, unit_at, paired, or_identity_escape, control_at, other_escape}
 use Rattle.regress_lexer.specs.Escapes as Escapes
-use Rattle.regress_ecma.specs.CharacterEscapes.{first_of, terminal, led_by, hex_4_digits, is_lead, is_trail, escaped_trail, hex_pair, code_point, unicode_escape, character_escape, is_syntax_character, is_before, control_letter, identity_escape, pair_value}
+use Rattle.regress_ecma.specs.CharacterEscapes.{hex_4_digits, is_lead, is_trail, escaped_trail, code_point, unicode_escape, character_escape, is_syntax_character, pair_value}
 
 -- ---- one character at a time
 
@@ -75,6 +74,7 @@ by_value (Some (value, t)) = by_case (is_lead value) is_lead_first (λ lead. by_
         ≡ elim second as (λ _. Found ℕ) [ None ↦ Some (value, t) | Some low ↦ Some (paired value low.0, low.1) ]
     by_second None = refl
     by_second (Some low) = refl
+
     is_lead_first : is_lead value ≡ true →
         option_or ((if is_lead value then Some (value, t) else None) >>= λ (lead, u). escaped_trail u >>= λ (trail, rest). Some (pair_value lead trail, rest))
         (option_or {T = ℕ × Source} (if is_lead value then Some (value, t) else None)
@@ -150,6 +150,7 @@ module _ (named : Bool) where
       or_false : (b : Bool) → (b || false) ≡ b
       or_false true = refl
       or_false false = refl
+
       other : (c == char "/") ≡ false →
           option_or {T = ℕ × Source} (if is_syntax_character c then Some (c, t) else None)
           (option_or {T = ℕ × Source} (if c == char "/" then Some (char "/", t) else None) None)
@@ -157,6 +158,7 @@ module _ (named : Bool) where
       other e =
           rw (or_false (Escapes.is_syntax_character c), syntax_same c, e, or_false (is_syntax_character c))
           (or_none (if is_syntax_character c then Some (c, t) else None))
+
       slash : (c == char "/") ≡ true →
           option_or {T = ℕ × Source} (if is_syntax_character c then Some (c, t) else None)
           (option_or {T = ℕ × Source} (if c == char "/" then Some (char "/", t) else None) None)

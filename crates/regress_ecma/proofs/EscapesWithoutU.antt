@@ -1,6 +1,6 @@
 -- Without the flag u the productions of an escape find what CharacterEscape of ECMA-262 derives. A code point above U+FFFF is
 -- two characters there.
-use Rattle.std.proofs.Common.{◌≡◌, ℕ, ◌==◌, ◌+◌, ◌-◌, ◌*◌, ◌/◌, ◌%◌, ◌<◌, ◌≤◌, ◌⊎◌, inl, inr, Bool, true, false, not, ◌&&◌, ◌||◌, List, [], ◌∷◌, length, take, drop, Option, Some, None, if◌then◌else◌, refl, sym, ap, subst, ◌∙◌, eqb-true, nat_le, arith, length-take, leb-true}
+use Rattle.std.proofs.Common.{◌≡◌, ℕ, ◌==◌, ◌-◌, ◌%◌, ◌<◌, ◌≤◌, ◌⊎◌, inl, inr, Bool, true, false, not, ◌&&◌, ◌||◌, [], ◌∷◌, length, take, drop, Some, None, if◌then◌else◌, refl, sym, ap, subst, ◌∙◌, nat_le, arith, length-take, leb-true}
 use Rattle.std.specs.Option.{option_or}
 use Rattle.std.specs.List.{list_all}
 use Rattle.std.proofs.lemmas.Bool.{false≢true, and_parts}
@@ -8,15 +8,15 @@ use Rattle.std.proofs.lemmas.Bool.Decides.{nat_tests}
 use Rattle.std.proofs.lemmas.Option.{none-some, same_Some}
 use Rattle.regress_base.specs.Table.{Table}
 use Rattle.regress_lexer.specs.declared.dialect.Dialect.TheVariants.{Ecma}
-use Rattle.regress_lexer.specs.Source.{Source, Found, ◌>>=◌, found_map, char, is_at, is_one_of}
-use Rattle.regress_lexer.specs.Digits.{hex_at, is_between, is_decimal, is_octal, is_letter, is_hex, control, number}
+use Rattle.regress_lexer.specs.Source.{Source, Found, ◌>>=◌, char, is_one_of}
+use Rattle.regress_lexer.specs.Digits.{hex_at, is_decimal, is_octal, is_letter, is_hex, number}
 use Rattle.regress_lexer.specs.Escapes.{escape_at, character_escape_at, unicode_at, with_trail_surrogate, trail_surrogate_at, paired, or_identity_escape, begins_with_digit, octal_digits}
 use Rattle.regress_lexer.specs.Escapes as Escapes
 use Rattle.regress_lexer.proofs.lemmas.Digits.{hex_fits, octal_number_fits}
-use Rattle.regress_ecma.specs.CharacterEscapes.{first_of, led_by, hex_4_digits, is_lead, is_trail, lead_unit, trail_unit, source_character, source_character_but, escaped_trail, character_escape, is_no_identity, identity_escape, legacy_octal_escape, control_escape, control_letter, null_escape, unicode_escape}
-use Rattle.regress_ecma.specs.ClassNodes.{ClassAtom, character}
+use Rattle.regress_ecma.specs.CharacterEscapes.{led_by, hex_4_digits, is_lead, is_trail, lead_unit, trail_unit, source_character, escaped_trail, character_escape, is_no_identity, identity_escape, legacy_octal_escape, control_escape, control_letter, null_escape, unicode_escape}
+use Rattle.regress_ecma.specs.ClassNodes.{character}
 use Rattle.regress_ecma.specs.ClassRanges.{class_atom_no_dash}
-use Rattle.regress_ecma.proofs.EscapesWithU.{at_character, by_case, or_none, no_hex, trail_same}
+use Rattle.regress_ecma.proofs.EscapesWithU.{at_character, or_none, no_hex, trail_same}
 use Rattle.regress_ecma.proofs.OctalEscapes.{octal_found, octal_escape, no_octal_escape}
 
 -- ---- surrogates
@@ -181,8 +181,12 @@ module _ (table : Table) (named : Bool) where
   pair_units lead t is None e small = inl (small, refl)
   pair_units lead t is (Some (d, rest)) e small =
       let found = escaped_trail_found d t rest e in
-      inr (t, pair_above lead d, ap (λ (x : ℕ). Some (x, t)) (sym (lead_of_pair lead d is found.1)),
-      found.0 ∙ ap (λ (x : ℕ). Some (character x, rest)) (sym (trail_of_pair lead d is found.1)))
+      inr (
+        t,
+        pair_above lead d,
+        ap (λ (x : ℕ). Some (x, t)) (sym (lead_of_pair lead d is found.1)),
+        found.0 ∙ ap (λ (x : ℕ). Some (character x, rest)) (sym (trail_of_pair lead d is found.1)),
+      )
 
   at_u : (t : Source) → Units (char "u" ∷ t)
   unfolding escape_at unicode_at
@@ -200,6 +204,7 @@ module _ (table : Table) (named : Bool) where
         where
           small : nat_le 0x10000 value ≡ false
           small = hex_small 4 (c ∷ t) (value, r) (omega arith) e
+
           with_trail : (b : Bool) → is_lead value ≡ b →
               IsUnits (Some (value, r)) (or_identity_escape false (char "u") (c ∷ t)
               (if b then elim (trail_surrogate_at r) as (λ _. Found ℕ) [ None ↦ Some (value, r) | Some low ↦ Some (paired value low.0, low.1) ] else Some (value, r)))
@@ -238,10 +243,12 @@ module _ (table : Table) (named : Bool) where
       no_c : (b : Bool) → (if b then true else true) ≡ false → ⊥
       no_c true h = false≢true (sym h)
       no_c false h = false≢true (sym h)
+
       found_is : (c == char "f") ≡ false → (c == char "n") ≡ false → (c == char "r") ≡ false → (c == char "t") ≡ false → (c == char "v") ≡ false →
           (c == char "c") ≡ false → (c == char "0") ≡ false → (c == char "x") ≡ false → (c == char "u") ≡ false →
           character_escape_at Ecma false (c ∷ t) ≡ (if is_octal c then octal_found c t (octal_digits c t) else Some (c, t))
       found_is f n r tab v letter zero x u = rw (escape_at, f, n, r, tab, v, letter, zero, x, u, or_true (Escapes.is_syntax_character c)) refl
+
       by_octal : (b : Bool) → is_octal c ≡ b → (c == char "0") ≡ false →
           IsUnits (octal_or_identity c t) (if b then octal_found c t (octal_digits c t) else Some (c, t))
       by_octal true e zero = octal_units c t e (ap (λ (b : Bool). b && not (begins_with_digit t)) zero)

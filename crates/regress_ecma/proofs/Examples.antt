@@ -1,9 +1,9 @@
 -- Worked examples of the grammar of classes: what each nonterminal derives.
-use Rattle.std.proofs.Common.{◌≡◌, ℕ, Bool, true, false, [], ◌∷◌, ◌++◌, inl, inr, Some, None, refl}
+use Rattle.std.proofs.Common.{◌≡◌, true, false, [], ◌∷◌, inl, inr, Some, None, refl}
 use Rattle.std.specs.Prelude.{codes}
 use Rattle.regress_base.specs.Table.{Table}
 use Rattle.regress_base.specs.declared.charclasses.CharacterClassType.TheVariants.{Digits, Words}
-use Rattle.regress_lexer.specs.Source.{Source, char}
+use Rattle.regress_lexer.specs.Source.{char}
 use Rattle.regress_lexer.specs.Digits.{front, after}
 use Rattle.regress_ecma.specs.CharacterEscapes.{control_escape, unicode_escape, legacy_octal_escape, identity_escape, character_escape, source_character}
 use Rattle.regress_ecma.specs.ClassNodes.{character, class_escape, class_strings, nested_class, empty, atom_then, range_then, intersection, subtraction}

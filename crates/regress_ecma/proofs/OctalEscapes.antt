@@ -1,10 +1,10 @@
 -- The octal digits of an escape are those that LegacyOctalEscapeSequence of ECMA-262 derives.
-use Rattle.std.proofs.Common.{◌≡◌, ℕ, ◌==◌, Bool, true, false, not, ◌&&◌, ◌||◌, nat_le, List, [], ◌∷◌, length, take, drop, Some, None, if◌then◌else◌, refl, sym, ap, subst, ◌∙◌, eqb-true, arith}
+use Rattle.std.proofs.Common.{◌≡◌, ℕ, ◌==◌, Bool, true, false, not, ◌&&◌, nat_le, [], ◌∷◌, length, take, drop, Some, None, if◌then◌else◌, refl, sym, arith}
 use Rattle.std.proofs.lemmas.Bool.Decides.{nat_tests}
 use Rattle.regress_lexer.specs.Source.{Source, Found, char, is_one_of}
 use Rattle.regress_lexer.specs.Digits.{is_between, is_decimal, is_octal, number, front}
 use Rattle.regress_lexer.specs.Escapes.{octal_digits, begins_with_digit}
-use Rattle.regress_ecma.specs.CharacterEscapes.{first_of, is_before, zero_before_8_or_9, one_octal_digit, two_octal_digits, four_to_seven, three_octal_digits, legacy_octal_escape}
+use Rattle.regress_ecma.specs.CharacterEscapes.{first_of, legacy_octal_escape}
 use Rattle.regress_ecma.proofs.EscapesWithU.{at_character}
 
 -- what the digits denote, and what remains
