@@ -38,7 +38,8 @@ module _ (table : Table) where
     abbrev pub inside : Bool → Source → Source
     inside b t = if b then drop 1 t else t
 
-    node_of : (t : Source) (contents : ClassContents) (rest : Source) → IsClassContents table unicode named contents (inside (is_at (char "^") t) t) (char "]" ∷ rest) →
+    node_of : (t : Source) (contents : ClassContents) (rest : Source) →
+        IsClassContents table unicode named contents (inside (is_at (char "^") t) t) (char "]" ∷ rest) →
         has_early_error unicode contents ≡ false →
         IsAcceptedClass table unicode named (record { invert = is_at (char "^") t; contents = contents }) (char "[" ∷ t) rest
     node_of t contents rest h fine = by (is_at (char "^") t) refl h
@@ -54,7 +55,8 @@ module _ (table : Table) where
         let at_u : t ≡ u = ap (drop 1) same in
         let not_at : is_at (char "^") t ≡ false = ap (is_at (char "^")) at_u ∙ none in (
           invert ∙ sym not_at,
-          subst (λ (w : Source). IsClassContents table unicode named node.contents w (char "]" ∷ rest)) (sym at_u ∙ sym (ap (λ (b : Bool). inside b t) not_at)) h,
+          subst (λ (w : Source). IsClassContents table unicode named node.contents w (char "]" ∷ rest)) (sym at_u ∙ sym (ap (λ
+              (b : Bool). inside b t) not_at)) h,
         )
     contents_of node t rest ((u, inr (same, invert), h), fine) =
         let at_u : t ≡ char "^" ∷ u = ap (drop 1) same in
@@ -129,7 +131,8 @@ module _ (table : Table) where
         (let found = (Units.parts_follow table some_flags icase named (length s + 1) s).each x.0 x.1 e in
         let same = found.found in (
           record { invert = is_at (char "^") t; contents = found.value },
-          node_of false named t found.value x.1 (each_at _ _ (Derived.parts_derive table icase named (length s + 1) s (inside_points t points)) (found.value, x.1) same found.related) found.related,
+          node_of false named t found.value x.1 (each_at _ _ (Derived.parts_derive table icase named (length s + 1) s (inside_points t points))
+              (found.value, x.1) same found.related) found.related,
           ap (found_map (λ (contents : ClassContents). record { invert = is_at (char "^") t; contents = contents })) same,
           refl,
         )))

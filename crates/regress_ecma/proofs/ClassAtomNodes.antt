@@ -95,7 +95,8 @@ property_points table t =
     (either_points (named x.0 table.binary) (named x.0 table.general_category)))))
     (λ _. finds_none IsOfPoints)
 
-property_same : (table : Table) (capital : Bool) (t : Source) → property_value false table capital t ≡ found_map (property_node capital) (property_at false table t)
+property_same : (table : Table) (capital : Bool) (t : Source) →
+    property_value false table capital t ≡ found_map (property_node capital) (property_at false table t)
 property_same table capital t = by (property_at false table t) (property_points table t)
   where
     by : (found : Found Property) → Finds IsOfPoints found → found >>= property_escape capital ≡ found_map (property_node capital) found
@@ -238,7 +239,8 @@ module _ (table : Table) (icase named : Bool) where
       IsAtomOf table icase false b (option_or (class_escape_of table false b (char "k" ∷ t)) (option_or (backslash_before_c (char "k" ∷ t)) None))
       (class_escape_at table (own icase false b) (char "k" ∷ t))
   k_units true t = rw (no_octal_escape (char "k") t refl) refl
-  k_units false t = of_units false (char "k") t refl (character_escape false false (char "k" ∷ t)) (character_escape_at Ecma false (char "k" ∷ t)) (escape_without_u table false (char "k") t refl)
+  k_units false t = of_units false (char "k") t refl (character_escape false false (char "k" ∷ t)) (character_escape_at Ecma false (char "k" ∷ t))
+      (escape_without_u table false (char "k") t refl)
 
   escape_units : (t : Source) → EscapesTo t
   escape_units [] = refl
@@ -253,7 +255,8 @@ module _ (table : Table) (icase named : Bool) where
       (λ b. at_character (λ d. EscapesTo (d ∷ t)) (char "c") c (at_c t)
       (λ letter. at_character (λ d. EscapesTo (d ∷ t)) (char "k") c (k_units named t)
       (λ k. subst (Is (mine (c ∷ t))) (sym (no_letter table (own icase false named) c t (letter_none c d dd s ss w ww) ∙ right b letter k))
-      (subst (λ (m : Found ClassAtom). Is (option_or m (option_or (backslash_before_c (c ∷ t)) None)) (found_map character (character_escape_at Ecma false (c ∷ t))))
+      (subst (λ (m : Found ClassAtom). Is (option_or m (option_or (backslash_before_c (c ∷ t)) None)) (found_map character
+      (character_escape_at Ecma false (c ∷ t))))
       (sym (left d dd s ss w ww b letter))
       (of_units named c t letter (character_escape false named (c ∷ t)) (character_escape_at Ecma false (c ∷ t))
       (escape_without_u table named c t (no_identity named c letter (ap (λ (b : Bool). b && named) k))))))))))))))
@@ -274,7 +277,8 @@ module _ (table : Table) (icase named : Bool) where
       at_character (λ d. Is (class_atom table false named (d ∷ t)) (class_atom_at table (own icase false named) (d ∷ t))) (char "]") c refl
       (λ close. at_character (λ d. Is (class_atom table false named (d ∷ t)) (class_atom_at table (own icase false named) (d ∷ t))) (char "\\") c
       (subst (λ (m : Found ClassAtom). Is m (class_escape_at table (own icase false named) t)) (sym (or_none (mine t))) (escape_units t))
-      (λ slash. at_character (λ d. Is (class_atom table false named (d ∷ t)) (class_atom_at table (own icase false named) (d ∷ t))) (char "-") c (inl (refl, refl))
+      (λ slash. at_character (λ d. Is (class_atom table false named (d ∷ t)) (class_atom_at table (own icase false named) (d ∷ t))) (char "-") c
+      (inl (refl, refl))
       (λ dash. rw (class_atom, class_atom_no_dash, close, slash, dash, no_syntax c close slash dash) (by (nat_le 0x10000 c) refl))))
     where
       by : (b : Bool) → nat_le 0x10000 c ≡ b →

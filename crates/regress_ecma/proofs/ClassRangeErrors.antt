@@ -63,7 +63,8 @@ module _ (table : Table) (rer : Flags) (parameters : Parameters) where
   abbrev SamePoints : Property → Property → Type 0
   SamePoints q p = (q ≡ p) × IsOfPoints p
 
-  property_back : (negated : Bool) (q p : Property) (t : Source) → SamePoints q p → Follows Back (Some (property_node negated p, t)) (class_property negated (q, t))
+  property_back : (negated : Bool) (q p : Property) (t : Source) → SamePoints q p →
+      Follows Back (Some (property_node negated p, t)) (class_property negated (q, t))
   property_back negated q (of_points members) t same =
       subst (λ (r : Property). Follows Back (Some (property members negated, t)) (class_property negated (r, t))) (sym same.0)
       (follows_some Back (set (complement_if negated members)) (property members negated) t (refl, tt))

@@ -122,7 +122,8 @@ module _ (table : Table) (rer : Flags) (icase named : Bool) where
       Follows IsPart (range_to table parameters a (b, t)) (Some (with_range table parameters first last, t))
   range_follows first last a b t is_first is_last = by (range_of true false a b) refl
     where
-      by : (found : Option (List Bounds)) → range_of true false a b ≡ found → Follows IsPart (found_by found t) (Some (with_range table parameters first last, t))
+      by : (found : Option (List Bounds)) → range_of true false a b ≡ found →
+          Follows IsPart (found_by found t) (Some (with_range table parameters first last, t))
       by None e = follows_none IsPart _
       by (Some members) e = follows_some IsPart (with_range table parameters first last) members t (range_part first last a b is_first is_last members e)
 
@@ -267,7 +268,8 @@ module _ (table : Table) (rer : Flags) (icase named : Bool) where
         (
           found.0 ++ again.0,
           rw (start, begins, end, goes_on)
-              (ap (λ (o : Option (List Bounds)). found_by o (drop 1 z) >>= λ (members, after). (range_end_at table parameters to.value after >>= added members)) found.1
+              (ap (λ (o : Option (List Bounds)). found_by o (drop 1 z) >>= λ (members, after).
+              (range_end_at table parameters to.value after >>= added members)) found.1
               ∙ ap (λ (o : Found ClassProductions.ClassAtom). (o >>= range_to table parameters to.value) >>= added found.0) over.found
               ∙ ap (λ (o : Option (List Bounds)). found_by o y >>= added found.0) again.1),
         ),

@@ -47,7 +47,8 @@ pub trail_same : (t : Source) → escaped_trail t ≡ trail_surrogate_at t
 trail_same [] = refl
 trail_same (c ∷ []) = by (c == char "\\")
   where
-    by : (b : Bool) → (if b then None else None) ≡ (if b && false then hex_at 4 [] else None) >>= λ (low, rest). (if is_trail low then Some (low, rest) else None)
+    by : (b : Bool) →
+        (if b then None else None) ≡ (if b && false then hex_at 4 [] else None) >>= λ (low, rest). (if is_trail low then Some (low, rest) else None)
     by true = refl
     by false = refl
 trail_same (c ∷ d ∷ t) = by (c == char "\\") (d == char "u")
@@ -61,13 +62,15 @@ trail_same (c ∷ d ∷ t) = by (c == char "\\") (d == char "u")
 
 -- what Hex4Digits derive, by their value
 by_value : (found : Found ℕ) →
-    option_or ((found >>= λ (value, rest). (if is_lead value then Some (value, rest) else None)) >>= λ (lead, u). escaped_trail u >>= λ (trail, rest). Some (pair_value lead trail, rest))
+    option_or ((found >>= λ (value, rest). (if is_lead value then Some (value, rest) else None)) >>= λ (lead, u). escaped_trail u >>= λ
+    (trail, rest). Some (pair_value lead trail, rest))
     (option_or (found >>= λ (value, rest). (if is_lead value then Some (value, rest) else None))
     (option_or (found >>= λ (value, rest). (if is_trail value then Some (value, rest) else None))
     (option_or (found >>= λ (value, rest). (if not (is_between 0xD800 0xDFFF value) then Some (value, rest) else None)) None)))
     ≡ found >>= with_trail_surrogate
 by_value None = refl
-by_value (Some (value, t)) = by_case (is_lead value) is_lead_first (λ lead. by_case (is_trail value) (λ trail. rw (lead, trail) refl) (λ trail. rw (lead, trail, no_surrogate value lead trail) refl))
+by_value (Some (value, t)) = by_case (is_lead value) is_lead_first (λ lead. by_case (is_trail value) (λ trail. rw (lead, trail) refl) (λ trail. rw
+    (lead, trail, no_surrogate value lead trail) refl))
   where
     by_second : (second : Found ℕ) →
         option_or (second >>= λ (trail, rest). Some (pair_value value trail, rest)) (Some (value, t))

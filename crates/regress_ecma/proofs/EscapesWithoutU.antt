@@ -107,7 +107,8 @@ module _ (table : Table) (named : Bool) where
       (at_character (λ y. escaped_trail (char "\\" ∷ y ∷ w) ≡ Some (d, rest) → IsTrailAt d (char "\\" ∷ y ∷ w) rest) (char "u") k
       (digits_of_trail d w rest)
       (λ miss found. absurd (none-some (d, rest) (sym (ap (λ (b : Bool). if b then hex_4_digits is_trail w else None) miss) ∙ found))))
-      (λ miss found. absurd (none-some (d, rest) (sym (ap (λ (b : Bool). if b then led_by (char "u") (hex_4_digits is_trail) (k ∷ w) else None) miss) ∙ found))) e
+      (λ miss found. absurd (none-some (d, rest) (sym (ap (λ (b : Bool). if b then led_by (char "u") (hex_4_digits is_trail)
+      (k ∷ w) else None) miss) ∙ found))) e
 
   -- The same is found, or the lead surrogate with the trail surrogate after it.
   abbrev pub IsUnits : (mine found : Found ℕ) → Type 0
@@ -207,7 +208,11 @@ module _ (table : Table) (named : Bool) where
 
           with_trail : (b : Bool) → is_lead value ≡ b →
               IsUnits (Some (value, r)) (or_identity_escape false (char "u") (c ∷ t)
-              (if b then elim (trail_surrogate_at r) as (λ _. Found ℕ) [ None ↦ Some (value, r) | Some low ↦ Some (paired value low.0, low.1) ] else Some (value, r)))
+              (if b then elim (trail_surrogate_at r) as (λ _. Found ℕ) [
+                | None ↦ Some (value, r)
+                | Some low ↦ Some
+                    (paired value low.0, low.1)
+              ] else Some (value, r)))
           with_trail true lead =
               by_second (trail_surrogate_at r) (trail_same r)
             where

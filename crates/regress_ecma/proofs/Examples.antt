@@ -104,7 +104,8 @@ module _ (table : Table) where
 
   -- `[a-c-]`
   range_and_hyphen : IsAcceptedClass table true false
-      (record { invert = false; contents = range_then (character (char "a")) (character (char "c")) (atom_then (character (char "-")) empty) }) (codes "[a-c-]x") (codes "x")
+      (record { invert = false; contents = range_then (character (char "a")) (character (char "c")) (atom_then (character (char "-")) empty) })
+      (codes "[a-c-]x") (codes "x")
   unfolding class_atom class_atom_no_dash
   range_and_hyphen =
       ((codes "a-c-]x", inl (refl, refl, refl), inr (codes "c-]x", codes "-]x", refl, refl, inr (codes "]x", refl, inl (refl, refl)))), refl)

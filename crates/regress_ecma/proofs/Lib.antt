@@ -41,6 +41,7 @@ mod EscapesWithoutU
 mod ClassAtomNodes
 mod ClassDerivations
 mod ClassRangeNodes
+mod ClassPoints
 mod ClassUnitNodes
 mod ClassRangeErrors
 mod ClassUnitErrors
