@@ -1,5 +1,5 @@
 -- A class ends where its parse node does.
-use Rattle.std.proofs.Common.{◌≡◌, Bool, true, false, ◌&&◌, List, ◌∷◌, Option, Some, None, if◌then◌else◌, refl, ap}
+use Rattle.std.proofs.Common.{◌≡◌, Bool, true, false, ◌&&◌, List, ◌∷◌, Some, None, if◌then◌else◌, refl, ap}
 use Rattle.std.proofs.lemmas.Option.{none-some, same_Some}
 use Rattle.regress_base.specs.Intervals.{Bounds}
 use Rattle.regress_base.specs.declared.types.Flags.{Flags}

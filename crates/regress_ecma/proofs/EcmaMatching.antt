@@ -1,12 +1,12 @@
 -- In the dialect `Ecma` ECMA-262 matches each atom as the syntax tree does, but references by name to groups of one name.
-use Rattle.std.proofs.Common.{◌≡◌, ℕ, ◌==◌, Bool, true, false, List, ◌∷◌, Option, Some, sym, ap, ◌∙◌}
+use Rattle.std.proofs.Common.{◌≡◌, ℕ, Bool, true, false, List, ◌∷◌, Option, Some, sym, ap, ◌∙◌}
 use Rattle.std.proofs.lemmas.Bool.{false≢true}
 use Rattle.regress_base.specs.Table.{Table, HasStrings, denotes}
 use Rattle.regress_base.specs.declared.types.Flags.{Flags}
 use Rattle.regress_tree.specs.Reading.{IsText}
 use Rattle.regress_tree.specs.Steps.{Setting}
 use Rattle.regress_lexer.specs.declared.dialect.Dialect.TheVariants.{Ecma}
-use Rattle.regress_lexer.specs.Source.{Source, char, is_one_of}
+use Rattle.regress_lexer.specs.Source.{Source, char}
 use Rattle.regress_classes.specs.Properties.{of_strings, property_at}
 use Rattle.regress_syntax.specs.Meaning.{longest_first}
 use Rattle.regress_syntax.specs.Productions.{Context}

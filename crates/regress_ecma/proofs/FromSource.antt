@@ -2,7 +2,6 @@
 use Rattle.std.proofs.Common.{◌≡◌, ℕ, ◌+◌, ◌-◌, ◌<◌, ◌≤◌, nat_le, ◌==◌, Bool, true, false, ◌&&◌, ◌||◌, List, [], ◌∷◌, length, slice_get, Option, Some, None, option_map, if◌then◌else◌, refl, sym, ap, ap₂, subst, ◌∙◌, arith}
 use Rattle.std.proofs.Math.ListN.{replicate}
 use Rattle.std.proofs.lemmas.Bool.{eqb-true, false≢true, or_parts}
-use Rattle.std.proofs.lemmas.Option.{none-some, same_Some}
 use Rattle.regress_base.specs.Table.{Table}
 use Rattle.regress_base.specs.declared.charclasses.CharacterClassType.{CharacterClassType}
 use Rattle.regress_base.specs.declared.types.Flags.{Flags}
@@ -42,7 +41,6 @@ use Rattle.regress_ecma.proofs.Bridge.{Agrees}
 use Rattle.regress_ecma.proofs.CharacterSets.{Agrees-character}
 use Rattle.regress_ecma.proofs.ClassMembers.{IsCharSetOf, HasNoEnds, covers-same, covers-found, complement-same, property_is, class_follows}
 use Rattle.regress_ecma.proofs.ClassSetAtoms.{class_set_matches}
-use Rattle.regress_ecma.proofs.ClassSetMembers.{class_set_ends}
 use Rattle.regress_ecma.proofs.Derived.{dialect_inside}
 use Rattle.regress_ecma.proofs.Heads.{head_holds}
 use Rattle.regress_ecma.proofs.Holds.{Holds, holds_none, holds_some, holds_if, holds_then, holds_map, holds_found}

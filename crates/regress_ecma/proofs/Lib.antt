@@ -35,3 +35,15 @@ mod EcmaHeads
 mod InEcma
 mod EcmaMatching
 mod ClassEnds
+mod EscapesWithU
+mod OctalEscapes
+mod EscapesWithoutU
+mod ClassAtomNodes
+mod ClassDerivations
+mod ClassRangeNodes
+mod ClassPoints
+mod ClassUnitNodes
+mod ClassRangeErrors
+mod ClassUnitErrors
+mod AcceptedClasses
+mod Examples

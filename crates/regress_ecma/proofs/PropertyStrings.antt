@@ -1,10 +1,8 @@
 -- A property of strings outside of a class, whose strings are tried longest first.
-use Rattle.std.proofs.Common.{◌≡◌, ℕ, zero, suc, ◌+◌, ◌-◌, ◌≤◌, ◌<◌, ◌==◌, nat_le, nat_lt, Bool, true, false, not, ◌&&◌, ◌||◌, cond, List, [], ◌∷◌, ◌++◌, length, map, filter, flat_map, Option, Some, None, option_map, All, if◌then◌else◌, refl, sym, ap, ap₂, subst, ◌∙◌, arith, append_assoc}
-use Rattle.std.specs.Prelude.{IsTrue}
+use Rattle.std.proofs.Common.{◌≡◌, ℕ, zero, suc, ◌+◌, ◌-◌, ◌≤◌, ◌<◌, ◌==◌, nat_lt, Bool, true, false, ◌||◌, cond, List, [], ◌∷◌, ◌++◌, length, map, filter, Option, Some, None, option_map, All, if◌then◌else◌, refl, sym, ap, ap₂, subst, ◌∙◌, arith, append_assoc}
 use Rattle.std.specs.List.{concat, list_any, list_all}
 use Rattle.std.specs.Option.{IfSome, option_or}
 use Rattle.std.specs.Str.{bytes_eq}
-use Rattle.std.specs.Char.{IsScalar}
 use Rattle.std.proofs.lemmas.Bool.{and_parts, ne_eqb, eq-eqb, eqb-true}
 use Rattle.std.proofs.lemmas.Bool.Decides.{nat_tests}
 use Rattle.std.proofs.lemmas.List.{length-append}
@@ -14,7 +12,7 @@ use Rattle.regress_base.specs.Listing.{code_points}
 use Rattle.regress_base.specs.Table.{Table, Named, named, is_string, HasStrings}
 use Rattle.regress_base.specs.declared.types.Flags.{Flags}
 use Rattle.regress_base.proofs.lemmas.Sets.{is_member-append}
-use Rattle.regress_lexer.specs.Source.{Source, Found, ◌>>=◌, is_at}
+use Rattle.regress_lexer.specs.Source.{Source, is_at}
 use Rattle.regress_classes.specs.Properties.{Property, of_points, of_strings, list_named, strings_named, lone_value, value_in, closed_property, property_at, property_word_at}
 use Rattle.regress_tree.specs.Reading.{Direction, forwards, backwards, IsText, Read, next_character, of_characters}
 use Rattle.regress_tree.specs.References.{all_of, in_order, any_string}

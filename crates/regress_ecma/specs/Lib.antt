@@ -12,3 +12,6 @@ pub mod Compile
 pub mod Exec
 pub mod Differences
 pub mod Compared
+pub mod CharacterEscapes
+pub mod ClassRanges
+pub mod ClassSetExpressions

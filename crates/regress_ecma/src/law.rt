@@ -1,9 +1,14 @@
-//! The theorem that the first outcome of a pattern is the match of ECMA-262.
-ghost use Rattle.std.specs.Prelude.{◌≡◌, ◌<◌, ◌≤◌, ℕ, true, List, Some, None, length, option_map, replicate, slice_get, [], ◌∷◌};
+//! The theorems that the first outcome of a pattern is the match of ECMA-262, and that classes are accepted where it accepts them.
+ghost use Rattle.std.specs.Prelude.{◌≡◌, ◌<◌, ◌≤◌, ℕ, Bool, true, false, List, Some, None, length, option_map, replicate, slice_get, [], ◌∷◌};
 ghost use Rattle.regress_tree.specs.Reading.{Direction, forwards, IsText};
 ghost use Rattle.regress_tree.specs.Steps.{MatchState, IsStateOf, Setting};
-ghost use Rattle.regress_lexer.specs.Source.{Source, char};
+ghost use Rattle.std.specs.List.{All};
+ghost use Rattle.regress_lexer.specs.Source.{Source, IsCodePoint, char};
 ghost use Rattle.regress_lexer.specs.declared.dialect.Dialect.TheVariants.{Regress, Ecma};
+ghost use Rattle.regress_base.specs.Intervals.{Bounds};
+ghost use Rattle.regress_base.specs.Table.{Table};
+ghost use Rattle.regress_classes.specs.ClassProductions.{class_at};
+ghost use Rattle.regress_classes.specs.declared.parameters.Parameters.{Parameters};
 ghost use Rattle.regress_syntax.specs.Grammar.{IsPattern};
 ghost use Rattle.regress_syntax.specs.Meaning.{meaning};
 ghost use Rattle.regress_syntax.specs.Productions.{class_parameters, Context, head_at, single};
@@ -13,6 +18,7 @@ ghost use Rattle.regress_ucd.specs.UnicodeTable.{unicode_table};
 ghost use Rattle.regress_ecma.specs.Assertions.{accept};
 ghost use Rattle.regress_ecma.specs.ClassGrammar.{character_class_at};
 ghost use Rattle.regress_ecma.specs.ClassNodes.{CharacterClass};
+ghost use Rattle.regress_ecma.specs.ClassRanges.{IsAcceptedClass};
 ghost use Rattle.regress_ecma.specs.CompiledClasses.{with_char_sets};
 ghost use Rattle.regress_ecma.specs.Compared.{IsComparable, IsOfUnicode, state_on};
 ghost use Rattle.regress_ecma.specs.Compile.{compile_disjunction, compile_pattern};
@@ -80,4 +86,25 @@ pub fn first_outcome_is_the_match()
         compile_pattern fuel setting.table setting.flags p text index
         ≡ option_map (state_on text) (slice_get
         (meaning setting text forwards p (record { position = index; captures = replicate (length (names p)) None })) 0) }
+{}
+
+/// States the theorem that in the dialect `Ecma` a class without the flag v is accepted exactly where ECMA-262 accepts it
+/// (section 22.2.1 with its early errors, and B.1.2).
+///
+/// `ClassRanges` has the grammar of the standard, which refers to no production of the other crates. Sources are code
+/// points.
+///
+/// The function does nothing at run time; call it where a proof needs the theorem.
+pub fn accepts_what_ecma_accepts()
+    // What is accepted, ECMA-262 derives without an early error; the parse node is the one that `character_class_at` has.
+    ensures accepted { (table : Table) (parameters : Parameters) → parameters.dialect ≡ Ecma → (t rest : Source) → All IsCodePoint t →
+        (inverted : Bool) (members : List Bounds) → class_at table parameters t ≡ Some ((inverted, members), rest) →
+        (node : CharacterClass) × IsAcceptedClass table parameters.unicode parameters.named node (char "[" ∷ t) rest
+        × (character_class_at table parameters false t ≡ Some (node, rest)) × (node.invert ≡ inverted) }
+
+    // What ECMA-262 derives without an early error is accepted, with the same parse node and the same rest.
+    ensures derived { (table : Table) (parameters : Parameters) → parameters.dialect ≡ Ecma → (t rest : Source) → All IsCodePoint t →
+        (node : CharacterClass) → IsAcceptedClass table parameters.unicode parameters.named node (char "[" ∷ t) rest →
+        (character_class_at table parameters false t ≡ Some (node, rest))
+        × ((members : List Bounds) × (class_at table parameters t ≡ Some ((node.invert, members), rest))) }
 {}

@@ -3,4 +3,4 @@
 
 mod law;
 
-pub use law::first_outcome_is_the_match;
+pub use law::{accepts_what_ecma_accepts, first_outcome_is_the_match};
