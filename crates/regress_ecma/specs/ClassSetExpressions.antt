@@ -1,5 +1,6 @@
 -- ECMA-262 (2025), 22.2.1 Patterns: CharacterClass with the flag v (ClassSetExpression), its early errors (22.2.1.1) and
--- MayContainStrings (22.2.1.8). The flag v implies [UnicodeMode]. `named` is the parameter [NamedCaptureGroups].
+-- MayContainStrings (22.2.1.8). The flag v implies [UnicodeMode]. `named` is the parameter [NamedCaptureGroups]. No theorem
+-- is about these definitions yet.
 use Rattle.std.specs.Prelude.{◌≡◌, ℕ, ◌+◌, max, Bool, true, false, not, ◌&&◌, ◌||◌, List, [], ◌∷◌, length, ◌⊎◌, Some, None, if◌then◌else◌, nat_le, ◌==◌}
 use Rattle.std.specs.List.{list_any}
 use Rattle.regress_base.specs.Table.{Table}

@@ -1,12 +1,13 @@
 //! Calls of the functions that state theorems.
 
-use regress_ecma::first_outcome_is_the_match;
+use regress_ecma::{accepts_what_ecma_accepts, first_outcome_is_the_match};
 use regress_escape::escaped_texts_match_themselves;
 use regress_front::codepointset::canonical_form_is_unique;
 use regress_front::types::limits_are_as_defined;
 
 #[test]
 fn functions_that_state_theorems_return(_rt: HostRuntime) {
+    accepts_what_ecma_accepts();
     canonical_form_is_unique();
     escaped_texts_match_themselves();
     first_outcome_is_the_match();
