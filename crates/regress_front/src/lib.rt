@@ -25,9 +25,7 @@ pub mod parse {
         Dialect, Error, FaultKind, ParseFault, PlacedFault, node_bound, try_parse, try_parse_in,
         try_parse_with_position,
     };
-    pub use regress_spans::{
-        Span, SpannedRegex, try_parse_with_spans, try_parse_with_spans_in,
-    };
+    pub use regress_spans::{Span, SpannedRegex, try_parse_with_spans, try_parse_with_spans_in};
 }
 
 /// Optimization and rewriting of trees.
