@@ -423,7 +423,7 @@ pub const OPTIONS: [OptionEntry; 35] = [
             kind: "NUM (a number from 0 to 2^64-1)",
         }),
         scope: OF_MATCH,
-        line: "  -A, --after-context NUM   write the NUM lines after each selected one too, and\n                            -- between lines that are not adjacent\n",
+        line: "  -A, --after-context NUM   write the NUM lines after each selected one, and\n                            -- between lines that are not adjacent\n",
     },
     OptionEntry {
         short: Some("-B"),
@@ -435,7 +435,7 @@ pub const OPTIONS: [OptionEntry; 35] = [
             kind: "NUM (a number from 0 to 2^64-1)",
         }),
         scope: OF_MATCH,
-        line: "  -B, --before-context NUM  write the NUM lines before each selected one too, and\n                            -- between lines that are not adjacent\n",
+        line: "  -B, --before-context NUM  write the NUM lines before each selected one, and\n                            -- between lines that are not adjacent\n",
     },
     OptionEntry {
         short: Some("-C"),
