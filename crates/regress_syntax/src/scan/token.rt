@@ -9,7 +9,7 @@ ghost use Rattle.regress_syntax.specs.Scanning.{mode_of, token_of, depth_of, tok
 ghost use Rattle.regress_syntax.specs.declared.scan.token.Mode.{Mode as CodeMode};
 
 use crate::names::{Name, parse_group_name};
-use regress_lexer::digits::{is_letter, strip_char};
+use regress_lexer::digits::strip_char;
 use regress_unicode::Tables;
 use std::alloc::{AllocError, Global};
 
@@ -76,14 +76,6 @@ impl Mode {
 
 /// Whether the code point is no mark and never changes the mode.
 fn is_insignificant(c: u32) -> bool
-    ensures { result ≡ is_insignificant c }
-{
-    // Most code points are letters.
-    is_letter(c) || is_other_insignificant(c)
-}
-
-/// The same, for a code point that is most often no letter.
-fn is_other_insignificant(c: u32) -> bool
     ensures { result ≡ is_insignificant c }
 {
     // The split in two halves lets each be tested by few comparisons.
