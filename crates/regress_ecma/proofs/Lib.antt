@@ -46,4 +46,5 @@ mod ClassUnitNodes
 mod ClassRangeErrors
 mod ClassUnitErrors
 mod AcceptedClasses
+mod CodeUnits
 mod Examples

@@ -12,6 +12,7 @@ pub mod Compile
 pub mod Exec
 pub mod Differences
 pub mod Compared
+pub mod CodeUnits
 pub mod CharacterEscapes
 pub mod ClassRanges
 pub mod ClassSetExpressions

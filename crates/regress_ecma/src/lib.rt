@@ -1,6 +1,8 @@
 //! ECMA-262's algorithm of matching, transcribed, and the theorem that the definitions of the other crates agree with it.
 #![tactic(auto)]
 
+mod code_units;
 mod law;
 
+pub use code_units::characters_are_code_points;
 pub use law::{accepts_what_ecma_accepts, first_outcome_is_the_match};

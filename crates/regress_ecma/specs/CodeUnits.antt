@@ -1,0 +1,36 @@
+-- ECMA-262, 6.1.4 and 11.1: strings of UTF-16 code units, and the characters that a pattern and a text are read as.
+use Rattle.std.specs.Prelude.{◌≡◌, ℕ, Bool, true, ◌&&◌, List, [], ◌∷◌, nat_le, if◌then◌else◌}
+use Rattle.std.specs.Char.Escape.{encode_utf16}
+use Rattle.std.specs.Char.Utf16.{is_high_surrogate, is_low_surrogate, surrogate_pair_char}
+use Rattle.std.specs.List.{flat_map, list_all}
+use Rattle.regress_base.specs.declared.types.Flags.{Flags}
+use lib.Utf8.{scalar}
+
+-- 11.1.2 CodePointsToString: the code units of each code point, by 11.1.1 UTF16EncodeCodePoint
+abbrev pub code_units : List ℕ → List ℕ
+code_units = flat_map encode_utf16
+
+-- 11.1.5 StringToCodePoints, by 11.1.4 CodePointAt: a surrogate in no pair is a code point by itself
+unfoldable pub code_points : List ℕ → List ℕ
+code_points [] = []
+code_points (u ∷ []) = u ∷ []
+code_points (u ∷ v ∷ units) = if is_high_surrogate u && is_low_surrogate v then surrogate_pair_char u v ∷ code_points units
+    else u ∷ code_points (v ∷ units)
+
+-- 22.2.3.3 RegExpInitialize, of the pattern, and 22.2.7.2 RegExpBuiltinExec, of the text: the characters of a string are its
+-- code points with u or v, and else its code units
+abbrev pub characters : (unicode : Bool) → (string : List ℕ) → List ℕ
+characters unicode string = if unicode then code_points string else string
+
+-- a code point that is one character of each string with it: with u no surrogate, without u at most U+FFFF
+abbrev pub is_one_character : (unicode : Bool) → ℕ → Bool
+is_one_character unicode c = if unicode then scalar c else nat_le c 0xFFFF
+
+-- each of them is one
+abbrev pub is_exact : (unicode : Bool) → List ℕ → Bool
+is_exact unicode = list_all (is_one_character unicode)
+
+-- The characters of the pattern are its code points, and those of the text.
+pub record IsExactFor (flags : Flags) (source text : List ℕ) : Type 0 where
+  pub pattern : is_exact flags.unicode source ≡ true
+  pub input : is_exact flags.unicode text ≡ true
