@@ -1,16 +1,18 @@
 -- A search finds the match of ECMA-262.
-use Rattle.std.proofs.Common.{◌≡◌, ℕ, ◌≤◌, List, length, Option, Some, None, option_map, encode_utf8_all, sym, ap, subst, ◌∙◌, arith}
+use Rattle.std.proofs.Common.{◌≡◌, ℕ, ◌≤◌, List, [], length, Option, Some, None, option_map, encode_utf8_all, sym, ap, subst, ◌∙◌, arith}
 use Rattle.std.specs.Prelude.{chars}
 use Rattle.std.specs.Str.{IsUtf8}
 use Rattle.std.proofs.lemmas.Str.{encodes-chars}
+use Rattle.regress_front.specs.Accepted.{IsAcceptedIn, own_context_in}
 use Rattle.regress_front.specs.Reading.{IsText, byte_position}
 use Rattle.regress_front.specs.Steps.{Setting}
 use Rattle.regress_front.specs.Source.{Source}
 use Rattle.regress_front.specs.Syntax.{Pattern}
 use Rattle.regress_front.specs.Tree.{Tree}
 use Rattle.regress_front.specs.declared.parse.Dialect.{Dialect}
-use Rattle.regress_front.specs.declared.parse.Dialect.TheVariants.{Regress}
+use Rattle.regress_front.specs.declared.parse.Dialect.TheVariants.{Ecma, Regress}
 use Rattle.regress_ecma.specs.Compared.{IsComparable}
+use Rattle.regress_ecma.specs.CompiledClasses.{with_char_sets}
 use Rattle.regress_ecma.specs.Exec.{builtin_exec, found_in_bytes}
 use Rattle.regress_ecma.proofs.lemmas.Searches.{HasMeaning, Returns, returned, outcomes_from, decoded, leftmost, nowhere}
 use Rattle.regress_found.specs.Found.{outcomes_at, Finds, start_of, state_of}
@@ -69,3 +71,16 @@ pub finds_match : (setting : Setting) (pattern : Source) (r : Regex) (compiled :
 finds_match setting pattern r compiled comparable text utf8 found finds =
     finds_match_from setting pattern r compiled comparable text utf8 0 (omega arith) found
     (subst (λ (o : ℕ). Finds text (outcomes_of r text) o found) (sym (byte_position-zero (chars text))) finds)
+
+-- The pattern is accepted from a source in the dialect `Ecma`, and each search of a text finds the match in an input.
+abbrev FindsMatchesIn : Setting → Pattern → Regex → (text source input : List ℕ) → Type 0
+FindsMatchesIn setting p r text source input =
+    (accepted : IsAcceptedIn Ecma setting source p)
+    × ((index : ℕ) → index ≤ length input → (found : Option Match) → Finds text (outcomes_of r text) (byte_position input index) found →
+    IsMatchOf setting (with_char_sets (own_context_in Ecma setting p) p source [] accepted.derived) input index found)
+
+pub finds_matches_in : (setting : Setting) (p : Pattern) (r : Regex) (text pattern source input : List ℕ) → source ≡ pattern → input ≡ chars text →
+    FindsMatchesIn setting p r text pattern (chars text) → FindsMatchesIn setting p r text source input
+finds_matches_in setting p r text pattern source input same_source same_input finds =
+    subst (FindsMatchesIn setting p r text source) (sym same_input)
+    (subst (λ (s : List ℕ). FindsMatchesIn setting p r text s (chars text)) (sym same_source) finds)

@@ -1,5 +1,5 @@
 -- A compiled regular expression, and the match that a search has found.
-use Rattle.std.specs.Prelude.{◌≡◌, ℕ, List, map, string_bytes, chars}
+use Rattle.std.specs.Prelude.{◌≡◌, ℕ, Bool, List, map, string_bytes, chars}
 use Rattle.std.specs.List.Sorted.{IsNonDecreasingBy, IsPermutation}
 use Rattle.regress_front.specs.Accepted.{IsAcceptedIn, Means}
 use Rattle.regress_front.specs.Groups.{pattern_groups}
@@ -9,6 +9,7 @@ use Rattle.regress_front.specs.Syntax.{Pattern}
 use Rattle.regress_front.specs.Tree.{Tree}
 use Rattle.regress_front.specs.WellFormed.{Capture, IsWellFormed, captures}
 use Rattle.regress_front.specs.declared.parse.Dialect.{Dialect}
+use Rattle.regress_ecma.specs.CodeUnits.{is_exact}
 use Rattle.regress_found.specs.Found.{outcomes_at}
 use Rattle.regress_found.specs.declared.found.Match as matcher
 use Rattle.regress_match.specs.Pattern.{matcher_setting, matcher_tree, capture_of}
@@ -18,6 +19,10 @@ use Rattle.regress.specs.declared.pattern.Regex.{Regex}
 -- the text of the pattern, in UTF-8
 abbrev pub source_of : Regex → List ℕ
 source_of r = string_bytes r.source
+
+-- whether each code point of the pattern is one character
+abbrev pub has_exact_source : Regex → Bool
+has_exact_source r = r.exact
 
 -- the flags, and the table of Unicode
 abbrev pub setting_of : Regex → Setting
@@ -50,6 +55,7 @@ module _ (dialect : Dialect) where
     pub groups : IsPermutation (pattern_groups tree.pattern) (groups_of r)
     pub sorted : IsNonDecreasingBy (λ group. group.id) (groups_of r)
     pub setting : setting_of r ≡ s
+    pub exact : has_exact_source r ≡ is_exact s.flags.unicode points
 
   -- The regular expression is compiled from this text, which is its source, under this setting.
   pub record IsCompiledIn (s : Setting) (text : List ℕ) (r : Regex) : Type 0 where

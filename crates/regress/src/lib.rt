@@ -6,6 +6,7 @@
 
 mod compiling;
 mod ecma;
+mod exact;
 mod expanding;
 mod failure;
 mod found;

@@ -3,6 +3,7 @@ ghost use Rattle.regress_front.specs.WellFormed.{IsWellFormed};
 ghost use Rattle.regress_match.specs.Pattern.{matcher_tree};
 
 use crate::compiling::optimized;
+use crate::exact::{is_exact_source, is_exact_text};
 use crate::failure::{Error, SearchError};
 use crate::found::Match;
 use crate::groups::GroupNames;
@@ -49,6 +50,8 @@ pub struct Regex {
     pub(crate) groups: Vec<Group>,
     /// The number of steps that a search may take if it is not linear.
     steps: u64,
+    /// Whether each code point of the pattern is one character ([`Regex::is_exact_for`]).
+    exact: bool,
     ghost well_formed: { ∥ IsWellFormed (matcher_tree matcher) ∥₁ },
 }
 
@@ -58,8 +61,11 @@ impl Regex {
     ghost use Rattle.regress_front.specs.Bound.{HasAtMost};
     ghost use Rattle.regress_front.specs.Dialects.{flags_in_force};
     ghost use Rattle.regress_front.specs.Meaning.{setting_of as setting_under};
-    ghost use Rattle.regress_front.specs.Source.{IsCodePoint};
+    ghost use Rattle.regress_front.specs.Source.{IsCodePoint, Source};
+    ghost use Rattle.regress_front.specs.Steps.{Setting};
+    ghost use Rattle.regress_front.specs.declared.parse.Dialect.{Dialect};
     ghost use Rattle.regress_front.specs.declared.parse.Dialect.TheVariants.{Ecma};
+    ghost use Rattle.regress_ecma.specs.CodeUnits.{IsExactFor};
     ghost use Rattle.regress_found.specs.Found.{IsInside, Finds};
     ghost use Rattle.regress_match.specs.Matcher.{IsFactorOf, IsFindFactorOf, IsNonlinearOf, is_find_linear_tree};
     ghost use Rattle.regress_found.specs.Repeated.{AreAllMatches};
@@ -229,7 +235,8 @@ impl Regex {
         ensures find_linear_tree { IfOk result (λ regex. is_some (find_factor_of regex) ≡ is_find_linear_tree options.linear_instructions (tree_of regex)) }
         ensures nonlinear { IfOk result (λ regex. IsNonlinearOf options.linear_instructions (tree_of regex) (nonlinear_of regex)) }
     {
-        let bound = node_bound(pattern, options.dialect.flags_in_force(flags));
+        let in_force = options.dialect.flags_in_force(flags);
+        let bound = node_bound(pattern, in_force);
         if bound > options.nodes {
             return Err(Error::TooLarge);
         }
@@ -246,6 +253,7 @@ impl Regex {
             matcher,
             groups,
             steps: options.steps,
+            exact: is_exact_source(pattern, in_force.unicode),
         })
     }
 
@@ -449,6 +457,31 @@ impl Regex {
         ensures { result ≡ (setting_of self.now).flags }
     {
         self.matcher.regex().flags
+    }
+
+    /// Returns whether ECMA-262 reads the pattern and `text` as their code points: if the flag u is set, which v implies in
+    /// the dialect `Ecma`, or if neither has a code point above U+FFFF. Then a match in that dialect, under a table with the
+    /// data of Unicode, is JavaScript's (the clause `exact` of
+    /// [`find_returns_the_match_of_ecma`](crate::find_returns_the_match_of_ecma)).
+    ///
+    /// Without u and v, JavaScript matches code units of UTF-16, of which a code point above U+FFFF has two. With u the
+    /// result is `false` for a pattern of [`Regex::from_unicode`] with a surrogate, since two of them may be a pair.
+    ///
+    /// # Complexity
+    /// Linear in the length of `text`.
+    ///
+    /// # Examples
+    /// ```
+    /// let regex = Regex::new(alloc, "^.$")?;
+    /// assert!(rt; regex.is_exact_for("é"));
+    /// assert!(rt; !regex.is_exact_for("😀"));
+    /// assert!(rt; Regex::with_flags(alloc, "^.$", "u")?.is_exact_for("😀"));
+    /// ```
+    pub fn is_exact_for(&self, text: &str) -> bool
+        ensures { (dialect : Dialect) (setting : Setting) (pattern : Source) → IsCompiledFromIn dialect setting pattern self.now →
+            IsTrue result ↔ IsExactFor setting.flags pattern (chars text.now) }
+    {
+        self.exact && is_exact_text(text, self.flags().unicode)
     }
 
     /// Returns whether a search for all matches is known to take time linear in the length of the text.

@@ -12,6 +12,7 @@ macro_rules! expect_eq {
 
 mod cookbook_examples;
 mod dialects;
+mod exact;
 mod examples;
 mod regular_expressions;
 mod schemas;

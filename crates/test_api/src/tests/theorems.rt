@@ -1,6 +1,8 @@
 //! Calls of the functions that state theorems.
 
-use regress_ecma::{accepts_what_ecma_accepts, first_outcome_is_the_match};
+use regress_ecma::{
+    accepts_what_ecma_accepts, characters_are_code_points, first_outcome_is_the_match,
+};
 use regress_escape::escaped_texts_match_themselves;
 use regress_front::codepointset::canonical_form_is_unique;
 use regress_front::types::limits_are_as_defined;
@@ -9,6 +11,7 @@ use regress_front::types::limits_are_as_defined;
 fn functions_that_state_theorems_return(_rt: HostRuntime) {
     accepts_what_ecma_accepts();
     canonical_form_is_unique();
+    characters_are_code_points();
     escaped_texts_match_themselves();
     first_outcome_is_the_match();
     limits_are_as_defined();

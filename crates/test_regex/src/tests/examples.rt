@@ -48,6 +48,16 @@ fn all_matches_are_found(rt: HostRuntime) -> Result<(), Fail> {
 }
 
 #[test]
+fn a_full_stop_matches_one_code_unit_without_u_in_javascript(rt: HostRuntime) -> Result<(), Fail> {
+    let alloc = rt.alloc();
+    let regex = Regex::new(alloc, "^.$")?;
+    assert!(rt; regex.is_exact_for("é"));
+    assert!(rt; !regex.is_exact_for("😀"));
+    assert!(rt; Regex::with_flags(alloc, "^.$", "u")?.is_exact_for("😀"));
+    Ok(())
+}
+
+#[test]
 fn searches_are_linear(rt: HostRuntime) -> Result<(), Fail> {
     let alloc = rt.alloc();
     assert!(rt; Regex::new(alloc, "(?:a|a)*b")?.is_linear());

@@ -4,7 +4,7 @@ use Rattle.regress_front.specs.declared.parse.Dialect.TheVariants.{Ecma}
 use Rattle.regress_ecma.specs.CompiledClasses.{with_char_sets}
 use Rattle.regress_ecma.specs.Exec.{found_in_bytes}
 use Rattle.regress_ecma.proofs.lemmas.Searches.{decoded}
-use Rattle.regress.proofs.EcmaLemmas.{finds_match, finds_match_from, finds_match_of}
+use Rattle.regress.proofs.EcmaLemmas.{finds_match, finds_match_from, finds_match_of, finds_matches_in}
 use Rattle.regress.proofs.ecma.find_returns_the_match_of_ecma.Goals as goal
 
 pub returns-clause-find : goal.returns-clause-find
@@ -26,3 +26,9 @@ returns-clause-in_ecma c setting unicode with_u pattern r compiled text utf8 =
     finds_match_of Ecma setting pattern r compiled (with_char_sets ctx compiled.tree.pattern pattern [] compiled.tree.accepted.derived) text utf8
     (c.first_outcome_is_the_match.ensures.in_ecma ctx refl unicode with_u compiled.tree.pattern pattern [] compiled.tree.accepted.derived
     compiled.tree.accepted.names (chars text) (decoded text utf8) (length (chars text) + 1) (omega arith))
+
+pub returns-clause-exact : goal.returns-clause-exact
+returns-clause-exact c setting unicode with_u pattern r compiled text utf8 exact =
+    let same = c.characters_are_code_points.ensures.same setting.flags.unicode in
+    finds_matches_in setting compiled.tree.pattern r text pattern _ _ (same pattern exact.pattern) (same (chars text) exact.input)
+    (compiled.tree.accepted, returns-clause-in_ecma c setting unicode with_u pattern r compiled text utf8)

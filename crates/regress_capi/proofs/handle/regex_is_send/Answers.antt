@@ -33,7 +33,10 @@ regex_is_send : IsSend the_row
 regex_is_send =
     declared_send the_type (
       search (sendable, crosses, core.crosses, maps.crosses) depth 40 fits 20000,
-      (matcher_is_send, (search (sendable, crosses, core.crosses, maps.crosses) depth 40 fits 20000, (search sendable, tt))),
+      (
+        matcher_is_send,
+        (search (sendable, crosses, core.crosses, maps.crosses) depth 40 fits 20000, (search sendable, (search sendable, tt))),
+      ),
     )
 
 pub is_send-requires-send-T : goal.is_send-requires-send-T

@@ -33,7 +33,10 @@ regex_is_sync : IsSync the_row
 regex_is_sync =
     declared_sync the_type (
       search (sendable, crosses, core.crosses, maps.crosses) depth 40 fits 20000,
-      (matcher_is_sync, (search (sendable, crosses, core.crosses, maps.crosses) depth 40 fits 20000, (search sendable, tt))),
+      (
+        matcher_is_sync,
+        (search (sendable, crosses, core.crosses, maps.crosses) depth 40 fits 20000, (search sendable, (search sendable, tt))),
+      ),
     )
 
 pub is_sync-requires-sync-T : goal.is_sync-requires-sync-T

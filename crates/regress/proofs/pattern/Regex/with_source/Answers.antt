@@ -1,6 +1,7 @@
 use Rattle.std.proofs.Common.{◌∙◌, refl, sym, ap}
 use Rattle.std.specs.Arc.{arc_value}
 use Rattle.std.specs.Prelude.{IfErr}
+use Rattle.regress_ecma.specs.CodeUnits.{is_exact}
 use Rattle.regress_front.specs.Dialects.{flags_in_force}
 use Rattle.regress_front.specs.Meaning.{setting_of}
 use Rattle.regress_front.specs.Tree.{tree}
@@ -30,6 +31,7 @@ returns-clause-compiled c =
     (with_tables (λ ts. IsTreeOfIn c.args.options.dialect (setting_of flags ts) c.args.pattern.now t) c.deref.result.now tables c.deref.ensures
     c.in_ok-compiled.ensures.tree)
     made.tree (made.setting ∙ ap (λ f. setting_of f tables) c.in_ok-compiled.ensures.flags)
+    (c.is_exact_source.ensures ∙ ap (λ f. is_exact f.unicode c.args.pattern.now) c.flags_in_force-in_force.ensures)
     c.in_ok-groups.ensures.all c.in_ok-groups.ensures.sorted
 
 pub returns-in_err-matcher-clause-failed : goal.returns-in_err-matcher-clause-failed
