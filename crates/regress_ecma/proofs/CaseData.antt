@@ -7,11 +7,13 @@ use Rattle.regress_base.specs.Classes.{word_characters}
 use Rattle.regress_base.specs.Intervals.{Bounds, is_member, is_within}
 use Rattle.regress_base.specs.Listing.{lists, code_points}
 use Rattle.regress_base.proofs.lemmas.Listings.{lists-interval}
+use Rattle.regress_properties.specs.Properties.{unicode_strings}
 use Rattle.regress_unicode.specs.FoldEntries.{FoldEntry, moved, is_in_mapping, mapped_in_mapping, mapped}
 use Rattle.regress_ucd.specs.UnicodeTable.{unicode_parts, unicode_table}
 use Rattle.regress_ucd.proofs.lemmas.ValidTable.{unicode_valid}
 use Rattle.regress_ecma.specs.Differences.{HasCaseDataOfUnicode, HasVariantsIn, unlike, cased_beyond_ascii, cased}
 use Rattle.regress_ecma.specs.Compared.{IsOfUnicode}
+use Rattle.regress_ecma.specs.ClassSetExpressions.{HasPropertiesOfStrings}
 use Rattle.regress_ecma.proofs.Outside.{is_outside, is_inside, inside, carried}
 use Rattle.regress_ecma.proofs.Sets.{same_truth}
 
@@ -216,3 +218,8 @@ unicode_data = record {
   upper_keeps_words = member_after word_characters unicode_parts.uppers refl;
   strings = unicode_valid.strings;
 }
+
+-- Each of its properties of strings has a string that is not one character.
+pub unicode_properties : HasPropertiesOfStrings unicode_table
+unfolding unicode_table unicode_parts unicode_strings
+unicode_properties = refl

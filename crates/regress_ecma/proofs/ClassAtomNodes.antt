@@ -123,7 +123,7 @@ no_brace_u c t = by (c == char "u")
     by true = refl
     by false = refl
 
-letter_none : (c : ℕ) → (c == char "d") ≡ false → (c == char "D") ≡ false → (c == char "s") ≡ false → (c == char "S") ≡ false →
+pub letter_none : (c : ℕ) → (c == char "d") ≡ false → (c == char "D") ≡ false → (c == char "s") ≡ false → (c == char "S") ≡ false →
     (c == char "w") ≡ false → (c == char "W") ≡ false → class_letter c ≡ None
 letter_none c d dd s ss w ww = rw (d, dd, s, ss, w, ww) refl
 

@@ -86,6 +86,10 @@ pub each_at : {A : Type 0} (P : A × Source → Type 0) (found : Found A) → Ea
 unfolding Each
 each_at P found h x e = h x e
 
+pub each_weaker : {A : Type 0} (P Q : A × Source → Type 0) (found : Found A) → ((x : A × Source) → P x → Q x) → Each P found → Each Q found
+unfolding Each
+each_weaker P Q found weaker h x e = weaker x (h x e)
+
 module _ (table : Table) (icase named : Bool) where
   abbrev parameters : Parameters
   parameters = own icase true named

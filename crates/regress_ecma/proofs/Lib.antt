@@ -46,5 +46,13 @@ mod ClassUnitNodes
 mod ClassRangeErrors
 mod ClassUnitErrors
 mod AcceptedClasses
+mod ClassSetCharacters
+mod ClassSetValues
+mod AcceptedOperands
+mod AcceptedUnions
+mod AcceptedClassSets
+mod DerivedOperands
+mod DerivedUnions
+mod DerivedClassSets
 mod CodeUnits
 mod Examples

@@ -1,8 +1,7 @@
 -- ECMA-262 (2025), 22.2.1 Patterns: CharacterClass with the flag v (ClassSetExpression), its early errors (22.2.1.1) and
--- MayContainStrings (22.2.1.8). The flag v implies [UnicodeMode]. `named` is the parameter [NamedCaptureGroups]. No theorem
--- is about these definitions yet.
-use Rattle.std.specs.Prelude.{◌≡◌, ℕ, ◌+◌, max, Bool, true, false, not, ◌&&◌, ◌||◌, List, [], ◌∷◌, length, ◌⊎◌, Some, None, if◌then◌else◌, nat_le, ◌==◌}
-use Rattle.std.specs.List.{list_any}
+-- MayContainStrings (22.2.1.8). The flag v implies [UnicodeMode]. `named` is the parameter [NamedCaptureGroups].
+use Rattle.std.specs.Prelude.{◌≡◌, ℕ, ◌+◌, max, Bool, true, false, not, ◌&&◌, ◌||◌, List, [], ◌∷◌, length, ◌⊎◌, Some, None, IsTrue, if◌then◌else◌, nat_le, ◌==◌}
+use Rattle.std.specs.List.{list_any, list_all}
 use Rattle.regress_base.specs.Table.{Table}
 use Rattle.regress_lexer.specs.Source.{Source, Found, char, is_one_of, is_at}
 use Rattle.regress_ecma.specs.CharacterEscapes.{first_of, terminal, led_by, one_such, source_character_but, character_escape}
@@ -154,6 +153,11 @@ abbrev mutual
   may_contain_strings (intersection left right) = may_contain_strings left && operand_may_contain_strings right
   may_contain_strings (subtraction left right) = may_contain_strings left
 
+-- MayContainStrings is true of each property of strings, by its name. Each of Unicode has a string that is not one character;
+-- a table need not have it so.
+abbrev pub HasPropertiesOfStrings : Table → Type 0
+HasPropertiesOfStrings table = IsTrue (list_all (λ entry. list_any is_string entry.value) table.strings)
+
 -- ---- early errors
 
 -- ClassSetRange: the first value is greater than the second.
@@ -181,6 +185,10 @@ abbrev mutual
 -- CharacterClass, with the same error as a nested one
 abbrev pub has_early_error : CharacterClass → Bool
 has_early_error node = node.invert && may_contain_strings node.contents || contents_have_early_error node.contents
+
+-- The source derives the class, without an early error.
+abbrev pub IsAcceptedClassSet : Table → (named : Bool) → CharacterClass → (t rest : Source) → Type 0
+IsAcceptedClassSet table named node t rest = IsCharacterClass table named node t rest × (has_early_error node ≡ false)
 
 -- ---- the limit on nesting
 

@@ -6,8 +6,10 @@ ghost use Rattle.std.specs.List.{All};
 ghost use Rattle.regress_lexer.specs.Source.{Source, IsCodePoint, char};
 ghost use Rattle.regress_lexer.specs.declared.dialect.Dialect.TheVariants.{Regress, Ecma};
 ghost use Rattle.regress_base.specs.Intervals.{Bounds};
+ghost use Rattle.regress_base.specs.Limits.{max_nesting_depth};
 ghost use Rattle.regress_base.specs.Table.{Table};
 ghost use Rattle.regress_classes.specs.ClassProductions.{class_at};
+ghost use Rattle.regress_classes.specs.ClassSets.{Value, class_set_at};
 ghost use Rattle.regress_classes.specs.declared.parameters.Parameters.{Parameters};
 ghost use Rattle.regress_syntax.specs.Grammar.{IsPattern};
 ghost use Rattle.regress_syntax.specs.Meaning.{meaning};
@@ -19,6 +21,7 @@ ghost use Rattle.regress_ecma.specs.Assertions.{accept};
 ghost use Rattle.regress_ecma.specs.ClassGrammar.{character_class_at};
 ghost use Rattle.regress_ecma.specs.ClassNodes.{CharacterClass};
 ghost use Rattle.regress_ecma.specs.ClassRanges.{IsAcceptedClass};
+ghost use Rattle.regress_ecma.specs.ClassSetExpressions.{depth, HasPropertiesOfStrings, IsAcceptedClassSet};
 ghost use Rattle.regress_ecma.specs.CompiledClasses.{with_char_sets};
 ghost use Rattle.regress_ecma.specs.Compared.{IsComparable, IsOfUnicode, state_on};
 ghost use Rattle.regress_ecma.specs.Compile.{compile_disjunction, compile_pattern};
@@ -88,11 +91,12 @@ pub fn first_outcome_is_the_match()
         (meaning setting text forwards p (record { position = index; captures = replicate (length (names p)) None })) 0) }
 {}
 
-/// States the theorem that in the dialect `Ecma` a class without the flag v is accepted exactly where ECMA-262 accepts it
-/// (section 22.2.1 with its early errors, and B.1.2).
+/// States the theorem that in the dialect `Ecma` a class is accepted exactly where ECMA-262 accepts it (section 22.2.1 with its
+/// early errors, and B.1.2).
 ///
-/// `ClassRanges` has the grammar of the standard, which refers to no production of the other crates. Sources are code
-/// points.
+/// `ClassRanges` has the grammar of the standard for classes without the flag v, and `ClassSetExpressions` for classes with it.
+/// They refer to no production of the other crates, but for properties by name. Sources are code points. With the flag v
+/// classes nest up to a limit.
 ///
 /// The function does nothing at run time; call it where a proof needs the theorem.
 pub fn accepts_what_ecma_accepts()
@@ -107,4 +111,20 @@ pub fn accepts_what_ecma_accepts()
         (node : CharacterClass) → IsAcceptedClass table parameters.unicode parameters.named node (char "[" ∷ t) rest →
         (character_class_at table parameters false t ≡ Some (node, rest))
         × ((members : List Bounds) × (class_at table parameters t ≡ Some ((node.invert, members), rest))) }
+
+    // With the flag v, the same of a table whose properties of strings have strings, as those of Unicode: by their names such
+    // properties may contain strings. The limit counts the class and those in it.
+    ensures accepted_with_v { (table : Table) → HasPropertiesOfStrings table → (parameters : Parameters) → parameters.dialect ≡ Ecma →
+        parameters.unicode ≡ true → (t rest : Source) (inverted : Bool) (value : Value) →
+        class_set_at table parameters t ≡ Some ((inverted, value), rest) →
+        (node : CharacterClass) × IsAcceptedClassSet table parameters.named node (char "[" ∷ t) rest × (depth node.contents < max_nesting_depth)
+        × (character_class_at table parameters true t ≡ Some (node, rest)) × (node.invert ≡ inverted) }
+
+    ensures derived_with_v { (table : Table) (parameters : Parameters) → parameters.dialect ≡ Ecma → parameters.unicode ≡ true →
+        (t rest : Source) (node : CharacterClass) → IsAcceptedClassSet table parameters.named node (char "[" ∷ t) rest →
+        depth node.contents < max_nesting_depth → (character_class_at table parameters true t ≡ Some (node, rest))
+        × ((value : Value) × (class_set_at table parameters t ≡ Some ((node.invert, value), rest))) }
+
+    // The table of `unicode_tables` is such a table.
+    ensures properties { HasPropertiesOfStrings unicode_table }
 {}
