@@ -1,14 +1,22 @@
--- Worked examples of the grammar of classes: what each nonterminal derives.
-use Rattle.std.proofs.Common.{◌≡◌, true, false, [], ◌∷◌, inl, inr, Some, None, refl}
+-- Worked examples of the grammar of classes: what each nonterminal derives. V8 accepts and rejects these classes.
+use Rattle.std.proofs.Common.{◌≡◌, ◌<◌, true, false, [], ◌∷◌, inl, inr, Some, None, refl, sym, ◌∙◌}
+use Rattle.std.proofs.lemmas.Option.{none-some}
 use Rattle.std.specs.Prelude.{codes}
 use Rattle.regress_base.specs.Table.{Table}
 use Rattle.regress_base.specs.declared.charclasses.CharacterClassType.TheVariants.{Digits, Words}
-use Rattle.regress_lexer.specs.Source.{char}
+use Rattle.regress_base.specs.Limits.{max_nesting_depth}
+use Rattle.regress_lexer.specs.declared.dialect.Dialect.TheVariants.{Ecma}
+use Rattle.regress_lexer.specs.Source.{Source, char}
 use Rattle.regress_lexer.specs.Digits.{front, after}
+use Rattle.regress_classes.specs.declared.parameters.Parameters.{Parameters}
+use Rattle.regress_classes.specs.ClassSets.{class_set_at}
+use Rattle.regress_classes.specs.ClassSets as ClassSets
 use Rattle.regress_ecma.specs.CharacterEscapes.{control_escape, unicode_escape, legacy_octal_escape, identity_escape, character_escape, source_character}
-use Rattle.regress_ecma.specs.ClassNodes.{character, class_escape, class_strings, nested_class, empty, atom_then, range_then, intersection, subtraction}
+use Rattle.regress_ecma.specs.ClassNodes.{character, class_escape, class_strings, nested_class, empty, atom_then, range_then, intersection, subtraction, CharacterClass}
 use Rattle.regress_ecma.specs.ClassRanges.{class_escape_of, class_atom, class_atom_no_dash, IsAcceptedClass, is_wrong_range, has_early_error}
-use Rattle.regress_ecma.specs.ClassSetExpressions.{class_set_character, may_contain_strings, contents_have_early_error, depth}
+use Rattle.regress_ecma.specs.ClassSetExpressions.{class_set_character, IsAcceptedClassSet, may_contain_strings, contents_have_early_error, depth}
+use Rattle.regress_ecma.specs.ClassSetExpressions as ClassSetExpressions
+use Rattle.regress_ecma.proofs.DerivedClassSets.{class_set_derived}
 
 -- ---- CharacterEscape
 
@@ -141,6 +149,105 @@ module _ (table : Table) where
   no_syntax : class_set_character table false (codes "(") ≡ None
   unfolding class_set_character
   no_syntax = refl
+
+  -- `[a&&b]`
+  one_intersection : IsAcceptedClassSet table false
+      (record { invert = false; contents = intersection (atom_then (character (char "a")) empty) (character (char "b")) }) (codes "[a&&b]x") (codes "x")
+  unfolding class_set_character
+  one_intersection = ((codes "a&&b]x", (refl, refl), inr (inr (inl (codes "b]x", inl (refl, refl), refl, refl)))), refl)
+
+  -- `[a--b--c]`
+  two_subtractions : IsAcceptedClassSet table false
+      (record {
+        invert = false;
+        contents = subtraction (subtraction (atom_then (character (char "a")) empty) (character (char "b"))) (character (char "c"));
+      })
+      (codes "[a--b--c]") []
+  unfolding class_set_character
+  two_subtractions =
+      ((codes "a--b--c]", (refl, refl), inr (inr (inr (codes "c]", inr (codes "b--c]", inl (refl, refl), refl), refl)))), refl)
+
+  -- `[a&-z]`
+  ampersand_as_start : IsAcceptedClassSet table false
+      (record {
+        invert = false;
+        contents = atom_then (character (char "a")) (range_then (character (char "&")) (character (char "z")) empty);
+      })
+      (codes "[a&-z]") []
+  unfolding class_set_character
+  ampersand_as_start =
+      ((codes "a&-z]", (refl, refl), inr (inl (codes "&-z]", refl, inr (codes "]", (codes "z]", refl, refl), inl (refl, refl))))), refl)
+
+  -- `[\q{a|bc}]`
+  strings_of_both : IsAcceptedClassSet table false
+      (record { invert = false; contents = atom_then (class_strings (codes "a" ∷ codes "bc" ∷ [])) empty }) (codes "[\\q{a|bc}]") []
+  unfolding class_set_character
+  strings_of_both = (
+    (
+      codes "\\q{a|bc}]",
+      (refl, refl),
+      inr (inl (
+        codes "]",
+        (
+          codes "a|bc}]",
+          refl,
+          inr (codes "bc}]", (codes "|bc}]", refl, refl), inl (refl, (codes "c}]", refl, (codes "}]", refl, refl)))),
+        ),
+        inl (refl, refl),
+      )),
+    ),
+    refl,
+  )
+
+  -- `[^\q{a}]`
+  inverted_character : IsAcceptedClassSet table false
+      (record { invert = true; contents = atom_then (class_strings (codes "a" ∷ [])) empty }) (codes "[^\\q{a}]") []
+  unfolding class_set_character
+  inverted_character =
+      ((codes "\\q{a}]", refl, inr (inl (codes "]", (codes "a}]", refl, inl (refl, (codes "}]", refl, refl))), inl (refl, refl)))), refl)
+
+  -- `[^\q{ab}]`
+  inverted_string : ClassSetExpressions.has_early_error (record { invert = true; contents = atom_then (class_strings (codes "ab" ∷ [])) empty }) ≡ true
+  inverted_string = refl
+
+  -- ---- classes that are not derived
+
+  abbrev parameters : Parameters
+  parameters = record { dialect = Ecma; icase = false; unicode = true; named = false }
+
+  abbrev NotDerived : Source → Type 0
+  NotDerived t =
+      (node : CharacterClass) (rest : Source) → IsAcceptedClassSet table false node (char "[" ∷ t) rest → depth node.contents < max_nesting_depth → ⊥
+
+  not_found : (t : Source) → class_set_at table parameters t ≡ None → NotDerived t
+  not_found t none node rest derived within =
+      let found = (class_set_derived table parameters refl refl t rest node derived within).1 in
+      none-some ((node.invert, found.0), rest) (sym none ∙ found.1)
+
+  -- `[a&&&b]`
+  three_ampersands : NotDerived (codes "a&&&b]")
+  unfolding ClassSets.class_set_by ClassSets.operand_at ClassSets.operands_by ClassSets.set_character_at
+  three_ampersands = not_found (codes "a&&&b]") refl
+
+  -- `[a--b&&c]`
+  both_operators : NotDerived (codes "a--b&&c]")
+  unfolding ClassSets.class_set_by ClassSets.operand_at ClassSets.operands_by ClassSets.set_character_at
+  both_operators = not_found (codes "a--b&&c]") refl
+
+  -- `[a-z--[b]]`
+  range_as_operand : NotDerived (codes "a-z--[b]]")
+  unfolding ClassSets.class_set_by ClassSets.operand_at ClassSets.parts_by ClassSets.set_character_at
+  range_as_operand = not_found (codes "a-z--[b]]") refl
+
+  -- `[!!]`
+  reserved_pair : NotDerived (codes "!!]")
+  unfolding ClassSets.class_set_by ClassSets.operand_at ClassSets.set_character_at
+  reserved_pair = not_found (codes "!!]") refl
+
+  -- `[(]`
+  syntax_alone : NotDerived (codes "(]")
+  unfolding ClassSets.class_set_by ClassSets.operand_at ClassSets.set_character_at
+  syntax_alone = not_found (codes "(]") refl
 
 -- ---- MayContainStrings
 
