@@ -9,8 +9,8 @@
    to have, and the buffer is unchanged, so call again with a buffer of that size.
 
    NULL is allowed wherever a pointer and a length are given together and the length is 0, and for `limits`, `kind`,
-   `position` and `needed`: NULL limits are the default limits, and a number for which the pointer is NULL is not
-   written. With any other NULL pointer, and with a handle that is zero, the status is REGRESS_BAD_INPUT, and a call
+   `position`, `needed` and `count`: NULL limits are the default limits, and a number for which the pointer is NULL is
+   not written. With any other NULL pointer, and with a handle that is zero, the status is REGRESS_BAD_INPUT, and a call
    without a status returns 0. Buffers must not overlap each other or the input.
 
    A handle is a variable that regress_compile writes, and may be moved. It owns the compiled pattern, until
@@ -410,7 +410,7 @@ REGRESS_INLINE uint32_t regress_replace_all(const regress_regex *handle, const u
 }
 
 /* Writes the text with its first `limit` matches replaced, or all if there are fewer, as regress_replace does with one.
-   `count` is the number of those that are replaced with OK and ROOM, else 0; the pointer may be NULL. */
+   `count` is the number of those that are replaced with OK and ROOM, else 0. */
 REGRESS_INLINE uint32_t regress_replace_n(const regress_regex *handle, const uint8_t *text, size_t length,
                                           const uint8_t *replacement, size_t replacement_length, size_t limit,
                                           uint8_t *out, size_t room, size_t *needed, size_t *count) {
