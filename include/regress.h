@@ -78,7 +78,8 @@ typedef struct regress_matches {
    properties; letters in names are those of ASCII and from U+00C0 to U+00F6. */
 #define REGRESS_SMALL_TABLE 32u
 /* The dialect of a pattern, for regress_compile alone: that of the Rust crate `regress`. Without this bit it is the
-   language of ECMA-262, in which UNICODE_SETS implies UNICODE. docs/syntax.md has the rules in which they differ. */
+   language of ECMA-262, in which UNICODE_SETS implies UNICODE. docs/syntax.md has the rules in which they differ. The
+   calls of regress_front.h have another bit, REGRESS_FRONT_DIALECT_ECMA. */
 #define REGRESS_DIALECT_REGRESS 0x20000u
 
 /* The limits of a compiled pattern; 0 is the default of each, so {0} are the default limits.

@@ -44,6 +44,11 @@ extern "C" {
 /* Use the small table instead of the one of all of Unicode: for patterns in ASCII, and for tests. It has few
    properties; letters in names are those of ASCII and from U+00C0 to U+00F6. */
 #define REGRESS_FRONT_SMALL_TABLE 32u
+/* The dialect of a pattern: the language of ECMA-262, in which UNICODE_SETS implies UNICODE. Without this bit it is that
+   of the Rust crate `regress`. docs/syntax.md has the rules in which they differ. In regress.h it is the other way
+   round: for a pattern that regress_compile rejects, give the calls here this bit unless that call had
+   REGRESS_DIALECT_REGRESS. */
+#define REGRESS_FRONT_DIALECT_ECMA 0x40000u
 
 /* The kinds of syntax errors. docs/errors.md has the text and the cause of each. Their numbers never change; a later
    version may have more kinds. */

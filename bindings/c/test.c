@@ -315,6 +315,68 @@ static void trees_with_spans(void) {
           == REGRESS_FRONT_BAD_INPUT);
 }
 
+/* All calls that parse report the same of a pattern: OK, or the same syntax error. */
+static uint32_t agreed(const char *pattern, uint32_t flags) {
+    static uint32_t many[4 * ROOM];
+    char text[128];
+    size_t length = strlen(pattern);
+    uint32_t status = regress_front_parse_utf8(pattern, length, flags, 0, many, 4 * ROOM, &needed, &kind, &position);
+    uint32_t first_kind = kind;
+    size_t first_position = position;
+    CHECK(regress_front_parse_utf8(pattern, length, flags, 1, many, 4 * ROOM, &needed, &kind, &position) == status);
+    CHECK(kind == first_kind && position == first_position);
+    CHECK(spanned(pattern, flags, ROOM, ROOM) == status && kind == first_kind && position == first_position);
+    CHECK(told(pattern, flags, text, sizeof text) == status && kind == first_kind && position == first_position);
+    return status;
+}
+
+/* With DIALECT_ECMA the calls accept what V8 accepts, and without it what the crate `regress` does. */
+static void dialects(void) {
+    const uint32_t ecma = SMALL | REGRESS_FRONT_DIALECT_ECMA, v = REGRESS_FRONT_UNICODE_SETS;
+    const uint32_t points[] = {0x5C, 0x62, 0x2B}, stranger = SMALL | 0x20000u;
+    static const struct {
+        const char *pattern;
+        uint32_t flags, in_ecma, in_regress;
+    } examples[] = {
+        {"\\b+", 0, REGRESS_FRONT_SYNTAX, REGRESS_FRONT_OK},
+        {"[\\k](?<a>x)", 0, REGRESS_FRONT_SYNTAX, REGRESS_FRONT_OK},
+        {"[\xF0\x9F\x98\x80-\xF0\x9F\x98\x8E]", 0, REGRESS_FRONT_SYNTAX, REGRESS_FRONT_OK},
+        {"\\y", v, REGRESS_FRONT_SYNTAX, REGRESS_FRONT_OK},
+        {"[a&&&]", v, REGRESS_FRONT_SYNTAX, REGRESS_FRONT_OK},
+        {"[!#]", v, REGRESS_FRONT_OK, REGRESS_FRONT_SYNTAX},
+        {"\\u{61}", 0, REGRESS_FRONT_OK, REGRESS_FRONT_OK},
+        {"a)", 0, REGRESS_FRONT_SYNTAX, REGRESS_FRONT_SYNTAX},
+    };
+    char text[128];
+    size_t bound = MARK;
+    for (size_t i = 0; i < sizeof examples / sizeof *examples; i++) {
+        CHECK(agreed(examples[i].pattern, ecma | examples[i].flags) == examples[i].in_ecma);
+        CHECK(agreed(examples[i].pattern, SMALL | examples[i].flags) == examples[i].in_regress);
+    }
+    CHECK(told("\xC3\xA9\\b+", ecma, text, sizeof text) == REGRESS_FRONT_SYNTAX && position == 3);
+    CHECK(kind == REGRESS_FRONT_KIND_QUANTIFIER_NOT_ALLOWED && strcmp(text, "Quantifier not allowed here") == 0);
+    CHECK(regress_front_parse(points, 3, ecma, 0, words, ROOM, &needed, &kind, &position) == REGRESS_FRONT_SYNTAX);
+    CHECK(kind == REGRESS_FRONT_KIND_QUANTIFIER_NOT_ALLOWED && position == 2);
+    CHECK(regress_front_parse_with_spans(points, 3, ecma, words, ROOM, &needed, spans, ROOM, &spans_needed, &kind,
+                                         &position) == REGRESS_FRONT_SYNTAX && position == 2);
+    CHECK(regress_front_fault(points, 3, ecma, text, sizeof text, &needed, &kind, &position) == REGRESS_FRONT_SYNTAX);
+    /* the escapes in a name are decoded */
+    CHECK(told("(?<b>x)\\k<\\u0061>", ecma, text, sizeof text) == REGRESS_FRONT_SYNTAX && position == 10);
+    CHECK(strcmp(text, "Backreference to invalid named capture group: a") == 0);
+    /* without the flag u the braces are a quantifier */
+    CHECK(parsed("\\u{61}", ecma, 0, ROOM) == REGRESS_FRONT_OK
+          && ARE(6, 2, 0, 14, 0, 0, 1, 61, 0, 1, 61, 0, 2, 0x75, 1));
+    CHECK(parsed("\\u{61}", SMALL, 0, ROOM) == REGRESS_FRONT_OK && ARE(6, 2, 0, 2, 0x61, 1));
+    CHECK(spanned("\\u{3}", ecma, ROOM, ROOM) == REGRESS_FRONT_OK && HAVE(0, 5, 0, 5, 0, 2, 5, 5));
+    CHECK(spanned("\\u{3}", SMALL, ROOM, ROOM) == REGRESS_FRONT_OK && HAVE(0, 5, 0, 5, 5, 5));
+    CHECK(regress_front_node_bound_utf8("[a]", 3, ecma | v, &bound) == REGRESS_FRONT_OK && bound == 10);
+    CHECK(regress_front_node_bound(points, 3, ecma, &bound) == REGRESS_FRONT_OK && bound == 6);
+    /* the bit of regress_compile is none of these calls */
+    CHECK(parsed("a", stranger, 0, ROOM) == REGRESS_FRONT_BAD_INPUT);
+    CHECK(told("a", stranger, text, sizeof text) == REGRESS_FRONT_BAD_INPUT);
+    CHECK(regress_front_node_bound_utf8("a", 1, stranger, &bound) == REGRESS_FRONT_BAD_INPUT);
+}
+
 /* As `refuse`, for a tree with spans. */
 static void refuse_spans(const char *pattern, uint32_t expected) {
     uint32_t ample_words[ROOM];
@@ -421,6 +483,7 @@ int main(int count, char **arguments) {
     kinds_of_faults();
     bounds();
     trees_with_spans();
+    dialects();
     refuse("(?<a>x)|(?<a>y)\\k<a>", SMALL, REGRESS_FRONT_PARSED);
     refuse("(?<=ab)c{2}[a-c]+|[^a]", SMALL | REGRESS_FRONT_ICASE, REGRESS_FRONT_OPTIMIZED);
     refuse("a)", SMALL, REGRESS_FRONT_PARSED);
@@ -428,6 +491,7 @@ int main(int count, char **arguments) {
         refuse("\\p{L}", REGRESS_FRONT_UNICODE, REGRESS_FRONT_OPTIMIZED);
     }
     refuse_text("\\k<b>(?<a>x)", SMALL);
+    refuse_text("\\k<b>(?<a>x)", SMALL | REGRESS_FRONT_DIALECT_ECMA);
     refuse_spans("(?<a>x)|(?<a>y)\\k<a>|(?<=ab)c{2}", REGRESS_FRONT_OK);
     refuse_spans("[k])", REGRESS_FRONT_SYNTAX);
     if (wrong) {

@@ -157,6 +157,9 @@ static void dialects(void) {
     CHECK(compiled("a", SMALL | 0x40, &regex) == REGRESS_BAD_INPUT && !regex.inside);
     CHECK(compiled("a", SMALL | 0x10000, &regex) == REGRESS_BAD_INPUT);
     CHECK(compiled("a", SMALL | 0x40000, &regex) == REGRESS_BAD_INPUT);
+    /* The differences are those of the dialect REGRESS alone. */
+    CHECK(regress_differences((const uint8_t *)"a", 1, SMALL | 0x40000, NULL, 0, &needed, &kind, &position)
+          == REGRESS_BAD_INPUT);
 }
 
 static void rooms(void) {

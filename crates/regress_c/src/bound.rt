@@ -1,7 +1,7 @@
 //! The functions that C calls to bound the number of nodes of a tree.
 ghost use Rattle.std.specs.Prelude.{chars};
 ghost use Rattle.regress_capi.specs.BoundResults.{BoundResult};
-ghost use Rattle.regress_capi.specs.Request.{flags_of, IsRequest, IsTextRequest};
+ghost use Rattle.regress_capi.specs.Request.{front_setting, IsRequest, IsTextRequest};
 
 use regress_capi::bounds::{write_node_bound, write_node_bound_of_text};
 use std::alloc::Global;
@@ -13,7 +13,7 @@ use std::alloc::Global;
 /// Returns a status: 0 for success, and 4 if the arguments are invalid. `bound` is 0 unless the status is 0.
 #[unsafe(no_mangle)]
 pub extern "C" fn regress_front_bound_nodes(pattern: &[u32], flags: u32, bound: &mut usize) -> u32
-    ensures status { BoundResult (IsRequest pattern.now flags 0) (flags_of flags) pattern.now result bound.new }
+    ensures status { BoundResult (IsRequest pattern.now flags 0) (front_setting flags).flags pattern.now result bound.new }
 {
     write_node_bound(pattern, flags, bound)
 }
@@ -30,7 +30,7 @@ pub extern "C" fn regress_front_bound_nodes_of_text(
     flags: u32,
     bound: &mut usize,
 ) -> u32
-    ensures status { BoundResult (IsTextRequest pattern.now flags 0) (flags_of flags) (chars pattern.now) result bound.new }
+    ensures status { BoundResult (IsTextRequest pattern.now flags 0) (front_setting flags).flags (chars pattern.now) result bound.new }
 {
     write_node_bound_of_text(alloc, pattern, flags, bound)
 }

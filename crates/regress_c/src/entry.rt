@@ -1,6 +1,6 @@
 //! The functions that C calls.
 ghost use Rattle.std.specs.Prelude.{◌==◌, chars};
-ghost use Rattle.regress_capi.specs.Request.{setting_by, IsRequest, IsTextRequest};
+ghost use Rattle.regress_capi.specs.Request.{front_dialect, front_setting, IsRequest, IsTextRequest};
 ghost use Rattle.regress_capi.specs.EncodingResults.{EncodingResult};
 ghost use Rattle.regress_capi.specs.ErrorResults.{ErrorResult};
 
@@ -29,7 +29,7 @@ pub extern "C" fn regress_front_parse_code_points(
     kind: &mut u32,
     position: &mut usize,
 ) -> u32
-    ensures status { EncodingResult (IsRequest pattern.now flags optimize) (setting_by flags) pattern.now (optimize == 1)
+    ensures status { EncodingResult (IsRequest pattern.now flags optimize) (front_dialect flags) (front_setting flags) pattern.now (optimize == 1)
         words.old result needed.new kind.new position.new words.new }
 {
     let reply = write_encoding(alloc, pattern, flags, optimize, words);
@@ -54,7 +54,7 @@ pub extern "C" fn regress_front_parse_text(
     kind: &mut u32,
     position: &mut usize,
 ) -> u32
-    ensures status { EncodingResult (IsTextRequest pattern.now flags optimize) (setting_by flags) (chars pattern.now) (optimize == 1)
+    ensures status { EncodingResult (IsTextRequest pattern.now flags optimize) (front_dialect flags) (front_setting flags) (chars pattern.now) (optimize == 1)
         words.old result needed.new kind.new position.new words.new }
 {
     let reply = write_encoding_of_text(alloc, pattern, flags, optimize, words);
@@ -81,7 +81,7 @@ pub extern "C" fn regress_front_tell_fault(
     kind: &mut u32,
     position: &mut usize,
 ) -> u32
-    ensures status { ErrorResult (IsRequest pattern.now flags 0) (setting_by flags) pattern.now
+    ensures status { ErrorResult (IsRequest pattern.now flags 0) (front_dialect flags) (front_setting flags) pattern.now
         text.old result needed.new kind.new position.new text.new }
 {
     let reply = write_error(alloc, pattern, flags, text);
@@ -105,7 +105,7 @@ pub extern "C" fn regress_front_tell_fault_of_text(
     kind: &mut u32,
     position: &mut usize,
 ) -> u32
-    ensures status { ErrorResult (IsTextRequest pattern.now flags 0) (setting_by flags) (chars pattern.now)
+    ensures status { ErrorResult (IsTextRequest pattern.now flags 0) (front_dialect flags) (front_setting flags) (chars pattern.now)
         text.old result needed.new kind.new position.new text.new }
 {
     let reply = write_error_of_text(alloc, pattern, flags, text);

@@ -1,7 +1,7 @@
 //! The functions that C calls for the differences of a pattern. include/regress.h documents them.
 ghost use Rattle.std.specs.Prelude.{chars};
 ghost use Rattle.regress_capi.specs.DifferencesResults.{DifferencesResult, HasDifferenceKind, IsDifferenceName, IsDifferenceText};
-ghost use Rattle.regress_capi.specs.Request.{setting_by, IsTextRequest};
+ghost use Rattle.regress_capi.specs.Request.{setting_by, IsDifferencesRequest};
 ghost use Rattle.regress_capi.specs.TextResults.{TextResult};
 
 use regress_capi::differing::{self, NumberedDifference};
@@ -23,7 +23,7 @@ pub extern "C" fn regress_differences_raw(
     kind: &mut u32,
     position: &mut usize,
 ) -> u32
-    ensures status { DifferencesResult (IsTextRequest pattern.now flags 0) (setting_by flags) (chars pattern.now)
+    ensures status { DifferencesResult (IsDifferencesRequest pattern.now flags) (setting_by flags) (chars pattern.now)
         differences.old result needed.new kind.new position.new differences.new }
 {
     let reply = differing::write_differences_of_text(alloc, pattern, flags, differences);

@@ -1,6 +1,6 @@
 //! The functions that C calls for a tree with the spans of its nodes. include/regress_front.h documents them.
 ghost use Rattle.std.specs.Prelude.{chars};
-ghost use Rattle.regress_capi.specs.Request.{setting_by, IsRequest, IsTextRequest};
+ghost use Rattle.regress_capi.specs.Request.{front_dialect, front_setting, IsRequest, IsTextRequest};
 ghost use Rattle.regress_capi.specs.SpannedResults.{SpannedResult};
 
 use regress_capi::spanning::{
@@ -28,7 +28,7 @@ pub extern "C" fn regress_front_parse_code_points_with_spans(
     kind: &mut u32,
     position: &mut usize,
 ) -> u32
-    ensures status { SpannedResult (IsRequest pattern.now flags 0) (setting_by flags) pattern.now words.old spans.old
+    ensures status { SpannedResult (IsRequest pattern.now flags 0) (front_dialect flags) (front_setting flags) pattern.now words.old spans.old
         result needed.new spans_needed.new kind.new position.new words.new spans.new }
 {
     let report = write_encoding_with_spans(alloc, pattern, flags, words, spans);
@@ -56,7 +56,7 @@ pub extern "C" fn regress_front_parse_text_with_spans(
     kind: &mut u32,
     position: &mut usize,
 ) -> u32
-    ensures status { SpannedResult (IsTextRequest pattern.now flags 0) (setting_by flags) (chars pattern.now) words.old spans.old
+    ensures status { SpannedResult (IsTextRequest pattern.now flags 0) (front_dialect flags) (front_setting flags) (chars pattern.now) words.old spans.old
         result needed.new spans_needed.new kind.new position.new words.new spans.new }
 {
     let report = write_encoding_of_text_with_spans(alloc, pattern, flags, words, spans);

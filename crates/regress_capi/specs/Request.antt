@@ -28,13 +28,13 @@ flags_of bits = record {
 abbrev pub table_by : ℕ → Table
 table_by bits = if has bits 32 then small_table else unicode_table
 
--- the flags and the table that the bits specify
+-- the flags and the table that the bits specify, in the dialect Regress
 abbrev pub setting_by : ℕ → Setting
 setting_by bits = record { flags = flags_of bits; table = table_by bits }
 
--- no unknown bit, and a choice of 0 or 1
+-- no bit but 0 to 5 and 18, and a choice of 0 or 1
 abbrev pub AreOptions : ℕ → ℕ → Type 0
-AreOptions bits choice = (bits < 64) × (choice < 2)
+AreOptions bits choice = (bit_and bits 0x4003F ≡ bits) × (choice < 2)
 
 -- code points, and valid options
 abbrev pub IsRequest : List ℕ → ℕ → ℕ → Type 0
@@ -44,15 +44,29 @@ IsRequest pattern bits choice = All (λ c. c ≤ code_point_max) pattern × AreO
 abbrev pub IsTextRequest : List ℕ → ℕ → ℕ → Type 0
 IsTextRequest pattern bits choice = IsUtf8 pattern × AreOptions bits choice
 
+-- the flags that are in force in the dialect, and the table that the bits specify
+abbrev pub setting_in : Dialect → (bits : ℕ) → Setting
+setting_in dialect bits = record { flags = flags_in_force dialect (flags_of bits); table = table_by bits }
+
+-- ---- parsing: the bits also name a dialect
+
+-- Ecma if bit 18 is set, else Regress
+abbrev pub front_dialect : ℕ → Dialect
+front_dialect bits = if has bits 0x40000 then Ecma else Regress
+
+-- the flags that are in force in that dialect, and the table
+abbrev pub front_setting : ℕ → Setting
+front_setting bits = setting_in (front_dialect bits) bits
+
+-- a pattern in UTF-8, and valid bits that name the dialect Regress
+abbrev pub IsDifferencesRequest : List ℕ → ℕ → Type 0
+IsDifferencesRequest pattern bits = IsTextRequest pattern bits 0 × (front_dialect bits ≡ Regress)
+
 -- ---- compiling: the bits also name a dialect
 
 -- Regress if bit 17 is set, else Ecma
 abbrev pub dialect_of : ℕ → Dialect
 dialect_of bits = if has bits 0x20000 then Regress else Ecma
-
--- the flags that are in force in the dialect, and the table that the bits specify
-abbrev pub setting_in : Dialect → (bits : ℕ) → Setting
-setting_in dialect bits = record { flags = flags_in_force dialect (flags_of bits); table = table_by bits }
 
 -- no bit but 0 to 5 and 17
 abbrev pub AreCompileBits : ℕ → Type 0

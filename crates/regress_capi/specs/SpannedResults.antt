@@ -4,23 +4,24 @@ use Rattle.regress_tree.specs.Steps.{Setting}
 use Rattle.regress_tree.specs.Tree.{Tree}
 use Rattle.regress_tree.specs.Visits.{nodes}
 use Rattle.regress_lexer.specs.Source.{Source}
+use Rattle.regress_lexer.specs.declared.dialect.Dialect.{Dialect}
 use Rattle.regress_syntax.specs.Syntax.{Pattern}
-use Rattle.regress_parse.specs.Accepted.{IsAccepted}
-use Rattle.regress_parse.specs.Rejected.{NoneIsAccepted}
+use Rattle.regress_parse.specs.Accepted.{IsAcceptedIn}
+use Rattle.regress_parse.specs.Rejected.{NoneIsAcceptedIn}
 use Rattle.regress_parse.specs.declared.span.Span.{Span}
-use Rattle.regress_spans.specs.Paired.{postorder, spanned_of}
+use Rattle.regress_spans.specs.Paired.{postorder, spanned_in}
 use Rattle.regress_encoding.specs.Order.{numbers_of}
 use Rattle.regress_encoding.specs.Encoding.{encode}
-use Rattle.regress_capi.specs.Results.{IsError, IsResult}
+use Rattle.regress_capi.specs.Results.{IsErrorIn, IsResult}
 use Rattle.regress_capi.specs.declared.spanning.NodeSpan.{NodeSpan}
 
 -- The tree is that of the pattern that the source denotes, and these are the spans of its nodes in postorder: the
 -- production that makes a node gives its span.
-pub record ArePlaced (setting : Setting) (source : Source) (t : Tree) (spans : List Span) : Type 0 where
-  pub result : IsResult setting source false t
+pub record ArePlaced (dialect : Dialect) (setting : Setting) (source : Source) (t : Tree) (spans : List Span) : Type 0 where
+  pub result : IsResult dialect setting source false t
   pub pattern : Pattern
-  pub accepted : IsAccepted setting source pattern
-  pub paired : zip (postorder t) spans ≡ spanned_of setting source pattern accepted.derived
+  pub accepted : IsAcceptedIn dialect setting source pattern
+  pub paired : zip (postorder t) spans ≡ spanned_in dialect setting source pattern accepted.derived
   pub each : length spans ≡ nodes t
 
 -- the span of a node; an empty one at the start if there is none
@@ -33,9 +34,9 @@ abbrev pub span_at : List Span → ℕ → NodeSpan
 span_at spans number = node_span (slice_get spans number)
 
 -- The words encode such a tree, and there is the span of each node in the order in which the nodes are encoded.
-abbrev pub AreSpannedWords : Setting → Source → List ℕ → List NodeSpan → Type 0
-AreSpannedWords setting source words spans =
-    (t : Tree) × (placed : List Span) × ArePlaced setting source t placed × (words ≡ encode t) × (spans ≡ map (span_at placed) (numbers_of 0 t))
+abbrev pub AreSpannedWords : Dialect → Setting → Source → List ℕ → List NodeSpan → Type 0
+AreSpannedWords dialect setting source words spans =
+    (t : Tree) × (placed : List Span) × ArePlaced dialect setting source t placed × (words ≡ encode t) × (spans ≡ map (span_at placed) (numbers_of 0 t))
 
 module _ (P : List ℕ → List NodeSpan → Type 0) (needed spans_needed : ℕ) (old_words : List ℕ) (old_spans : List NodeSpan) where
   -- All items of two lists with this property are at the starts of the buffers.
@@ -50,19 +51,19 @@ module _ (P : List ℕ → List NodeSpan → Type 0) (needed spans_needed : ℕ)
 
 -- The status, `needed`, `spans_needed`, `kind`, `position`, and the buffers before and after. `Asked` states that the
 -- arguments are valid.
-pub data SpannedResult (Asked : Type 0) (setting : Setting) (source : Source) (old_words : List ℕ) (old_spans : List NodeSpan) :
+pub data SpannedResult (Asked : Type 0) (dialect : Dialect) (setting : Setting) (source : Source) (old_words : List ℕ) (old_spans : List NodeSpan) :
     (status needed spans_needed kind position : ℕ) (words : List ℕ) (spans : List NodeSpan) → Type 0 where
   -- the whole encoding and all spans are written
   spanned_written : {needed spans_needed : ℕ} {words : List ℕ} {spans : List NodeSpan} → Asked →
-      GivesBoth (AreSpannedWords setting source) needed spans_needed old_words old_spans words spans →
-      SpannedResult Asked setting source old_words old_spans 0 needed spans_needed 0 0 words spans
+      GivesBoth (AreSpannedWords dialect setting source) needed spans_needed old_words old_spans words spans →
+      SpannedResult Asked dialect setting source old_words old_spans 0 needed spans_needed 0 0 words spans
   -- the pattern is rejected, with the kind and the position of its syntax error
-  spanned_rejected : {kind position : ℕ} → Asked → NoneIsAccepted setting source → IsError setting source kind position →
-      SpannedResult Asked setting source old_words old_spans 5 0 0 kind position old_words old_spans
+  spanned_rejected : {kind position : ℕ} → Asked → NoneIsAcceptedIn dialect setting source → IsErrorIn dialect setting source kind position →
+      SpannedResult Asked dialect setting source old_words old_spans 5 0 0 kind position old_words old_spans
   -- an allocation failed
-  spanned_out_of_memory : Asked → SpannedResult Asked setting source old_words old_spans 2 0 0 0 0 old_words old_spans
+  spanned_out_of_memory : Asked → SpannedResult Asked dialect setting source old_words old_spans 2 0 0 0 0 old_words old_spans
   -- a buffer is too small
-  spanned_little : {needed spans_needed : ℕ} → Asked → IsOneTooSmall (AreSpannedWords setting source) needed spans_needed old_words old_spans →
-      SpannedResult Asked setting source old_words old_spans 3 needed spans_needed 0 0 old_words old_spans
+  spanned_little : {needed spans_needed : ℕ} → Asked → IsOneTooSmall (AreSpannedWords dialect setting source) needed spans_needed old_words old_spans →
+      SpannedResult Asked dialect setting source old_words old_spans 3 needed spans_needed 0 0 old_words old_spans
   -- the arguments are invalid
-  spanned_bad : (Asked → ⊥) → SpannedResult Asked setting source old_words old_spans 4 0 0 0 0 old_words old_spans
+  spanned_bad : (Asked → ⊥) → SpannedResult Asked dialect setting source old_words old_spans 4 0 0 0 0 old_words old_spans

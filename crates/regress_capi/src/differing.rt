@@ -5,12 +5,12 @@ ghost use Rattle.regress_front.specs.Meaning.{setting_of};
 ghost use Rattle.regress_front.specs.Settled.{IsFaultOf};
 ghost use Rattle.regress_differences.specs.Kinds.{number_of};
 ghost use Rattle.regress_capi.specs.DifferencesResults.{AreDifferences, AreNumbered, DifferencesResult, HasDifferenceKind, IsDifferenceName, IsDifferenceText, numbered};
-ghost use Rattle.regress_capi.specs.Request.{setting_by, IsTextRequest};
+ghost use Rattle.regress_capi.specs.Request.{setting_by, IsDifferencesRequest};
 ghost use Rattle.regress_capi.specs.TextResults.{TextResult};
 
 use super::buffer::copy_to;
 use super::reply::Reply;
-use super::request::{make_tables, parse_flags, read_points};
+use super::request::{is_regress, make_tables, parse_flags, read_points};
 use super::results::{BAD_INPUT, MEMORY};
 use super::texts::give_terminated;
 use regress_differences::{Difference, DifferenceKind, differences};
@@ -31,7 +31,8 @@ pub struct NumberedDifference {
     pub end: usize,
 }
 
-/// Writes the differences of a pattern in UTF-8. Returns their number, or the kind and the position of its syntax error.
+/// Writes the differences of a pattern in UTF-8, in the dialect `Regress`. Returns their number, or the kind and the
+/// position of its syntax error.
 ///
 /// # Errors
 /// The status is 2 if an allocation failed, 3 if `buffer` is too small, 4 if the arguments are invalid, and 5 if the
@@ -42,9 +43,12 @@ pub fn write_differences_of_text(
     bits: u32,
     buffer: &mut [NumberedDifference],
 ) -> Reply
-    ensures status { DifferencesResult (IsTextRequest pattern.now bits 0) (setting_by bits) (chars pattern.now)
+    ensures status { DifferencesResult (IsDifferencesRequest pattern.now bits) (setting_by bits) (chars pattern.now)
         buffer.old result.status result.needed result.kind result.position buffer.new }
 {
+    if !is_regress(bits) {
+        return Reply::bare(BAD_INPUT);
+    }
     match read_points(alloc, pattern, bits, 0) {
         Ok(Some(points)) => write_differences(alloc, &points, bits, buffer),
         Ok(None) => Reply::bare(BAD_INPUT),

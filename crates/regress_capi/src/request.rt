@@ -2,7 +2,8 @@
 ghost use Rattle.std.specs.Prelude.{◌≡◌, ◌≤◌, ◌↔◌, All, chars, IsTrue, IfOk, OnErr, MatchOption};
 ghost use Rattle.regress_front.specs.Intervals.{code_point_max};
 ghost use Rattle.regress_front.specs.TableOf.{table_of};
-ghost use Rattle.regress_capi.specs.Request.{dialect_of, flags_of, table_by, AreCompileBits, AreOptions, IsRequest, IsTextRequest};
+ghost use Rattle.regress_lexer.specs.declared.dialect.Dialect.TheVariants.{Regress};
+ghost use Rattle.regress_capi.specs.Request.{dialect_of, flags_of, front_dialect, front_setting, table_by, AreCompileBits, AreOptions, IsRequest, IsTextRequest};
 
 use regress::Dialect;
 use regress_front::codepointset::CODE_POINT_MAX;
@@ -24,27 +25,29 @@ const UNICODE_SETS: u32 = 16;
 
 const SMALL_TABLE: u32 = 32;
 
-const ALL_BITS: u32 = 63;
-
 const DIALECT_REGRESS: u32 = 0x2_0000;
+
+const DIALECT_ECMA: u32 = 0x4_0000;
+
+const FRONT_BITS: u32 = 0x4_003F;
 
 const COMPILE_BITS: u32 = 0x2_003F;
 
-/// Returns whether `pattern` consists of code points, `bits` of known flags, and `choice` is 0 or 1.
+/// Returns whether `pattern` consists of code points, `bits` of known flags and the dialect, and `choice` is 0 or 1.
 pub(crate) fn is_request(pattern: &[u32], bits: u32, choice: u32) -> bool
     ensures { IsTrue result ↔ IsRequest pattern.now bits choice }
 {
     pattern.iter().all(|c| *c <= CODE_POINT_MAX) && are_options(bits, choice)
 }
 
-/// Returns whether `bits` consists of known flags, and `choice` is 0 or 1.
+/// Returns whether `bits` consists of known flags and the dialect, and `choice` is 0 or 1.
 pub(crate) fn are_options(bits: u32, choice: u32) -> bool
     ensures { IsTrue result ↔ AreOptions bits choice }
 {
-    bits <= ALL_BITS && choice < 2
+    bits & FRONT_BITS == bits && choice < 2
 }
 
-/// Returns whether `bits` consists of known flags and the dialect.
+/// Returns whether `bits` consists of known flags and the dialect, for a call that compiles.
 pub(crate) fn are_compile_bits(bits: u32) -> bool
     ensures { IsTrue result ↔ AreCompileBits bits }
 {
@@ -84,7 +87,32 @@ pub(crate) fn parse_flags(bits: u32) -> Flags
     }
 }
 
-/// Returns the dialect that `bits` specifies.
+/// Returns the dialect that `bits` specifies for a call that parses.
+pub(crate) fn front_dialect(bits: u32) -> Dialect
+    ensures { result ≡ front_dialect bits }
+{
+    if bits & DIALECT_ECMA != 0 {
+        Dialect::Ecma
+    } else {
+        Dialect::Regress
+    }
+}
+
+/// Returns whether that dialect is `Regress`.
+pub(crate) fn is_regress(bits: u32) -> bool
+    ensures { IsTrue result ↔ (front_dialect bits ≡ Regress) }
+{
+    bits & DIALECT_ECMA == 0
+}
+
+/// Returns the flags in force in that dialect.
+pub(crate) fn front_flags(bits: u32) -> Flags
+    ensures { result ≡ (front_setting bits).flags }
+{
+    front_dialect(bits).flags_in_force(parse_flags(bits))
+}
+
+/// Returns the dialect that `bits` specifies for a call that compiles.
 pub(crate) fn dialect_of(bits: u32) -> Dialect
     ensures { result ≡ dialect_of bits }
 {

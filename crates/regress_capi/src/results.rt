@@ -1,6 +1,6 @@
 //! The encoding of a pattern's tree, and the text of its syntax error.
 ghost use Rattle.std.specs.Prelude.{◌==◌, chars};
-ghost use Rattle.regress_capi.specs.Request.{setting_by, IsRequest, IsTextRequest};
+ghost use Rattle.regress_capi.specs.Request.{front_dialect, front_setting, IsRequest, IsTextRequest};
 ghost use Rattle.regress_capi.specs.EncodingResults.{EncodingResult};
 ghost use Rattle.regress_capi.specs.ErrorResults.{ErrorResult};
 
@@ -34,7 +34,7 @@ pub fn write_encoding(
     choice: u32,
     words: &mut [u32],
 ) -> Reply
-    ensures status { EncodingResult (IsRequest pattern.now bits choice) (setting_by bits) pattern.now (choice == 1)
+    ensures status { EncodingResult (IsRequest pattern.now bits choice) (front_dialect bits) (front_setting bits) pattern.now (choice == 1)
         words.old result.status result.needed result.kind result.position words.new }
 {
     if !is_request(pattern, bits, choice) {
@@ -60,8 +60,8 @@ pub fn write_encoding_of_text(
     choice: u32,
     words: &mut [u32],
 ) -> Reply
-    ensures status { EncodingResult (IsTextRequest pattern.now bits choice) (setting_by bits) (chars pattern.now) (choice == 1)
-        words.old result.status result.needed result.kind result.position words.new }
+    ensures status { EncodingResult (IsTextRequest pattern.now bits choice) (front_dialect bits) (front_setting bits) (chars pattern.now)
+        (choice == 1) words.old result.status result.needed result.kind result.position words.new }
 {
     match read_points(alloc, pattern, bits, choice) {
         Ok(Some(points)) => write_encoding(alloc, &points, bits, choice, words),
@@ -77,7 +77,7 @@ pub fn write_encoding_of_text(
 /// The status is 2 if an allocation failed, 3 if the pattern is rejected and `text` is too small, 4 if the arguments are
 /// invalid, and 5 if the pattern is rejected and the text is written.
 pub fn write_error(alloc: Global, pattern: &[u32], bits: u32, text: &mut [u8]) -> Reply
-    ensures status { ErrorResult (IsRequest pattern.now bits 0) (setting_by bits) pattern.now
+    ensures status { ErrorResult (IsRequest pattern.now bits 0) (front_dialect bits) (front_setting bits) pattern.now
         text.old result.status result.needed result.kind result.position text.new }
 {
     if !is_request(pattern, bits, 0) {
@@ -105,7 +105,7 @@ pub fn write_error(alloc: Global, pattern: &[u32], bits: u32, text: &mut [u8]) -
 /// # Errors
 /// As `write_error`; a pattern that is not UTF-8 is an invalid argument.
 pub fn write_error_of_text(alloc: Global, pattern: &[u8], bits: u32, text: &mut [u8]) -> Reply
-    ensures status { ErrorResult (IsTextRequest pattern.now bits 0) (setting_by bits) (chars pattern.now)
+    ensures status { ErrorResult (IsTextRequest pattern.now bits 0) (front_dialect bits) (front_setting bits) (chars pattern.now)
         text.old result.status result.needed result.kind result.position text.new }
 {
     match read_points(alloc, pattern, bits, 0) {

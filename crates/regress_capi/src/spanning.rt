@@ -3,16 +3,18 @@ ghost use Rattle.std.specs.Prelude.{◌≡◌, ◌≤◌, ◌<◌, ◌⊎◌, �
 ghost use Rattle.regress_front.specs.Intervals.{code_point_max};
 ghost use Rattle.regress_front.specs.Meaning.{setting_of};
 ghost use Rattle.regress_front.specs.Tree.{tree};
-ghost use Rattle.regress_front.specs.Settled.{IsFaultOf};
+ghost use Rattle.regress_front.specs.Settled.{IsFaultIn};
+ghost use Rattle.regress_lexer.specs.Dialects.{flags_in_force};
 ghost use Rattle.regress_capi.specs.Replies.{bare};
-ghost use Rattle.regress_capi.specs.Request.{setting_by, IsRequest, IsTextRequest};
+ghost use Rattle.regress_capi.specs.Request.{front_dialect, front_setting, IsRequest, IsTextRequest};
 ghost use Rattle.regress_capi.specs.SpannedResults.{ArePlaced, AreSpannedWords, SpannedResult, span_at};
 
 use super::reply::Reply;
-use super::request::{is_request, make_tables, parse_flags, read_points};
+use super::request::{front_dialect, is_request, make_tables, parse_flags, read_points};
 use super::results::{BAD_INPUT, MEMORY};
+use regress::Dialect;
 use regress_encoding::{encode, postorder_numbers};
-use regress_front::parse::{PlacedFault, Span, SpannedRegex, try_parse_with_spans};
+use regress_front::parse::{PlacedFault, Span, SpannedRegex, try_parse_with_spans_in};
 use regress_front::types::Flags;
 use regress_front::unicode::Tables;
 use std::alloc::{AllocError, Global};
@@ -64,7 +66,7 @@ pub fn write_encoding_with_spans(
     words: &mut [u32],
     spans: &mut [NodeSpan],
 ) -> SpannedReply
-    ensures status { SpannedResult (IsRequest pattern.now bits 0) (setting_by bits) pattern.now words.old spans.old
+    ensures status { SpannedResult (IsRequest pattern.now bits 0) (front_dialect bits) (front_setting bits) pattern.now words.old spans.old
         result.reply.status result.reply.needed result.spans_needed result.reply.kind result.reply.position words.new spans.new }
 {
     if !is_request(pattern, bits, 0) {
@@ -84,8 +86,8 @@ pub fn write_encoding_of_text_with_spans(
     words: &mut [u32],
     spans: &mut [NodeSpan],
 ) -> SpannedReply
-    ensures status { SpannedResult (IsTextRequest pattern.now bits 0) (setting_by bits) (chars pattern.now) words.old spans.old
-        result.reply.status result.reply.needed result.spans_needed result.reply.kind result.reply.position words.new spans.new }
+    ensures status { SpannedResult (IsTextRequest pattern.now bits 0) (front_dialect bits) (front_setting bits) (chars pattern.now)
+        words.old spans.old result.reply.status result.reply.needed result.spans_needed result.reply.kind result.reply.position words.new spans.new }
 {
     match read_points(alloc, pattern, bits, 0) {
         Ok(Some(points)) => write_spanned(alloc, &points, bits, words, spans),
@@ -103,7 +105,7 @@ fn write_spanned(
     spans: &mut [NodeSpan],
 ) -> SpannedReply
     requires { All (λ c. c ≤ code_point_max) pattern.now }
-    ensures status { SpannedResult (Unit {0}) (setting_by bits) pattern.now words.old spans.old
+    ensures status { SpannedResult (Unit {0}) (front_dialect bits) (front_setting bits) pattern.now words.old spans.old
         result.reply.status result.reply.needed result.spans_needed result.reply.kind result.reply.position words.new spans.new }
 {
     match spanned_words(alloc, pattern, bits) {
@@ -142,11 +144,12 @@ fn copy_both(found: &SpannedWords, words: &mut [u32], spans: &mut [NodeSpan]) ->
 /// Returns the encoding of the pattern's tree, and the spans of its nodes.
 fn spanned_words(alloc: Global, pattern: &[u32], bits: u32) -> Result<SpannedWords, PlacedFault>
     requires { All (λ c. c ≤ code_point_max) pattern.now }
-    ensures words { IfOk result (λ found. AreSpannedWords (setting_by bits) pattern.now found.words.items found.spans.items) }
-    ensures rejected { IfErr result (IsFaultOf (setting_by bits) pattern.now) }
+    ensures words { IfOk result (λ found. AreSpannedWords (front_dialect bits) (front_setting bits) pattern.now found.words.items found.spans.items) }
+    ensures rejected { IfErr result (IsFaultIn (front_dialect bits) (front_setting bits) pattern.now) }
 {
+    let (flags, dialect) = (parse_flags(bits), front_dialect(bits));
     let tables = make_tables(alloc, bits)?;
-    let parsed = parse(alloc, pattern, parse_flags(bits), &tables)?;
+    let parsed = parse(alloc, pattern, flags, &tables, dialect)?;
     let words = encode(alloc, &parsed.regex.node)?;
     let numbers = postorder_numbers(alloc, &parsed.regex.node)?;
     let spans = in_order(alloc, &numbers, &parsed.spans)?;
@@ -159,12 +162,13 @@ fn parse(
     pattern: &[u32],
     flags: Flags,
     tables: &Tables,
+    dialect: Dialect,
 ) -> Result<SpannedRegex, PlacedFault>
     requires { All (λ c. c ≤ code_point_max) pattern.now }
-    ensures placed { IfOk result (λ parsed. ArePlaced (setting_of flags tables.now) pattern.now (tree parsed.regex.node) parsed.spans.items) }
-    ensures rejected { IfErr result (IsFaultOf (setting_of flags tables.now) pattern.now) }
+    ensures placed { IfOk result (λ parsed. ArePlaced dialect (setting_of (flags_in_force dialect flags) tables.now) pattern.now (tree parsed.regex.node) parsed.spans.items) }
+    ensures rejected { IfErr result (IsFaultIn dialect (setting_of (flags_in_force dialect flags) tables.now) pattern.now) }
 {
-    try_parse_with_spans(alloc, pattern, flags, tables)
+    try_parse_with_spans_in(alloc, pattern, flags, tables, dialect)
 }
 
 /// Returns the spans with these numbers.

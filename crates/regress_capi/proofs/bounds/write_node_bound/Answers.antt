@@ -11,6 +11,6 @@ pub returns : goal.returns
 returns c = record {
   status =
       bounded (c.is_request.ensures.0 (cc))
-      (subst (λ flags. IsNodeBound flags c.args.pattern.now c.node_bound.result) c.parse_flags.ensures
+      (subst (λ flags. IsNodeBound flags c.args.pattern.now c.node_bound.result) c.front_flags.ensures
       (record { value = c.node_bound.ensures.value; nodes = c.node_bound.ensures.nodes }));
 }

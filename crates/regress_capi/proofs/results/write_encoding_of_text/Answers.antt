@@ -1,7 +1,7 @@
 use Rattle.std.proofs.Common.{◌≡◌, ◌≤◌, ◌==◌, subst, ◌∙◌, chars}
 use Rattle.std.specs.List.{All}
 use Rattle.regress_base.specs.Intervals.{code_point_max}
-use Rattle.regress_capi.specs.Request.{setting_by, IsRequest}
+use Rattle.regress_capi.specs.Request.{front_dialect, front_setting, IsRequest}
 use Rattle.regress_capi.specs.EncodingResults.{EncodingResult, out_of_memory, bad}
 use Rattle.regress_capi.proofs.ResultLemmas.{words-asked}
 use Rattle.regress_capi.proofs.results.write_encoding_of_text.Goals as goal
@@ -11,7 +11,7 @@ pub returns-in-Ok-Some : goal.returns-in-Ok-Some
 returns-in-Ok-Some c =
     let read = rw c.in-Ok-Some.field-0-is at c.in-Ok-Some.ensures.points in
     let same : c.deref.result.now ≡ chars c.args.pattern.now = c.deref.ensures.value ∙ read.1 in
-    let status = subst (λ source. EncodingResult (IsRequest source c.args.bits c.args.choice) (setting_by c.args.bits) source
+    let status = subst (λ source. EncodingResult (IsRequest source c.args.bits c.args.choice) (front_dialect c.args.bits) (front_setting c.args.bits) source
     (c.args.choice == 1) c.args.words.now c.write_encoding.result.status c.write_encoding.result.needed c.write_encoding.result.kind
     c.write_encoding.result.position c.write_encoding.new.words) same c.write_encoding.ensures.status in
     let points : All (λ c. c ≤ code_point_max) (chars c.args.pattern.now) = subst (All (λ c. c ≤ code_point_max)) read.1 read.2 in

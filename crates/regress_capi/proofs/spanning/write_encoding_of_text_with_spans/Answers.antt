@@ -1,6 +1,6 @@
 use Rattle.std.proofs.Common.{◌≡◌, subst, ◌∙◌, chars}
 use Rattle.regress_capi.specs.SpannedResults.{SpannedResult, spanned_out_of_memory, spanned_bad}
-use Rattle.regress_capi.specs.Request.{setting_by}
+use Rattle.regress_capi.specs.Request.{front_dialect, front_setting}
 use Rattle.regress_capi.proofs.SpannedLemmas.{spanned-asked}
 use Rattle.regress_capi.proofs.spanning.write_encoding_of_text_with_spans.Goals as goal
 
@@ -13,7 +13,7 @@ returns-in-Ok-Some c =
       status =
           spanned-asked read.0
           (subst
-          (λ source. SpannedResult (Unit {0}) (setting_by c.args.bits) source c.args.words.now c.args.spans.now c.write_spanned.result.reply.status
+          (λ source. SpannedResult (Unit {0}) (front_dialect c.args.bits) (front_setting c.args.bits) source c.args.words.now c.args.spans.now c.write_spanned.result.reply.status
           c.write_spanned.result.reply.needed c.write_spanned.result.spans_needed c.write_spanned.result.reply.kind
           c.write_spanned.result.reply.position
           c.write_spanned.new.words c.write_spanned.new.spans)
