@@ -410,6 +410,13 @@ class Calls(unittest.TestCase):
                 regress.compile(r'(?<b>x)\k<a>', dialect=dialect)
             self.assertEqual((raised.exception.msg, raised.exception.pos),
                              ('Backreference to invalid named capture group: a', 10))
+            # The escapes in a name are decoded.
+            for pattern in r'(?<é>x)\k<\u0061>', r'(?<é>x)\k<\u0061>'.encode():
+                with self.assertRaises(regress.error) as raised:
+                    regress.compile(pattern, dialect=dialect)
+                self.assertEqual((raised.exception.msg, raised.exception.kind),
+                                 ('Backreference to invalid named capture group: a', 'UnknownName'))
+                self.assertEqual(raised.exception.pos, 10 + isinstance(pattern, bytes))
         with self.assertRaises(ValueError):
             regress.compile('a', dialect='perl')
 

@@ -68,8 +68,9 @@ _NONLINEAR = None, 'back-reference', 'capturing-lookaround', 'too-many-instructi
 _FLAGS = {'i': 1, 'm': 2, 's': 4, 'u': 8, 'v': 8 | 16}
 
 
-# The dialects, as the library has them.
+# The dialects, as the library has them: for a pattern that is compiled, and for one that is parsed.
 _DIALECTS = {'ecma': 0, 'regress': 0x20000}
+_PARSED = {'ecma': 0x40000, 'regress': 0}
 
 
 class Flag(enum.IntFlag):
@@ -311,7 +312,7 @@ class Pattern:
             raise ValueError('a dialect is ecma or regress, not %r' % (dialect,))
         self.dialect = dialect
         self._limits = (steps, nodes, instructions, linear_instructions, memory)
-        self._program = program = _Program(_utf8(self.pattern), self._bits(), self._limits, self.pattern)
+        self._program = program = _Program(_utf8(self.pattern), self.flags, dialect, self._limits, self.pattern)
         # The call of fullmatch, after the first.
         self._full = None
         self._type = type(self.pattern)
@@ -353,7 +354,7 @@ class Pattern:
         """
         if self._full is None:
             wrapped = b'(?:' + _utf8(self.pattern) + b')(?![^])'
-            program = _Program(wrapped, self._bits(), self._limits, self.pattern, offset=3)
+            program = _Program(wrapped, self.flags, self.dialect, self._limits, self.pattern, offset=3)
             if _native:
                 self._full = self._searcher(program).match
             else:
@@ -458,10 +459,6 @@ class Pattern:
         replaced, count = out
         replaced = replaced if self._type is bytes else replaced.decode()
         return (replaced, count) if is_counted else replaced
-
-    def _bits(self):
-        """Returns the flags and the dialect as the library has them."""
-        return _bits(self.flags) | _DIALECTS[self.dialect]
 
     def __repr__(self):
         dialect = '' if self.dialect == 'ecma' else ', dialect=%r' % self.dialect
@@ -628,7 +625,7 @@ class _Difference(ctypes.Structure):
 class _Program:
     """A pattern as the library has it. Any number of calls may use it at the same time."""
 
-    def __init__(self, pattern, flags, limits, source, offset=0):
+    def __init__(self, pattern, letters, dialect, limits, source, offset=0):
         self._regex = _Regex()
         # The pattern of the caller.
         self._source = source
@@ -636,15 +633,14 @@ class _Program:
             if limit is not None and not 1 <= limit <= sys.maxsize:
                 raise ValueError('a limit is from 1 to sys.maxsize')
         limits = _Limits(*[limit or 0 for limit in limits])
+        flags = _bits(letters)
         kind, position = ctypes.c_uint32(), ctypes.c_size_t()
         status = _library.regress_compile_raw(
-            pattern, len(pattern), flags, ctypes.byref(limits), ctypes.byref(self._regex), ctypes.byref(kind),
-            ctypes.byref(position))
+            pattern, len(pattern), flags | _DIALECTS[dialect], ctypes.byref(limits), ctypes.byref(self._regex),
+            ctypes.byref(kind), ctypes.byref(position))
         if status == _SYNTAX:
-            # `offset` code points are not the caller's.
-            if flags & _DIALECTS['regress']:
-                raise _syntax_error(pattern, flags & ~_DIALECTS['regress'], source, offset)
-            raise _syntax_error_at(kind.value, position.value - offset, source)
+            # The call that parses also returns the text. `offset` code points are not the caller's.
+            raise _syntax_error(pattern, flags | _PARSED[dialect], source, offset)
         if status != _OK:
             raise self.failure(status)
         self.address = self._regex.inside
@@ -773,20 +769,6 @@ def _syntax_error(data, bits, source, offset=0):
         return _failure(status)
     name = _KINDS[kind.value - 1] if kind.value <= len(_KINDS) else None
     return error(text.decode(), source, _position(source, position.value - offset), name)
-
-
-def _syntax_error_at(kind, index, source):
-    """Returns the exception of a pattern that is rejected with this kind, at a code-point index of the source. Its message
-    ends in the name that no group has, as the source has it."""
-    status, text = _call(ctypes.c_char, 128, _OK, lambda *buffer: _library.regress_error_message_raw(kind, *buffer))
-    if status != _OK:
-        return _failure(status)
-    text = text.decode()
-    name = _KINDS[kind - 1] if kind <= len(_KINDS) else None
-    if name == 'UnknownName':
-        characters = source.decode() if isinstance(source, bytes) else source
-        text += characters[index:].partition('>')[0]
-    return error(text, source, _position(source, index), name)
 
 
 def _position(source, index):
@@ -962,7 +944,6 @@ def _load():
         'regress_steps_per_byte_raw': (wide, handle),
         'regress_find_steps_per_byte_raw': (wide, handle),
         'regress_nonlinear_raw': (number, handle),
-        'regress_error_message_raw': (number, number, octets, size, sizes),
         'regress_escape_raw': (number, data, size, octets, size, sizes),
         'regress_free_raw': (None, handle),
         'regress_differences_raw': (number, data, size, number, listed, size, sizes, numbers, sizes),

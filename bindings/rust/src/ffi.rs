@@ -169,8 +169,6 @@ extern "C" {
         needed: *mut usize,
     ) -> u32;
 
-    fn regress_error_message_raw(kind: u32, out: *mut u8, room: usize, needed: *mut usize) -> u32;
-
     fn regress_free_raw(handle: *mut RegressRegex);
 
     fn regress_differences_raw(
@@ -245,13 +243,6 @@ type Replace = unsafe extern "C" fn(
 pub(crate) struct Output<T> {
     pub(crate) status: u32,
     pub(crate) items: Vec<T>,
-}
-
-/// Why a pattern was not compiled. With `SYNTAX` the error has a kind and a position, a code-point index.
-pub(crate) struct CompileFault {
-    pub(crate) status: u32,
-    pub(crate) kind: u32,
-    pub(crate) position: usize,
 }
 
 /// A compiled regular expression of the library.
@@ -333,7 +324,7 @@ pub(crate) fn has_abi() -> bool {
 }
 
 /// Compiles a pattern. Returns the status if that fails.
-pub(crate) fn compile(pattern: &str, flags: u32, limits: &Limits) -> Result<Handle, CompileFault> {
+pub(crate) fn compile(pattern: &str, flags: u32, limits: &Limits) -> Result<Handle, u32> {
     let mut regex = RegressRegex {
         inside: ptr::null_mut(),
     };
@@ -351,11 +342,7 @@ pub(crate) fn compile(pattern: &str, flags: u32, limits: &Limits) -> Result<Hand
         )
     };
     if status != OK {
-        return Err(CompileFault {
-            status,
-            kind,
-            position,
-        });
+        return Err(status);
     }
     let mut handle = Handle { regex, groups: 0 };
     // SAFETY: the handle is alive.
@@ -510,14 +497,6 @@ pub(crate) fn escape(text: &str) -> Output<u8> {
                 needed,
             )
         }
-    })
-}
-
-/// Writes the text of a kind of syntax error.
-pub(crate) fn error_message(kind: u32) -> Output<u8> {
-    with_room(128, |out: &mut [u8], needed| {
-        // SAFETY: pointer and length are those of a slice.
-        unsafe { regress_error_message_raw(kind, out.as_mut_ptr(), out.len(), needed) }
     })
 }
 

@@ -21,7 +21,8 @@ pub enum Dialect {
     /// The language of ECMA-262 with Annex B, and the default.
     #[default]
     Ecma,
-    /// The language of the crate `regress`, and of the calls for trees. Each flag has its effect independently.
+    /// The language of the crate `regress`, and of the calls for trees without a dialect. Each flag has its effect
+    /// independently.
     Regress,
 }
 
@@ -34,11 +35,19 @@ impl Dialect {
         }
     }
 
-    /// Returns the dialect as the library has it.
-    pub(crate) fn bits(self) -> u32 {
+    /// Returns the dialect as the library has it, for a pattern that is compiled.
+    pub(crate) fn compile_bits(self) -> u32 {
         match self {
             Dialect::Ecma => 0,
             Dialect::Regress => 0x2_0000,
+        }
+    }
+
+    /// Returns the dialect as the library has it, for a pattern that is parsed.
+    pub(crate) fn parse_bits(self) -> u32 {
+        match self {
+            Dialect::Ecma => 0x4_0000,
+            Dialect::Regress => 0,
         }
     }
 }

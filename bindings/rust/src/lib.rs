@@ -33,8 +33,9 @@ pub use difference::{differences, Difference, DifferenceKind};
 pub use flags::{Dialect, Flags, FlagsError, PatternFlags, Table};
 pub use kind::FaultKind;
 pub use library::{
-    node_bound, parse, parse_and_optimize, parse_and_optimize_str, parse_str, parse_str_with_spans,
-    parse_with_spans, Fault,
+    node_bound, parse, parse_and_optimize, parse_and_optimize_in, parse_and_optimize_str,
+    parse_and_optimize_str_in, parse_in, parse_str, parse_str_in, parse_str_with_spans,
+    parse_str_with_spans_in, parse_with_spans, parse_with_spans_in, Fault,
 };
 pub use node::{AnchorType, BracketContents, Interval, Node, Quantifier, RightSide};
 pub use regex::{

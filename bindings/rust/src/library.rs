@@ -1,7 +1,7 @@
-//! Parsing.
+//! Parsing. Calls without a dialect parse in [`Dialect::Regress`].
 
 use crate::ffi::{self, Output};
-use crate::flags::{bits, Flags, Table};
+use crate::flags::{bits, Dialect, Flags, Table};
 use crate::kind::FaultKind;
 use crate::node::Node;
 use crate::words::decode;
@@ -41,7 +41,7 @@ impl fmt::Display for Fault {
 
 impl Error for Fault {}
 
-/// Parses a pattern of code points, surrogates included, and returns its tree.
+/// Parses a pattern of code points, surrogates included, in the dialect [`Dialect::Regress`], and returns its tree.
 ///
 /// An allocation of this crate's own that fails aborts, as elsewhere in `std`. The size of the tree is not limited: for
 /// untrusted patterns test [`node_bound`] first, or compile them by
@@ -51,18 +51,44 @@ impl Error for Fault {}
 /// Returns [`Fault::Syntax`] if the pattern is rejected, [`Fault::Memory`] if the library is out of memory, and
 /// [`Fault::NoCodePoint`] if a number is not a code point.
 pub fn parse(pattern: &[u32], flags: Flags, table: Table) -> Result<Node, Fault> {
-    tree(pattern, bits(flags, table), 0)
+    parse_in(pattern, flags, table, Dialect::Regress)
 }
 
-/// Parses a pattern and returns its optimized tree, in normal form.
+/// Parses a pattern in a dialect as [`parse`] parses one of [`Dialect::Regress`].
+///
+/// # Errors
+/// As [`parse`].
+pub fn parse_in(
+    pattern: &[u32],
+    flags: Flags,
+    table: Table,
+    dialect: Dialect,
+) -> Result<Node, Fault> {
+    tree(pattern, bits(flags, table) | dialect.parse_bits(), 0)
+}
+
+/// Parses a pattern as [`parse`] does, and returns its optimized tree, in normal form.
 ///
 /// # Errors
 /// As [`parse`].
 pub fn parse_and_optimize(pattern: &[u32], flags: Flags, table: Table) -> Result<Node, Fault> {
-    tree(pattern, bits(flags, table), 1)
+    parse_and_optimize_in(pattern, flags, table, Dialect::Regress)
 }
 
-/// Parses a pattern and returns its tree. Positions of syntax errors count code points here too.
+/// Parses a pattern in a dialect, and returns its optimized tree, as [`parse_and_optimize`].
+///
+/// # Errors
+/// As [`parse`].
+pub fn parse_and_optimize_in(
+    pattern: &[u32],
+    flags: Flags,
+    table: Table,
+    dialect: Dialect,
+) -> Result<Node, Fault> {
+    tree(pattern, bits(flags, table) | dialect.parse_bits(), 1)
+}
+
+/// Parses a pattern as [`parse`] does. Positions of syntax errors count code points here too.
 ///
 /// # Errors
 /// As [`parse`].
@@ -70,7 +96,28 @@ pub fn parse_str(pattern: &str, flags: Flags, table: Table) -> Result<Node, Faul
     parse(&code_points(pattern), flags, table)
 }
 
-/// Parses a pattern of code points, and returns its tree with the span of each node, in the order of
+/// Parses a pattern in a dialect, as [`parse_str`].
+///
+/// # Errors
+/// As [`parse`].
+///
+/// ```
+/// use regress_front::{parse_str_in, Dialect, Flags, Table};
+///
+/// let parse = |dialect| parse_str_in(r"\b+", Flags::default(), Table::Small, dialect);
+/// assert!(parse(Dialect::Ecma).is_err());
+/// assert!(parse(Dialect::Regress).is_ok());
+/// ```
+pub fn parse_str_in(
+    pattern: &str,
+    flags: Flags,
+    table: Table,
+    dialect: Dialect,
+) -> Result<Node, Fault> {
+    parse_in(&code_points(pattern), flags, table, dialect)
+}
+
+/// Parses a pattern of code points as [`parse`] does, and returns its tree with the span of each node, in the order of
 /// [`Node::preorder`].
 ///
 /// A span is the half-open range of code-point indices of the pattern that a node is parsed from. The nodes of a
@@ -83,15 +130,28 @@ pub fn parse_with_spans(
     flags: Flags,
     table: Table,
 ) -> Result<(Node, Vec<Range<usize>>), Fault> {
-    let bits = bits(flags, table);
+    parse_with_spans_in(pattern, flags, table, Dialect::Regress)
+}
+
+/// Parses a pattern in a dialect, and returns its tree with the span of each node, as [`parse_with_spans`].
+///
+/// # Errors
+/// As [`parse`].
+pub fn parse_with_spans_in(
+    pattern: &[u32],
+    flags: Flags,
+    table: Table,
+    dialect: Dialect,
+) -> Result<(Node, Vec<Range<usize>>), Fault> {
+    let bits = bits(flags, table) | dialect.parse_bits();
     let (output, spans) = ffi::tree_words_with_spans(pattern, bits);
     let node = decoded(pattern, bits, output)?;
     let spans = spans.into_iter().map(|span| span.start..span.end);
     Ok((node, spans.collect()))
 }
 
-/// Parses a pattern, and returns its tree with the span of each node, in the order of [`Node::preorder`]. Spans count
-/// code points here too.
+/// Parses a pattern, and returns its tree with the span of each node, as [`parse_with_spans`]. Spans count code points
+/// here too.
 ///
 /// # Errors
 /// As [`parse`].
@@ -113,7 +173,20 @@ pub fn parse_str_with_spans(
     parse_with_spans(&code_points(pattern), flags, table)
 }
 
-/// Parses a pattern and returns its optimized tree, in normal form.
+/// Parses a pattern in a dialect, and returns its tree with the span of each node, as [`parse_str_with_spans`].
+///
+/// # Errors
+/// As [`parse`].
+pub fn parse_str_with_spans_in(
+    pattern: &str,
+    flags: Flags,
+    table: Table,
+    dialect: Dialect,
+) -> Result<(Node, Vec<Range<usize>>), Fault> {
+    parse_with_spans_in(&code_points(pattern), flags, table, dialect)
+}
+
+/// Parses a pattern and returns its optimized tree, as [`parse_and_optimize`].
 ///
 /// # Errors
 /// As [`parse`].
@@ -121,9 +194,22 @@ pub fn parse_and_optimize_str(pattern: &str, flags: Flags, table: Table) -> Resu
     parse_and_optimize(&code_points(pattern), flags, table)
 }
 
-/// Returns an upper bound on the number of nodes of the tree of a pattern, whatever the table; at most `usize::MAX`,
-/// which is no bound. Test it before an untrusted pattern is parsed. It is defined for any pattern, also for one that
-/// is rejected.
+/// Parses a pattern in a dialect, and returns its optimized tree, as [`parse_and_optimize_str`].
+///
+/// # Errors
+/// As [`parse`].
+pub fn parse_and_optimize_str_in(
+    pattern: &str,
+    flags: Flags,
+    table: Table,
+    dialect: Dialect,
+) -> Result<Node, Fault> {
+    parse_and_optimize_in(&code_points(pattern), flags, table, dialect)
+}
+
+/// Returns an upper bound on the number of nodes of the tree of a pattern, whatever the dialect and the table; at most
+/// `usize::MAX`, which is no bound. Test it before an untrusted pattern is parsed. It is defined for any pattern, also
+/// for one that is rejected.
 ///
 /// n references by name to n groups of this name make n² nodes. A pattern without references by name has at most 5
 /// times its length and 3 more.

@@ -146,9 +146,9 @@ impl Regex {
             linear_instructions: options.linear_instructions,
             memory: options.memory,
         };
-        let bits = bits(flags, options.table);
-        let handle = ffi::compile(pattern, bits | options.dialect.bits(), &limits)
-            .map_err(|fault| compile_error(&fault, options.dialect, pattern, bits))?;
+        let (bits, dialect) = (bits(flags, options.table), options.dialect);
+        let handle = ffi::compile(pattern, bits | dialect.compile_bits(), &limits)
+            .map_err(|status| compile_error(status, pattern, bits | dialect.parse_bits()))?;
         let nonlinear = match handle.nonlinear() {
             0 => None,
             number => Some(Nonlinear::from_number(number).ok_or(Error::Library)?),

@@ -1,7 +1,7 @@
 //! Errors of compiling and of searching.
 
 use crate::ffi;
-use crate::flags::{Dialect, FlagsError};
+use crate::flags::FlagsError;
 use crate::kind::FaultKind;
 use crate::library::{code_points, fault, Fault};
 use crate::regex::Nonlinear;
@@ -95,25 +95,19 @@ impl fmt::Display for SearchError {
 
 impl std::error::Error for SearchError {}
 
-/// Returns the error of a pattern that was not compiled, for the flags as the library has them.
-pub(crate) fn compile_error(
-    fault: &ffi::CompileFault,
-    dialect: Dialect,
-    pattern: &str,
-    bits: u32,
-) -> Error {
-    match fault.status {
-        ffi::SYNTAX => match dialect {
-            Dialect::Regress => syntax_error(pattern, bits),
-            Dialect::Ecma => syntax_error_at(pattern, fault.kind, fault.position),
-        },
+/// Returns the error of a pattern that was not compiled. `bits` are its flags and its dialect, as for a pattern that is
+/// parsed.
+pub(crate) fn compile_error(status: u32, pattern: &str, bits: u32) -> Error {
+    match status {
+        ffi::SYNTAX => syntax_error(pattern, bits),
         ffi::TOO_LARGE => Error::TooLarge,
         ffi::MEMORY => Error::Memory,
         _ => Error::Library,
     }
 }
 
-/// Returns the error of a pattern that is rejected. The call for trees also returns the text.
+/// Returns the error of a pattern that is rejected. The call that parses it also returns the text, which the one that
+/// compiles does not.
 pub(crate) fn syntax_error(pattern: &str, bits: u32) -> Error {
     match fault(&code_points(pattern), bits) {
         Fault::Syntax {
@@ -128,30 +122,6 @@ pub(crate) fn syntax_error(pattern: &str, bits: u32) -> Error {
         },
         Fault::Memory => Error::Memory,
         Fault::NoCodePoint | Fault::Library => Error::Library,
-    }
-}
-
-/// Returns the error of a pattern that is rejected, with its kind and its position. The text ends in the name that no group
-/// has, as the pattern has it.
-fn syntax_error_at(pattern: &str, kind: u32, position: usize) -> Error {
-    let message = ffi::error_message(kind);
-    match (
-        FaultKind::from_number(kind),
-        String::from_utf8(message.items),
-    ) {
-        (Some(kind), Ok(mut text)) if message.status == ffi::OK => {
-            let offset = byte_offset(pattern, position);
-            if kind == FaultKind::UnknownName {
-                text.extend(pattern[offset..].chars().take_while(|c| *c != '>'));
-            }
-            Error::Syntax {
-                kind,
-                text,
-                position,
-                offset,
-            }
-        }
-        _ => Error::Library,
     }
 }
 
