@@ -168,7 +168,7 @@ class Re(unittest.TestCase):
 
 
 try:
-    from test.re_tests import tests as RE_TESTS
+    from test.re_tests import FAIL, SYNTAX_ERROR, tests as RE_TESTS
 except ImportError:
     RE_TESTS = []
 
@@ -204,6 +204,45 @@ class TestsOfRe(unittest.TestCase):
                 count += 1
         self.assertGreater(count, 150)
         print('%d results are those of re' % count)
+
+    # Names with P, comments, groups of flags, conditions, \a, \A and \Z.
+    ONLY_IN_RE = re.compile(r'\(\?P|\(\?#|\(\?[aiLmsux]+\)|\(\?\(|\\[aAZ]')
+    # What V8 reads otherwise: a bracket directly after [ or [^ ends the class, a reference without a group is an octal
+    # escape, one inside its group matches the empty text, and a letter after a backslash may be that letter.
+    DIFFERENT = {'a[]b', 'a[]]b', 'a[^]b]c', r'\1', r'((((((((((a))))))))))\41', r'((.)\1+)', r'\u',
+                 r'(a)(b)(c)(d)(e)(f)(g)(h)(i)(j)(k)(l)\119'}
+    FLAGS = re.compile(r'\(\?([ims]+)\)')
+
+    @staticmethod
+    def names(found):
+        """Returns the names that the expression of a case uses."""
+        names = {'found': found[0], 'groups': found.group(), 'flags': found.re.flags}
+        for number in range(1, 100):
+            names['g%d' % number] = str(found[number]) if number <= found.re.groups else 'Error'
+        return names
+
+    def test_cases(self):
+        """The cases have the results that Python's tests expect, flags at the start of the pattern being those of the
+        call."""
+        count = 0
+        for pattern, text, outcome, *expectation in RE_TESTS:
+            flags = self.FLAGS.match(pattern)
+            pattern, letters = (pattern[flags.end():], flags[1]) if flags else (pattern, '')
+            # JavaScript's . matches no carriage return.
+            if self.ONLY_IN_RE.search(pattern) or pattern in self.DIFFERENT or '\r' in text and '.' in pattern:
+                continue
+            count += 1
+            with self.subTest(pattern=pattern, text=text):
+                if outcome == SYNTAX_ERROR:
+                    self.assertRaises(regress.error, regress.compile, pattern, letters)
+                    continue
+                found = regress.search(pattern, text, letters)
+                self.assertEqual(found is None, outcome == FAIL)
+                if found:
+                    expression, value = expectation
+                    self.assertEqual(eval(expression, self.names(found)), value)
+        self.assertGreater(count, 300)
+        print('%d of the %d cases of re have its results' % (count, len(RE_TESTS)))
 
 
 class Str(str):
