@@ -5,6 +5,7 @@ use crate::class::read_class;
 use crate::escape::character_at;
 use crate::properties::property_words;
 use crate::source::Source;
+use crate::units::is_as_written;
 use regress_labels::{Character, single_character};
 use regress_parse::Span;
 use regress_tree::ir::Node;
@@ -24,6 +25,9 @@ pub fn literal(
     match (node, text) {
         (Node::Char { c }, _) => Ok(Some(Character::plain(*c))),
         (Node::CharSet(_) | Node::ByteSet(_) | Node::Bracket(_), [_, ..]) => {
+            if !is_as_written(node, span, source)? {
+                return Ok(None);
+            }
             let text = match text {
                 [0x5B, 0x5E, ..] => return Ok(None),
                 [0x5B, inner @ .., 0x5D] => inner,
@@ -60,16 +64,37 @@ fn is_escape_of_one(text: &[u32]) -> bool {
 /// # Errors
 /// Returns [`AllocError`] if an allocation fails.
 pub fn is_one_atom(node: &Node, span: Span, source: Source<'_>) -> Result<bool, AllocError> {
-    match (node, source.text(span)) {
-        (Node::Alt(..), text @ [0x5C, 0x6B | 0x70 | 0x50, ..]) => Ok(is_escape_with_name(text)),
-        (Node::Alt(..), [0x5B, ..]) => Ok(written_set(span, source)?.is_some()),
+    let text = source.text(span);
+    match node {
+        Node::Cat(parts) => Ok(match parts.as_slice() {
+            [Node::BackRef { .. }, ..] => is_reference_by_name(text),
+            _ => false,
+        }),
+        // An alternative of several nodes may be written as one atom by itself.
+        Node::Alt(left, _) if matches!(**left, Node::Alt(..) | Node::Cat(_)) => Ok(false),
+        Node::Alt(..) => match text {
+            [0x5C, 0x6B, ..] => Ok(is_reference_by_name(text)),
+            [0x5C, 0x70 | 0x50, ..] => Ok(is_property(text)),
+            [0x5B, ..] => Ok(written_set(span, source)?.is_some()),
+            _ => Ok(false),
+        },
         _ => Ok(false),
     }
 }
 
-/// Returns whether a text is one escape with a name after its letter: it ends where the name ends.
-pub(crate) fn is_escape_with_name(text: &[u32]) -> bool {
-    match text.iter().position(|c| matches!(*c, 0x3E | 0x7D)) {
+/// Returns whether a text is one reference by name: it ends where the name ends.
+pub(crate) fn is_reference_by_name(text: &[u32]) -> bool {
+    matches!(text, [0x5C, 0x6B, ..]) && ends_at_first(text, 0x3E)
+}
+
+/// Returns whether a text is one escape of a property: it ends where the name ends.
+fn is_property(text: &[u32]) -> bool {
+    ends_at_first(text, 0x7D)
+}
+
+/// Returns whether a character is in a text at its end only.
+fn ends_at_first(text: &[u32], last: u32) -> bool {
+    match text.iter().position(|c| *c == last) {
         Some(end) => end.saturating_add(1) == text.len(),
         None => false,
     }
@@ -89,7 +114,7 @@ pub(crate) fn written_set(span: Span, source: Source<'_>) -> Result<Option<Strin
             None => Ok(None),
         },
         text @ [0x5C, letter @ (0x70 | 0x50), 0x7B, name @ .., 0x7D] => {
-            if !is_escape_with_name(text) {
+            if !is_property(text) {
                 return Ok(None);
             }
             property(*letter == 0x50, name, source).map(Some)

@@ -12,6 +12,7 @@ mod properties;
 mod scan;
 mod source;
 mod texts;
+mod units;
 
 pub use atoms::{is_one_atom, literal};
 pub use characters::{character_words, name_of_character};
@@ -19,3 +20,4 @@ pub use nodes::words;
 pub use scan::{Modifier, Scan, scanned};
 pub use source::Source;
 pub use texts::{TextEnd, shown, text_words};
+pub use units::is_as_written;

@@ -1,9 +1,10 @@
 //! What nodes match, in words.
 
-use crate::atoms::{is_escape_with_name, literal, written_set};
+use crate::atoms::{is_reference_by_name, literal, written_set};
 use crate::characters::{case_words, character_words};
 use crate::counts::count_words;
 use crate::source::Source;
+use crate::units::is_as_written;
 use regress_base::types::AnchorType;
 use regress_labels::{name_of, set_words};
 use regress_parse::Span;
@@ -30,6 +31,7 @@ pub fn words(node: &Node, span: Span, source: Source<'_>) -> Result<String, Allo
             let text = String::from_utf8_lossy(alloc, bytes)?;
             ["the text \"", &text, "\""].concat(alloc)
         }
+        Node::Cat(parts) => sequence(parts, span, source),
         Node::Alt(left, _) => alternatives(left, span, source),
         node => set_or_character(node, span, source),
     }
@@ -40,7 +42,6 @@ fn fixed_words(node: &Node) -> Option<&'static str> {
     Some(match node {
         Node::Empty => "nothing",
         Node::Goal => "the end of the pattern",
-        Node::Cat(_) => "one after the other",
         Node::MatchAny => "any character",
         Node::MatchAnyExceptLineTerminator => "any character except a line end",
         Node::Anchor {
@@ -85,20 +86,49 @@ fn group_words(group: u32, source: Source<'_>) -> Result<String, AllocError> {
     }
 }
 
+/// Returns the words of a sequence, which may be written as one reference by name: of its groups at most one is set.
+fn sequence(parts: &[Node], span: Span, source: Source<'_>) -> Result<String, AllocError> {
+    let words = match parts {
+        [first, ..] => reference_words(first, " that is set", span, source)?,
+        [] => None,
+    };
+    match words {
+        Some(words) => Ok(words),
+        None => String::from_str(source.alloc, "one after the other"),
+    }
+}
+
 /// Returns the words of alternatives, which may be written as one atom.
 fn alternatives(left: &Node, span: Span, source: Source<'_>) -> Result<String, AllocError> {
-    let alloc = source.alloc;
-    if let Node::BackRef { group, icase } = left
-        && is_escape_with_name(source.text(span))
-        && let Some(name) = name_of(*group, source.names)
-    {
-        let case = case_words(*icase);
-        return Ok(format!(in alloc; "the same text as the group named {name}{case}")?);
+    if let Some(words) = reference_words(left, "", span, source)? {
+        return Ok(words);
     }
     match written_set(span, source)? {
         Some(words) => Ok(words),
-        None => String::from_str(alloc, "one of these, tried in this order"),
+        None => String::from_str(source.alloc, "one of these, tried in this order"),
     }
+}
+
+/// Returns the words of a reference by name to several groups, and which of them is meant; `None` if it is none. `first` is
+/// the reference to the first group.
+fn reference_words(
+    first: &Node,
+    which: &str,
+    span: Span,
+    source: Source<'_>,
+) -> Result<Option<String>, AllocError> {
+    let Node::BackRef { group, icase } = first else {
+        return Ok(None);
+    };
+    if is_reference_by_name(source.text(span))
+        && let Some(name) = name_of(*group, source.names)
+    {
+        let case = case_words(*icase);
+        return Ok(Some(format!(in source.alloc;
+            "the same text as the group named {name}{which}{case}"
+        )?));
+    }
+    Ok(None)
 }
 
 /// Returns what a node matches that is a character or a set.
@@ -107,7 +137,9 @@ fn set_or_character(node: &Node, span: Span, source: Source<'_>) -> Result<Strin
     if let Some(character) = literal(node, span, source)? {
         return character_words(alloc, character.c, character.either_case);
     }
-    if let Some(words) = written_set(span, source)? {
+    if is_as_written(node, span, source)?
+        && let Some(words) = written_set(span, source)?
+    {
         return Ok(words);
     }
     let members = set_words(alloc, node)?.unwrap_or(String::new(alloc));

@@ -20,6 +20,8 @@ pub struct Scan {
     pub modifiers: Vec<Modifier>,
     /// Whether the flag v is set.
     pub sets: bool,
+    /// Whether the flag u or v is set.
+    pub(crate) unicode: bool,
     /// For each index of the pattern, whether case is ignored there.
     icase: Vec<bool>,
 }
@@ -60,6 +62,7 @@ pub fn scanned(alloc: Global, pattern: &[u32], flags: Flags) -> Result<Scan, All
         scan: Scan {
             modifiers: Vec::new(alloc),
             sets: flags.unicode_sets,
+            unicode: flags.unicode || flags.unicode_sets,
             icase: Vec::new(alloc),
         },
         icase: flags.icase,
