@@ -11,7 +11,7 @@ use regress_labels::{
 };
 use regress_parse::Span;
 use regress_tree::ir::Node;
-use regress_words::{is_one_atom, literal};
+use regress_words::{is_as_written, is_one_atom, literal};
 use std::alloc::{AllocError, Global};
 use std::{mem, slice};
 
@@ -63,12 +63,10 @@ type Pieces = Vec<(Piece, Option<Span>)>;
 /// Adds the piece of a node.
 #[cycle(lay_out)]
 fn add(node: &Node, setting: &mut Setting<'_>, pieces: &mut Pieces) -> Result<(), AllocError> {
-    if let Node::Cat(parts) = node {
-        for part in parts {
-            add(part, setting, pieces)?;
-        }
-    }
-    let piece = piece(node, setting)?;
+    let piece = match node {
+        Node::Cat(parts) => sequence(parts, setting, pieces)?,
+        _ => piece(node, setting)?,
+    };
     let span = setting.spans.next().copied();
     match piece {
         Some(Piece::Part(mut part)) => {
@@ -79,6 +77,23 @@ fn add(node: &Node, setting: &mut Setting<'_>, pieces: &mut Pieces) -> Result<()
         None => {}
     }
     Ok(())
+}
+
+/// Adds the pieces of the parts of a `Cat`; returns the piece of one that is a reference by name to several groups.
+#[cycle(lay_out)]
+fn sequence(
+    parts: &[Node],
+    setting: &mut Setting<'_>,
+    pieces: &mut Pieces,
+) -> Result<Option<Piece>, AllocError> {
+    if is_joined_reference(parts, setting) {
+        let part = joined_references(parts, setting)?;
+        return Ok(Some(Piece::Part(part)));
+    }
+    for part in parts {
+        add(part, setting, pieces)?;
+    }
+    Ok(None)
 }
 
 /// Returns the piece of a node that is not a `Cat`.
@@ -114,7 +129,7 @@ fn piece(node: &Node, setting: &mut Setting<'_>) -> Result<Option<Piece>, AllocE
 /// Returns the box of alternatives that are written as one atom: a reference by name, a class or a property.
 fn atom(node: &Node, setting: &mut Setting<'_>) -> Result<Option<Diagram>, AllocError> {
     if is_reference_by_name(node, setting) {
-        return references(node, setting).map(Some);
+        return tried_references(node, setting).map(Some);
     }
     if is_set(node, setting)? {
         return written_box(node, setting).map(Some);
@@ -179,12 +194,28 @@ fn next_span(setting: &Setting<'_>) -> Option<Span> {
     setting.spans.as_slice().first().copied()
 }
 
-/// Returns whether a node is a reference by name to several groups: all of its nodes have the same span.
+/// Returns whether a node is a reference by name to several groups that are tried in order: all of its nodes have the same
+/// span.
 fn is_reference_by_name(node: &Node, setting: &Setting<'_>) -> bool {
-    match (node, setting.spans.as_slice()) {
-        (Node::Alt(left, _), [first, second, ..]) => {
-            matches!(**left, Node::BackRef { .. }) && first == second
-        }
+    match node {
+        Node::Alt(left, _) => begins_reference(left, setting),
+        _ => false,
+    }
+}
+
+/// Returns whether the parts of a `Cat` are a reference by name to several groups, of which at most one is set: all of its
+/// nodes have the same span.
+fn is_joined_reference(parts: &[Node], setting: &Setting<'_>) -> bool {
+    match parts {
+        [first, ..] => begins_reference(first, setting),
+        [] => false,
+    }
+}
+
+/// Returns whether a node is a back reference, and the next two spans are the same.
+fn begins_reference(first: &Node, setting: &Setting<'_>) -> bool {
+    match (first, setting.spans.as_slice()) {
+        (Node::BackRef { .. }, [first, second, ..]) => first == second,
         _ => false,
     }
 }
@@ -214,36 +245,58 @@ fn written_box(node: &Node, setting: &mut Setting<'_>) -> Result<Diagram, AllocE
 /// The maximum number of groups that a reference by name lists.
 const LISTED_GROUPS: usize = 4;
 
-/// Returns a box for a reference by name to several groups, and skips the spans of the nodes inside it.
-fn references(node: &Node, setting: &mut Setting<'_>) -> Result<Diagram, AllocError> {
-    let mut text = String::new(setting.alloc);
-    let mut count = 0_usize;
+/// Returns a box for a reference by name to several groups that are tried in order, and skips the spans of the nodes inside.
+fn tried_references(node: &Node, setting: &mut Setting<'_>) -> Result<Diagram, AllocError> {
+    let mut groups = Vec::new(setting.alloc);
     let mut rest = node;
     while let Node::Alt(left, right) = rest {
-        if count < LISTED_GROUPS {
-            push_group(left, setting, &mut text)?;
-            text.push_str(" or ")?;
-        }
-        count = count.saturating_add(1);
+        push_referenced(left, &mut groups)?;
         skip_spans(2, setting);
         rest = right;
     }
-    if count > LISTED_GROUPS {
-        let more = count - LISTED_GROUPS + 1;
-        text.push_str(&format!(in setting.alloc; "{more} more")?)?;
-    } else {
-        push_group(rest, setting, &mut text)?;
-    }
-    Ok(reference_box(text, is_caseless(rest)))
+    push_referenced(rest, &mut groups)?;
+    references(&groups, is_caseless(rest), setting)
 }
 
-/// Appends the number and the name of the group of a back reference.
-fn push_group(node: &Node, setting: &Setting<'_>, text: &mut String) -> Result<(), AllocError> {
-    let Node::BackRef { group, .. } = node else {
-        return Ok(());
+/// Returns a box for a reference by name to several groups that are joined, and skips the spans of the nodes inside.
+fn joined_references(parts: &[Node], setting: &mut Setting<'_>) -> Result<Diagram, AllocError> {
+    let mut groups = Vec::new(setting.alloc);
+    for part in parts {
+        push_referenced(part, &mut groups)?;
+    }
+    skip_spans(parts.len(), setting);
+    references(&groups, parts.iter().any(|part| is_caseless(part)), setting)
+}
+
+/// Appends the number of the group of a back reference.
+fn push_referenced(node: &Node, groups: &mut Vec<u32>) -> Result<(), AllocError> {
+    if let Node::BackRef { group, .. } = node {
+        groups.push(*group)?;
+    }
+    Ok(())
+}
+
+/// Returns a box for a reference by name to these groups. One more than the maximum is listed, in place of a note about it.
+fn references(groups: &[u32], icase: bool, setting: &Setting<'_>) -> Result<Diagram, AllocError> {
+    let count = groups.len();
+    let listed = if count > LISTED_GROUPS + 1 {
+        LISTED_GROUPS
+    } else {
+        count
     };
-    let name = name_of(*group, setting.source.written.names);
-    text.push_str(&group_text(setting.alloc, "", *group, name)?)
+    let mut text = String::new(setting.alloc);
+    for group in groups.iter().take(listed) {
+        if !text.is_empty() {
+            text.push_str(" or ")?;
+        }
+        let name = name_of(*group, setting.source.written.names);
+        text.push_str(&group_text(setting.alloc, "", *group, name)?)?;
+    }
+    if count > listed {
+        let more = count - listed;
+        text.push_str(&format!(in setting.alloc; " or {more} more")?)?;
+    }
+    Ok(reference_box(text, icase))
 }
 
 fn is_caseless(node: &Node) -> bool {
@@ -408,5 +461,10 @@ fn set(node: &Node, setting: &Setting<'_>) -> Result<Option<Piece>, AllocError> 
         return Ok(None);
     };
     let label = set_label(setting.alloc, negated, set)?;
-    Ok(Some(Piece::Part(set_or_source(label, setting)?)))
+    let part = if is_as_written(node, span, setting.source.written)? {
+        set_or_source(label, setting)?
+    } else {
+        set_box(setting.alloc, label)
+    };
+    Ok(Some(Piece::Part(part)))
 }
