@@ -57,8 +57,16 @@ impl Length {
     }
 }
 
-/// The lengths of the groups before a node, where they are known. A group that may be unset is empty at least.
-type Groups = Vec<Option<Length>>;
+/// What is known of a group.
+#[derive(Clone, Copy)]
+struct Group<'a> {
+    /// Its length, if it is known. One that may be unset is empty at least.
+    length: Option<Length>,
+    name: Option<&'a str>,
+}
+
+/// The groups before a node.
+type Groups<'a> = Vec<Group<'a>>;
 
 /// Returns how many characters a tree matches, or `None` if it never matches since a set in it is empty.
 ///
@@ -71,7 +79,7 @@ pub(crate) fn matched_length(alloc: Global, root: &Node) -> Result<Option<Length
 
 /// Returns the length of a node.
 #[cycle(length_of)]
-fn length_of(node: &Node, groups: &mut Groups) -> Result<Option<Length>, AllocError> {
+fn length_of<'a>(node: &'a Node, groups: &mut Groups<'a>) -> Result<Option<Length>, AllocError> {
     match node {
         Node::Alt(..) => length_of_alternatives(node, groups),
         Node::Cat(parts) => length_of_all(parts, groups),
@@ -98,9 +106,9 @@ fn is_optional(node: &Node) -> bool {
 }
 
 /// Records that the groups from an index on may be unset.
-fn loosen(first: usize, groups: &mut Groups) {
+fn loosen(first: usize, groups: &mut Groups<'_>) {
     for group in groups.iter_mut().skip(first) {
-        if let Some(length) = group {
+        if let Some(length) = &mut group.length {
             length.min = 0;
         }
     }
@@ -108,13 +116,16 @@ fn loosen(first: usize, groups: &mut Groups) {
 
 /// Returns the length of one of alternatives. It iterates over right sides.
 #[cycle(length_of)]
-fn length_of_alternatives(node: &Node, groups: &mut Groups) -> Result<Option<Length>, AllocError> {
+fn length_of_alternatives<'a>(
+    node: &'a Node,
+    groups: &mut Groups<'a>,
+) -> Result<Option<Length>, AllocError> {
     let Node::Alt(left, right) = node else {
         return Ok(None);
     };
     let first = groups.len();
     let mut sum = length_of(left, groups)?;
-    let mut rest: &Node = right;
+    let mut rest: &'a Node = right;
     while let Node::Alt(left, right) = rest {
         loosen(first, groups);
         sum = either(sum, length_of(left, groups)?);
@@ -135,7 +146,13 @@ fn either(first: Option<Length>, second: Option<Length>) -> Option<Length> {
 }
 
 #[cycle(length_of)]
-fn length_of_all(parts: &[Node], groups: &mut Groups) -> Result<Option<Length>, AllocError> {
+fn length_of_all<'a>(
+    parts: &'a [Node],
+    groups: &mut Groups<'a>,
+) -> Result<Option<Length>, AllocError> {
+    if let Some(length) = length_of_references(parts, groups) {
+        return Ok(Some(length));
+    }
     let mut sum = Some(Length::exactly(0));
     for part in parts {
         let next = length_of(part, groups)?;
@@ -147,11 +164,32 @@ fn length_of_all(parts: &[Node], groups: &mut Groups) -> Result<Option<Length>, 
     Ok(sum)
 }
 
+/// Returns the length of references to groups of the same name, each to another one, since at most one of these is set;
+/// `None` for other parts.
+fn length_of_references(parts: &[Node], groups: &Groups<'_>) -> Option<Length> {
+    let mut name = None;
+    let mut last = 0;
+    let mut sum = None;
+    for part in parts {
+        let Node::BackRef { group, .. } = part else {
+            return None;
+        };
+        let own = group_of(*group, groups)?.name?;
+        if *group <= last || name.unwrap_or(own) != own {
+            return None;
+        }
+        name = Some(own);
+        last = *group;
+        sum = either(sum, Some(length_of_group(*group, groups)));
+    }
+    sum
+}
+
 /// Returns the length of a loop or a group, and records that of a group.
-fn length_around(
-    node: &Node,
+fn length_around<'a>(
+    node: &'a Node,
     inside: Option<Length>,
-    groups: &mut Groups,
+    groups: &mut Groups<'a>,
 ) -> Result<Option<Length>, AllocError> {
     match node {
         Node::Loop { quant, .. } | Node::Loop1CharBody { quant, .. } => Ok(match inside {
@@ -159,13 +197,23 @@ fn length_around(
             None if quant.min == 0 => Some(Length::exactly(0)),
             None => None,
         }),
-        Node::CaptureGroup { id, .. } => {
+        Node::CaptureGroup { id, name, .. } => {
             let id = usize::from(*id);
             for _missing in groups.len()..id + 1 {
-                groups.push(None)?;
+                groups.push(Group {
+                    length: None,
+                    name: None,
+                })?;
             }
             if let Some(point) = groups.get_mut(id) {
-                *point = inside;
+                let name = match name {
+                    Some(name) => Some(name.as_str()),
+                    None => None,
+                };
+                *point = Group {
+                    length: inside,
+                    name,
+                };
             }
             Ok(inside)
         }
@@ -174,7 +222,7 @@ fn length_around(
 }
 
 /// Returns the length of a node without a body.
-fn length_of_leaf(node: &Node, groups: &Groups) -> Option<Length> {
+fn length_of_leaf(node: &Node, groups: &Groups<'_>) -> Option<Length> {
     match node {
         Node::Char { .. } | Node::MatchAny | Node::MatchAnyExceptLineTerminator => {
             Some(Length::exactly(1))
@@ -200,10 +248,19 @@ fn length_of_leaf(node: &Node, groups: &Groups) -> Option<Length> {
 }
 
 /// Returns the length of what a group, numbered from 1, has captured.
-fn length_of_group(group: u32, groups: &Groups) -> Length {
-    let index = group.saturating_sub(1) as usize;
-    match groups.get(index) {
-        Some(Some(length)) => *length,
+fn length_of_group(group: u32, groups: &Groups<'_>) -> Length {
+    match group_of(group, groups) {
+        Some(
+            Group {
+                length: Some(length),
+                ..
+            },
+        ) => length,
         _ => Length { min: 0, max: None },
     }
+}
+
+/// Returns what is known of a group, numbered from 1.
+fn group_of<'a>(group: u32, groups: &Groups<'a>) -> Option<Group<'a>> {
+    groups.get(group.saturating_sub(1) as usize).copied()
 }

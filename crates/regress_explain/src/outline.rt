@@ -94,17 +94,20 @@ fn sequence(node: &Node, walker: &mut Walker<'_>) -> Result<Parts, AllocError> {
     Ok(parts)
 }
 
-/// Adds the parts of a node, in the order of the tree. A `Cat` has none of its own, and neither has the end of the
-/// pattern.
+/// Adds the parts of a node, in the order of the tree. The end of the pattern has none, and a `Cat` none of its own, unless
+/// it is written as one atom.
 #[cycle(add)]
 fn add(node: &Node, walker: &mut Walker<'_>, parts: &mut Parts) -> Result<(), AllocError> {
     match node {
-        Node::Cat(all) => {
-            for node in all {
-                add(node, walker, parts)?;
+        Node::Cat(all) => match atom(node, walker)? {
+            Some(atom) => parts.push(atom)?,
+            None => {
+                for node in all {
+                    add(node, walker, parts)?;
+                }
+                walker.next_span();
             }
-            walker.next_span();
-        }
+        },
         Node::Goal => {
             walker.next_span();
         }
@@ -210,19 +213,29 @@ fn atom(node: &Node, walker: &mut Walker<'_>) -> Result<Option<Part>, AllocError
     if !is_one_atom(node, span, source)? {
         return Ok(None);
     }
-    let mut rest = node;
-    while let Node::Alt(_, right) = rest {
-        walker.next_span();
-        walker.next_span();
-        rest = right;
-    }
-    walker.next_span();
+    skip_atom(node, walker);
     Ok(Some(Part {
         span,
         words: words(node, span, source)?,
         parts: Vec::new(source.alloc),
         kind: Kind::Short,
     }))
+}
+
+/// Skips the spans of a node that is written as one atom: a `Cat` or alternatives of leaves.
+fn skip_atom(node: &Node, walker: &mut Walker<'_>) {
+    let mut rest = node;
+    while let Node::Alt(_, right) = rest {
+        walker.next_span();
+        walker.next_span();
+        rest = right;
+    }
+    if let Node::Cat(parts) = rest {
+        for _part in parts {
+            walker.next_span();
+        }
+    }
+    walker.next_span();
 }
 
 /// Returns the part of an alternative whose node has this span; what is written of it begins at or after `start`.

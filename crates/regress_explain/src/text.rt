@@ -20,12 +20,13 @@ struct Form<'a> {
 /// Returns an explanation of a parsed pattern for people: a sentence about what it matches, and a line for each part,
 /// with its span, the part as it is written, and what it matches.
 ///
-/// A part is a node of the tree, characters one after the other, or a group with modifiers. A sequence has no line of
-/// its own, except one of several parts that is an alternative; neither have the end of the pattern, and what is in the
-/// line of the part around it, as the `\d` of `\d{4}`. Alternatives are in one list. The parts inside follow, indented,
-/// in the order of the pattern, also in a lookbehind. Spans are half-open ranges of code-point indices. Classes are
-/// described by what is written, not by their members. Invisible characters are shown by their numbers, as `U+000A`, and
-/// what is longer than 60 characters is cut off.
+/// A part is a node of the tree, characters one after the other, a group with modifiers, or what is written as one atom, such
+/// as a reference by name to several groups. A sequence has no line of its own, except one of several parts that is an
+/// alternative; neither have the end of the pattern, and what is in the line of the part around it, as the `\d` of `\d{4}`.
+/// Alternatives are in one list. The parts inside follow, indented, in the order of the pattern, also in a lookbehind. Spans
+/// are half-open ranges of code-point indices. Classes are described by what is written; one that has other members, as
+/// `[\u{61}]` in the dialect `Ecma` without the flag u, by its members. Invisible characters are shown by their numbers, as
+/// `U+000A`, and what is longer than 60 characters is cut off.
 ///
 /// The lines for `\d{4}-`:
 ///
