@@ -1,0 +1,2 @@
+pub mod Glob
+pub mod Row
