@@ -17,9 +17,17 @@ module _ (input old start between new : Option (List ℕ)) (empty : start ≡ ap
   does_through : (dialect : Dialect) (flags : Flags) (text : List ℕ) (action : Action) (found : Bool) →
       Does dialect flags text action input start between found → Does dialect flags text action input old new found
   does_through dialect flags text (search job multiline files) found h =
-      let all = h.2.2 in
-      let written = all.2 in
-      (h.0, h.1, (h.2.0, h.2.1, (all.0, all.1, (written.0, written.1, appends_through old start between new empty kept written.0 written.2))))
+      let walked = h.2 in
+      let all = walked.2.2 in
+      let written = all.2 in (
+        h.0,
+        h.1,
+        (
+          walked.0,
+          walked.1,
+          (walked.2.0, walked.2.1, (all.0, all.1, (written.0, written.1, appends_through old start between new empty kept written.0 written.2))),
+        ),
+      )
   does_through dialect flags text (show view) found h = took_through old start between new empty kept _ h
   does_through dialect flags text lint found h = took_through old start between new empty kept _ h
   does_through dialect flags text (explain form) found h = took_through old start between new empty kept _ h

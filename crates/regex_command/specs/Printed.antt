@@ -1,8 +1,8 @@
 -- What the program writes for a request, and where its pattern is.
-use Rattle.std.specs.Prelude.{◌≡◌, ⊤, ℕ, List, [], ◌∷◌, Bool, true, false, ◌⊎◌, ◌||◌, ◌&&◌, ◌++◌, Option, chars, codes}
+use Rattle.std.specs.Prelude.{◌≡◌, ⊤, ℕ, List, [], ◌∷◌, Bool, true, false, ◌⊎◌, ◌||◌, ◌&&◌, ◌++◌, ◌==◌, Option, chars, codes, length}
 use Rattle.std.specs.Io.KnownBytes.{Appends}
 use Rattle.std.specs.List.{Any, FoldsTo}
-use Rattle.regex_options.specs.Plain.{Job, matching, replacing, Source, in_argument, in_file}
+use Rattle.regex_options.specs.Plain.{FileList, Job, matching, replacing, Source, in_argument, in_file}
 use Rattle.regex_options.specs.Request.{Action, Ask, Request, apply, escape, explain, help, lint, search, show}
 use Rattle.regex_options.specs.declared.request.View.{View}
 use Rattle.regress.specs.Compiled.{IsCompiledIn}
@@ -22,6 +22,7 @@ use Rattle.regex_command.specs.Joined.{AreJoinable, are_parts, are_several, join
 use Rattle.regex_command.specs.Patterns.{IsExplanationIn, MayFailToExplain, MayFailToLint, IsReport, IsTreeOutput, IsQuietFor, IsShowFailure}
 use Rattle.regex_lines.specs.Searched.{Input, WritesInputs, WritesSomeOf, inputs_of, is_nothing}
 use Rattle.regex_lines.specs.Unread.{Unread}
+use Rattle.regex_lines.specs.Walk.{Found, IsFound}
 use Rattle.regex_lines.specs.declared.failure.Failure.TheVariants.{Argument, Memory, Output, Closed, Syntax, TooLarge, OutOfSteps, Unreadable, Incomplete, PatternNotUtf8, TooLong}
 use Rattle.regex_lines.specs.declared.failure.Failure.{Failure}
 
@@ -105,33 +106,43 @@ abbrev pub is_silent : Job → Bool
 is_silent (matching s) = is_nothing s.shown
 is_silent (replacing template) = false
 
--- whether these inputs may be left unread: there are none, or nothing is shown, and a line is selected
-abbrev pub is_complete : Job → (any : Bool) → (unread : List Unread) → Bool
-is_complete job any [] = true
-is_complete job any (input ∷ inputs) = any && is_silent job
+-- whether inputs may be left unread: none is, or nothing is shown, and a line is selected
+abbrev pub is_complete : Job → (any : Bool) → (all_read : Bool) → Bool
+is_complete job any all_read = all_read || (any && is_silent job)
 
-module _ (r : Regex) (job : Job) (inputs : List Input) where
-  -- All inputs were searched, and some not to their ends, as they could not be read: `complete` states whether this may be.
-  -- `found` states whether a line was selected, or the job changes lines.
+-- whether nothing of these was left unread
+abbrev pub are_read : (lost unread : List Unread) → Bool
+are_read lost unread = length lost == 0 && length unread == 0
+
+module _ (r : Regex) (job : Job) (inputs : List Input) (lost : List Unread) where
+  -- All inputs were searched, and some not to their ends, as they could not be read, besides what was not found:
+  -- `complete` states whether this may be. `found` states whether a line was selected, or the job changes lines.
   abbrev pub Searches : (old new : Option (List ℕ)) → (complete found : Bool) → Type 0
   Searches old new complete found =
       (any : Bool) × (found ≡ any || changes job)
-      × ((unread : List Unread) × (is_complete job any unread ≡ complete) × WritesInputs r job inputs old new unread any)
+      × ((unread : List Unread) × (is_complete job any (are_read lost unread) ≡ complete) × WritesInputs r job inputs old new unread any)
 
   -- What was searched before a failure: all inputs if it is that some were not read, and else the first lines.
   abbrev pub SearchesUntil : Failure → (old new : Option (List ℕ)) → Type 0
   SearchesUntil Incomplete old new = (found : Bool) × Searches old new false found
   SearchesUntil failure old new = (unread : List Unread) × WritesSomeOf r job inputs old new unread
 
-module _ (dialect : Dialect) (setting : Setting) (text : List ℕ) (job : Job) (multiline : Bool) (files : List (List ℕ)) where
-  -- All inputs were searched.
+module _ (dialect : Dialect) (setting : Setting) (text : List ℕ) (job : Job) (multiline : Bool) (files : FileList) where
+  -- P holds of files that are found.
+  abbrev pub OfFound : (P : Found → Type 0) → Type 0
+  OfFound P = (walked : Found) × IsFound files walked × P walked
+
+  -- All files that are found were searched.
   abbrev pub PrintsAll : (input old new : Option (List ℕ)) → (found : Bool) → Type 0
-  PrintsAll input old new found = (r : Regex) × IsCompiledIn dialect setting text r × Searches r job (inputs_of job multiline files input) old new true found
+  PrintsAll input old new found =
+      (r : Regex) × IsCompiledIn dialect setting text r
+      × OfFound (λ walked. Searches r job (inputs_of job multiline walked.several walked.files input) walked.unread old new true found)
 
   -- What was searched before a failure.
   abbrev pub PrintsFirst : (input old new : Option (List ℕ)) → Failure → Type 0
   PrintsFirst input old new failure =
-      (r : Regex) × IsCompiledIn dialect setting text r × SearchesUntil r job (inputs_of job multiline files input) failure old new
+      (r : Regex) × IsCompiledIn dialect setting text r
+      × OfFound (λ walked. SearchesUntil r job (inputs_of job multiline walked.several walked.files input) walked.unread failure old new)
 
 -- a text, escaped, on a line
 abbrev pub PrintsEscaped : (old new : Option (List ℕ)) → (text : List ℕ) → Type 0

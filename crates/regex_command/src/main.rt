@@ -10,9 +10,10 @@ ghost use Rattle.regress_display.specs.Request.{requested};
 ghost use Rattle.regex_options.specs.Table.{topic_text};
 ghost use Rattle.regex_options.specs.Request.{action, ask, asked_by, requested as request_asked};
 ghost use Rattle.regex_lines.specs.Ending.{IsLate, OrOutput, setting_in};
-ghost use Rattle.regex_options.specs.Plain.{job};
-ghost use Rattle.regex_command.specs.Printed.{Begins, Does, IsDue, IsQuiet, IsQuietAt, IsQuietFound, IsQuietIfFound, LacksPattern, MayFail, MayFailAt, Prints, PrintsAll, PrintsEscaped, PrintsFirst, PrintsSome, changes, is_complete, is_silent, status_if_none, view_of, OfPattern};
-ghost use Rattle.regex_lines.specs.Unread.{unread_of};
+ghost use Rattle.regex_options.specs.Plain.{file_list, job};
+ghost use Rattle.regex_command.specs.Printed.{Begins, Does, IsDue, IsQuiet, IsQuietAt, IsQuietFound, IsQuietIfFound, LacksPattern, MayFail, MayFailAt, Prints, PrintsAll, PrintsEscaped, PrintsFirst, PrintsSome, are_read, changes, is_complete, is_silent, status_if_none, view_of, OfPattern};
+ghost use Rattle.regex_lines.specs.Unread.{unread_of, unread_path};
+ghost use Rattle.regex_lines.specs.Walk.{found_of};
 ghost use Rattle.regex_lines.specs.declared.failure.Failure.TheVariants.{Incomplete};
 
 mod checking;
@@ -28,7 +29,10 @@ use compiling::compiled;
 use explaining::print_explanation;
 use linting::print_lint;
 use pattern::{Pattern, pattern_text};
-use regex_lines::{Failure, Searched, Unread, flush, print, report, report_unread, search_all};
+use regex_lines::{
+    Failure, FileSearch, Found, Searched, Unread, UnreadPath, detached, find_files, flush, print,
+    report, report_paths, report_unread, search_all,
+};
 use regex_options::{
     Action, Arguments, Asked, COMMANDS, OPTIONS, Output, ParseError, Request, Search, Shown, Task,
     Topic, UsageError, View, allows_color, interpret, parse_arguments, topic_text,
@@ -302,8 +306,8 @@ struct PatternSearch<'p, 'a> {
     search: Search<'a>,
 }
 
-/// Searches for a pattern, and returns whether a line is selected, or the task changes lines. The messages of inputs that
-/// are not read are written to `err`.
+/// Searches for a pattern in the files that are found, and returns whether a line is selected, or the task changes lines.
+/// The messages of what is not read are written to `err`.
 ///
 /// # Errors
 /// Returns `Incomplete` if there are such inputs, unless nothing is shown, and a line is selected.
@@ -315,43 +319,64 @@ fn print_search<'a, R: Files + AllocGlobal, I: Read + Drop, W: Write, E: Write>(
     err: &mut E,
 ) -> Result<bool, Failure<'a>>
     ensures all { IfOk result (PrintsAll wanted.entry.pattern.dialect (setting_in wanted.entry.pattern.dialect wanted.entry.pattern.flags) wanted.entry.pattern.text.now (job wanted.entry.search.task)
-        wanted.entry.search.multiline (map string_bytes wanted.entry.search.files.now) (I.remaining input) (W.contents out.old) (W.contents out.new)) }
+        wanted.entry.search.multiline (file_list wanted.entry.search.files) (I.remaining input) (W.contents out.old) (W.contents out.new)) }
     ensures first { IfErr result (λ failure. OrOutput ((out.new ≡ out.old) ⊎ PrintsFirst wanted.entry.pattern.dialect (setting_in wanted.entry.pattern.dialect wanted.entry.pattern.flags) wanted.entry.pattern.text.now
-        (job wanted.entry.search.task) wanted.entry.search.multiline (map string_bytes wanted.entry.search.files.now) (I.remaining input) (W.contents out.old) (W.contents out.new) failure) failure) }
+        (job wanted.entry.search.task) wanted.entry.search.multiline (file_list wanted.entry.search.files) (I.remaining input) (W.contents out.old) (W.contents out.new) failure) failure) }
     ensures due { IfErr result (IsDue wanted.entry.pattern.dialect (setting_in wanted.entry.pattern.dialect wanted.entry.pattern.flags) wanted.entry.pattern.text.now) }
     ensures quiet { result ≡ Ok true → is_silent (job wanted.entry.search.task) ≡ false → err.new ≡ err.old }
     ensures quiet_none { result ≡ Ok false → err.new ≡ err.old }
 {
     let regex = compiled(rt.alloc(), wanted.pattern)?;
-    let Searched { result, unread } = search_all(rt, &regex, wanted.search, input, out);
+    let walked = find_files(rt, wanted.search.files)?;
+    let search = search_in(wanted.search, &walked);
+    let Searched { result, unread } = search_all(rt, &regex, search, input, out);
     let flushed = flush(out);
+    report_paths(&walked.unread, err);
     report_unread(&unread, err);
     flushed?;
-    let any = result?;
-    found(wanted.search.task, any, &unread)
+    match result {
+        Ok(any) => found(wanted.search.task, any, are_read(&walked.unread, &unread)),
+        Err(failure) => Err(detached(failure)),
+    }
+}
+
+/// Returns the search in the files that are found.
+fn search_in<'w, 'a: 'w>(search: Search<'a>, walked: &'w Found) -> FileSearch<'w>
+    ensures task { result.task ≡ search.entry.task }
+    ensures multiline { result.multiline ≡ search.entry.multiline }
+    ensures files { map string_bytes result.files.now ≡ (found_of walked.now).files }
+    ensures several { result.several ≡ (found_of walked.now).several }
+{
+    FileSearch {
+        task: search.task,
+        multiline: search.multiline,
+        at_once: search.at_once,
+        files: &walked.files,
+        several: walked.several,
+    }
+}
+
+/// Returns whether nothing is left unread.
+fn are_read(lost: &[UnreadPath], unread: &[Unread<'_>]) -> bool
+    ensures { result ≡ are_read (map unread_path lost.now) (map unread_of unread.now) }
+{
+    lost.is_empty() && unread.is_empty()
 }
 
 /// Returns whether a line is selected, or the task changes lines.
 ///
 /// # Errors
-/// Returns `Incomplete` if these inputs may not be left unread.
-fn found<'f>(task: Task<'_>, any: bool, unread: &[Unread<'_>]) -> Result<bool, Failure<'f>>
-    ensures complete { is_complete (job task.entry) any (map unread_of unread.now) ≡ is_ok result }
+/// Returns `Incomplete` if inputs are left unread that may not be.
+fn found<'f>(task: Task<'_>, any: bool, all_read: bool) -> Result<bool, Failure<'f>>
+    ensures complete { is_complete (job task.entry) any all_read ≡ is_ok result }
     ensures found { IfOk result (λ found. found ≡ any || changes (job task.entry)) }
     ensures failed { IfErr result (λ failure. failure ≡ Incomplete) }
 {
-    if is_complete(task, any, unread) {
+    if all_read || (any && is_silent(task)) {
         Ok(any || changes(task))
     } else {
         Err(Failure::Incomplete)
     }
-}
-
-/// Returns whether these inputs may be left unread: there are none, or nothing is shown, and a line is selected.
-fn is_complete(task: Task<'_>, any: bool, unread: &[Unread<'_>]) -> bool
-    ensures { result ≡ is_complete (job task.entry) any (map unread_of unread.now) }
-{
-    unread.is_empty() || (any && is_silent(task))
 }
 
 fn is_silent(task: Task<'_>) -> bool

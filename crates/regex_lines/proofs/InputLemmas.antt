@@ -1,5 +1,5 @@
 -- Inputs are searched one after another.
-use Rattle.std.proofs.Common.{◌≡◌, ◌∙◌, ◌⊎◌, inl, inr, ℕ, suc, ◌+◌, ◌<◌, ◌≤◌, Bool, true, false, ◌||◌, List, [], ◌∷◌, ◌++◌, Option, Some, None, length, map, take, drop, get_or, eqb, eq-eqb, refl, sym, ap, subst, arith, append-nil, drop-cons, take-append-drop}
+use Rattle.std.proofs.Common.{◌≡◌, ◌∙◌, ◌⊎◌, inl, inr, ℕ, suc, ◌+◌, ◌<◌, ◌≤◌, Bool, true, false, ◌||◌, List, [], ◌∷◌, ◌++◌, Option, Some, None, length, map, take, drop, get_or, refl, sym, ap, subst, arith, append-nil, drop-cons, take-append-drop}
 use Rattle.std.specs.Prelude.{String, string_bytes}
 use Rattle.std.specs.Io.KnownBytes.{Appends}
 use Rattle.std.specs.List.{FoldsTo}
@@ -10,7 +10,7 @@ use Rattle.std.proofs.lemmas.List.{drop-drop, get_or-drop, get_or-map, length-dr
 use Rattle.regress_arguments.proofs.lemmas.Output.{appends_both}
 use Rattle.regex_lines.proofs.FoldLemmas.{stays}
 use Rattle.regress.specs.declared.pattern.Regex.{Regex}
-use Rattle.regex_lines.specs.Searched.{AddsInput, Input, IsInputStep, IsSearchedInput, IsUnreadInput, Result, WritesInputs, WritesSomeOf, bytes_of, following, has_ended, inputs_of, left_after, named_inputs, nothing, place_of, Named, SearchesFirst}
+use Rattle.regex_lines.specs.Searched.{AddsInput, Input, IsInputStep, IsSearchedInput, IsUnreadInput, Result, WritesInputs, WritesSomeOf, bytes_of, following, has_ended, left_after, named_inputs, nothing, Named, SearchesFirst}
 use Rattle.regex_lines.specs.Unread.{Unread}
 use Rattle.regex_options.specs.Plain.{Job}
 
@@ -108,10 +108,6 @@ module _ (r : Regex) (job : Job) (inputs : List Input) (before : Option (List �
         appends_both before between after sofar.bytes first.0.written sofar.written first.2,
       )
 
-  -- All inputs are passed over.
-  pub all_passed : (unread : List Unread) → unread ≡ [] → has_ended job false ≡ true → WritesInputs r job inputs before before unread false
-  all_passed unread none is = subst (λ unread. WritesInputs r job inputs before before unread false) (sym none) (ended 0 false [] before none_yet is)
-
 module _ (place : (file : List ℕ) → Named) (files : List (String Global)) (inputs : List Input) where
   abbrev names : List (List ℕ)
   names = map string_bytes files
@@ -164,29 +160,3 @@ module _ (r : Regex) (job : Job) (place : (file : List ℕ) → Named) (files : 
 
   pub at_first : (unread : List Unread) → unread ≡ [] → SoFar 0 false unread input before
   at_first unread none = subst (λ unread. SoFar 0 false unread input before) (sym none) (record { first = none_yet r job inputs before; rest = record { are = refl } })
-
-module _ (job : Job) (multiline : Bool) (input : Option (List ℕ)) where
-  pub no_files : (files : List (String Global)) → length files ≡ 0 → inputs_of job multiline (map string_bytes files) input ≡ inputs_of job multiline [] input
-  no_files [] none = refl
-  no_files (file ∷ files) none = absurd (omega (arith, none))
-
-  pub some_files : (files : List (String Global)) → eqb (length files) 0 ≡ false →
-      inputs_of job multiline (map string_bytes files) input ≡ named_inputs (place_of job multiline (length files)) (map string_bytes files) input
-  some_files [] some = let bad : ⊥ = cc (eq-eqb 0 0 refl, some) in absurd bad
-  some_files (file ∷ files) some =
-      ap (λ n. named_inputs (place_of job multiline n) (map string_bytes (file ∷ files)) input) (length-map (file ∷ files) string_bytes)
-
-module _ (r : Regex) (job : Job) (place : Named) (input before after : Option (List ℕ)) where
-  abbrev alone : List Input
-  alone = (place, input) ∷ []
-
-  -- one input, searched to its end or not
-  pub one_all : has_ended job false ≡ false → (is : Bool) (unread : List Unread) → AddsInput r job (following false place) input before after [] unread is →
-      WritesInputs r job alone before after unread is
-  one_all goes_on is unread adds =
-      finished r job alone before 1 is unread after
-      (one_more r job alone before 0 false [] before (none_yet r job alone before) (place, input) (omega arith) refl after goes_on is unread adds) (omega arith)
-
-  -- the first lines of one input
-  pub one_first : SearchesFirst r job (following false place) input before after → WritesSomeOf r job alone before after []
-  one_first = some_of r job alone before 0 false [] before (none_yet r job alone before) (place, input) (omega arith) refl after

@@ -11,5 +11,6 @@ mod SearchLemmas
 mod SearcherLemmas
 mod SkipLemmas
 mod SomewhereLemmas
+mod WalkLemmas
 mod WindowLemmas
 pub mod lemmas

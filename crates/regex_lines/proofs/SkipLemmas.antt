@@ -1,15 +1,13 @@
 -- An input that cannot be read is added to those that are not read, and any other failure is passed on.
-use Rattle.std.proofs.Common.{◌≡◌, ◌∙◌, inl, inr, Bool, false, List, [], ◌∷◌, Option, ℕ, sym, subst}
+use Rattle.std.proofs.Common.{◌≡◌, inl, inr, Bool, List, Option, ℕ, sym, subst}
 use Rattle.std.specs.Prelude.{Result, Ok, Err, IfOk, IfErr}
 use Rattle.regex_lines.specs.Ending.{IsInputFailure, IsSearchFailure, OrOutput}
-use Rattle.regex_lines.specs.Searched.{AddsInput, Named, SearchesFirst, WritesInputs, WritesSomeOf, following, has_ended}
+use Rattle.regex_lines.specs.Searched.{AddsInput, Named, SearchesFirst}
 use Rattle.regex_lines.specs.Unread.{IsSkipped, Unread}
 use Rattle.regex_lines.specs.declared.failure.Failure.{Failure}
 use Rattle.regex_lines.specs.declared.failure.Failure.TheVariants.{Argument, Memory, Output, Closed, Syntax, TooLarge, OutOfSteps, Unreadable, Incomplete, PatternNotUtf8, TooLong}
 use Rattle.regex_options.specs.Plain.{Job}
 use Rattle.regress.specs.declared.pattern.Regex.{Regex}
-use Rattle.regex_lines.proofs.InputLemmas.{one_all, one_first}
-use Rattle.regex_lines.proofs.lemmas.Failures.{or_output}
 
 module _ (costly : Type 0) (r : Regex) (job : Job) (place : Named) (input before after : Option (List ℕ)) (old new : List Unread) where
   abbrev Begun : Type 0
@@ -43,20 +41,3 @@ module _ (costly : Type 0) (r : Regex) (job : Job) (place : Named) (input before
   skipped Incomplete result begun may is = passed Incomplete result begun may is
   skipped (PatternNotUtf8 name offset) result begun may is = passed (PatternNotUtf8 name offset) result begun may is
   skipped (TooLong name) result begun may is = passed (TooLong name) result begun may is
-
--- one input, which is searched to its end or not
-pub one_result : (r : Regex) (job : Job) (place : Named) (input before after : Option (List ℕ)) (result : Result Bool Failure) (old new : List Unread) →
-    has_ended job false ≡ false → old ≡ [] → IfOk result (AddsInput r job (following false place) input before after old new) →
-    IfOk result (WritesInputs r job ((place, input) ∷ []) before after new)
-one_result r job place input before after (Ok is) old new goes_on none adds =
-    one_all r job place input before after goes_on is new (subst (λ unread. AddsInput r job (following false place) input before after unread new is) none adds)
-one_result r job place input before after (Err failure) old new goes_on none adds = tt
-
--- one input that is searched up to a failure
-pub one_failure : (r : Regex) (job : Job) (place : Named) (input before after : Option (List ℕ)) (result : Result Bool Failure) (old new : List Unread) →
-    old ≡ [] → IfErr result (OrOutput (SearchesFirst r job (following false place) input before after)) → IfErr result (λ _. new ≡ old) →
-    IfErr result (OrOutput (WritesSomeOf r job ((place, input) ∷ []) before after new))
-one_failure r job place input before after (Ok is) old new none begun kept = tt
-one_failure r job place input before after (Err failure) old new none begun kept =
-    or_output (SearchesFirst r job (following false place) input before after) _ failure begun
-    (λ first. subst (WritesSomeOf r job ((place, input) ∷ []) before after) (sym (kept ∙ none)) (one_first r job place input before after first))

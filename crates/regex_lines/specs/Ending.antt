@@ -11,7 +11,6 @@ use Rattle.regress.specs.declared.limits.Options.{Options}
 use Rattle.regress.specs.declared.pattern.Regex.{Regex}
 use Rattle.regress_front.specs.Dialects.{flags_in_force}
 use Rattle.regress_front.specs.declared.parse.Dialect.{Dialect}
-use Rattle.regress_front.specs.declared.parse.Dialect.TheVariants.{Regress}
 use Rattle.regress_front.specs.declared.types.Flags.{Flags}
 use Rattle.regress_parse.specs.declared.fault.PlacedFault.{PlacedFault}
 use Rattle.regress_parse.specs.declared.fault.PlacedFault.TheVariants as placed
@@ -57,14 +56,6 @@ module _ (dialect : Dialect) where
   -- The regular expression of the pattern is costly.
   abbrev pub IsCostlyPatternIn : Setting → (text : List ℕ) → Type 0
   IsCostlyPatternIn setting text = (r : Regex) × IsOwnIn setting text r × IsCostly r
-
--- ---- the same in the default dialect
-
-abbrev pub IsOwn : Setting → (text : List ℕ) → Regex → Type 0
-IsOwn = IsOwnIn Regress
-
-abbrev pub IsCostlyPattern : Setting → (text : List ℕ) → Type 0
-IsCostlyPattern = IsCostlyPatternIn Regress
 
 -- why a search fails, as a failure of the program
 abbrev pub search_failure : SearchError → Failure

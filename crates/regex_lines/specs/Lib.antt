@@ -7,4 +7,5 @@ pub mod Reading
 pub mod Reply
 pub mod Searched
 pub mod Unread
+pub mod Walk
 pub mod Window

@@ -287,32 +287,27 @@ module _ (place : (file : List ℕ) → Named) where
   named_inputs [] left = []
   named_inputs (file ∷ files) left = (place file, bytes_of file left) ∷ named_inputs files (left_after file left)
 
--- the names of files, or that of standard input if there are none
-abbrev pub or_standard : List (List ℕ) → List (List ℕ)
-or_standard [] = codes "-" ∷ []
-or_standard (file ∷ files) = file ∷ files
-
--- whether names are in front of the lines of this many files
-abbrev pub are_in_front : FileNames → (files : ℕ) → Bool
-are_in_front IfSeveral files = nat_lt 1 files
-are_in_front Always files = true
-are_in_front Never files = false
+-- whether names are in front of lines: `several` states whether they are by default
+abbrev pub are_in_front : FileNames → (several : Bool) → Bool
+are_in_front IfSeveral several = several
+are_in_front Always several = true
+are_in_front Never several = false
 
 -- the same, where only lines that match have something in front
-abbrev pub shows_names : Job → (files : ℕ) → Bool
-shows_names (matching s) files = are_in_front s.file_names files
-shows_names (replacing template) files = false
+abbrev pub shows_names : Job → (several : Bool) → Bool
+shows_names (matching s) several = are_in_front s.file_names several
+shows_names (replacing template) several = false
 
 -- whether zero bytes are after names
 abbrev pub has_nulls : Job → Bool
 has_nulls (matching s) = s.null
 has_nulls (replacing template) = false
 
--- how an input is shown among this many files
-abbrev pub place_of : Job → (multiline : Bool) → (files : ℕ) → (file : List ℕ) → Named
-place_of job multiline files file = record {
+-- how an input is shown
+abbrev pub place_of : Job → (multiline several : Bool) → (file : List ℕ) → Named
+place_of job multiline several file = record {
   name = input_name file;
-  in_front = shows_names job files;
+  in_front = shows_names job several;
   null = has_nulls job;
   multiline = multiline;
   follows = false;
@@ -322,9 +317,9 @@ place_of job multiline files file = record {
 abbrev pub following : (any : Bool) → Named → Named
 following any place = record place { follows = any }
 
--- the files, or standard input if there are none
-abbrev pub inputs_of : Job → (multiline : Bool) → (files : List (List ℕ)) → (input : Option (List ℕ)) → List Input
-inputs_of job multiline files input = named_inputs (place_of job multiline (length files)) (or_standard files) input
+-- the files, as they are shown
+abbrev pub inputs_of : Job → (multiline several : Bool) → (files : List (List ℕ)) → (input : Option (List ℕ)) → List Input
+inputs_of job multiline several files input = named_inputs (place_of job multiline several) files input
 
 -- whether a line was selected, which inputs were not read, and what was written
 pub record Result : Type 0 where

@@ -1,10 +1,11 @@
 -- Inputs that are not read.
-use Rattle.std.specs.Prelude.{◌≡◌, ℕ, Bool, false, List, [], ◌∷◌, ◌++◌, map, MatchResult, Result, Err, Vec}
+use Rattle.std.specs.Prelude.{◌≡◌, ℕ, Bool, false, List, [], ◌∷◌, ◌++◌, map, MatchResult, Result, Err, Vec, string_bytes}
 use Rattle.std.specs.declared.alloc.Global.{Global}
 use Rattle.regex_lines.specs.declared.failure.Failure.{Failure}
 use Rattle.regex_lines.specs.declared.failure.Failure.TheVariants.{Memory, Unreadable}
 use Rattle.regex_lines.specs.declared.unread.Reason.{Reason}
 use Rattle.regex_lines.specs.declared.unread.Unread as code
+use Rattle.regex_lines.specs.declared.unread.UnreadPath as code_path
 
 -- an input that is not read to its end: its name, and why
 pub record Unread : Type 0 where
@@ -14,6 +15,10 @@ pub record Unread : Type 0 where
 -- the input as the code represents it
 abbrev pub unread_of : code.Unread → Unread
 unread_of unread = record { name = unread.name.now; reason = unread.reason }
+
+-- the same of a path below a directory
+abbrev pub unread_path : code_path.UnreadPath → Unread
+unread_path path = record { name = string_bytes path.name; reason = path.reason }
 
 -- these inputs as the code represents them
 abbrev pub all_unread : Vec code.Unread Global → List Unread

@@ -1,9 +1,9 @@
 //! Failures of a run.
-ghost use Rattle.std.specs.Prelude.{◌≡◌, []};
-ghost use Rattle.regex_lines.specs.Ending.{IsLate, IsOutputFailure, IsInputFailure, MayFailToRead, unaccepted};
+ghost use Rattle.std.specs.Prelude.{◌≡◌, ⊤, []};
+ghost use Rattle.regex_lines.specs.Ending.{IsLate, IsOutputFailure, IsInputFailure, IsSearchFailure, MayFailToRead, unaccepted};
 ghost use Rattle.regex_lines.specs.declared.failure.Failure.TheVariants.{Output};
 
-use crate::unread::{Unread, reason_of, text_of};
+use crate::unread::{Unread, UnreadPath, reason_of, text_of};
 use regress::{Error, SearchError};
 use regress_arguments::{write_visible, write_with_caret};
 use regress_parse::PlacedFault;
@@ -43,7 +43,7 @@ pub enum Failure<'a> {
         offset: usize,
     },
     /// The input with this name has 2^64 lines.
-    TooLong(&'a str),
+    TooLong(String),
 }
 
 impl<'a> From<AllocError> for Failure<'a> {
@@ -111,7 +111,7 @@ fn write_message<E: Write>(failure: Failure<'_>, err: &mut E) -> io::Result<()> 
             writeln!(err, "the pattern is not UTF-8, at byte offset {offset}")
         }
         Failure::TooLong(name) => {
-            write_name(name, err)?;
+            write_name(&name, err)?;
             writeln!(err, "too many lines")
         }
     }
@@ -126,6 +126,15 @@ pub fn report_unread<E: Write>(unread: &[Unread<'_>], err: &mut E)
     }
 }
 
+/// Writes the messages of paths that are not read, in order. An error of such a write is ignored.
+pub fn report_paths<E: Write>(unread: &[UnreadPath], err: &mut E)
+    ensures quiet { unread.now ≡ [] → err.new ≡ err.old }
+{
+    for path in unread {
+        let _ = write_unread(path.unread(), err);
+    }
+}
+
 /// Writes the message of an input that is not read.
 fn write_unread<E: Write>(unread: Unread<'_>, err: &mut E) -> io::Result<()> {
     write_name(unread.name, err)?;
@@ -137,6 +146,29 @@ fn write_name<E: Write>(name: &str, err: &mut E) -> io::Result<()> {
     err.write_all(b"regex: ")?;
     write_visible(name, err)?;
     err.write_all(b": ")
+}
+
+/// Returns the same failure of a search, which names no input that it borrows.
+///
+/// # Preconditions
+/// It is one that ends the search of all inputs.
+pub fn detached<'a>(failure: Failure<'_>) -> Failure<'a>
+    requires { IsSearchFailure ⊤ failure }
+    ensures { result ≡ failure.entry }
+{
+    match failure {
+        Failure::Memory => Failure::Memory,
+        Failure::Output => Failure::Output,
+        Failure::Closed => Failure::Closed,
+        Failure::OutOfSteps => Failure::OutOfSteps,
+        Failure::TooLong(name) => Failure::TooLong(name),
+        Failure::Argument
+        | Failure::Syntax { .. }
+        | Failure::TooLarge
+        | Failure::Unreadable(_)
+        | Failure::Incomplete
+        | Failure::PatternNotUtf8 { .. } => unreachable!(),
+    }
 }
 
 /// Writes to `err` why a pattern is rejected, and returns that it is not accepted. An error of that write is ignored.

@@ -1,17 +1,17 @@
 //! The files that are searched, or standard input.
-ghost use Rattle.std.specs.Prelude.{◌≡◌, [], IfOk, IfErr, None, length, map, string_bytes};
+ghost use Rattle.std.specs.Prelude.{◌≡◌, [], IfOk, IfErr, None, map, string_bytes};
 ghost use Rattle.regex_lines.specs.Ending.{IsCostly, IsInputFailure, IsSearchFailure, OrOutput};
 ghost use Rattle.regex_lines.specs.Left.{left_of};
-ghost use Rattle.regex_lines.specs.Searched.{AddsInput, WritesInput, WritesInputs, WritesSomeOf, bytes_of, following, has_nulls, has_ended, inputs_of, left_after, named_inputs, named, place_of, shows_names, SearchesFirst};
+ghost use Rattle.regex_lines.specs.Searched.{AddsInput, WritesInput, WritesInputs, WritesSomeOf, bytes_of, following, has_nulls, has_ended, inputs_of, left_after, named, place_of, shows_names, SearchesFirst};
 ghost use Rattle.regex_lines.specs.Unread.{IsSkipped, all_unread};
 ghost use Rattle.regex_options.specs.Plain.{job};
 
 use crate::failure::{Failure, read_failure};
-use crate::place::{Place, STANDARD_INPUT, is_standard};
+use crate::place::{Place, is_standard};
 use crate::searcher::Searcher;
 use crate::searching::{InputSearch, reaches, search_lines, write_end};
 use crate::unread::Unread;
-use regex_options::{FileNames, Search, Shown, Task};
+use regex_options::{FileNames, Shown, Task};
 use regress::Regex;
 use std::fs::{File, Files};
 use std::io::{self, BufRead, BufReader, Read, Write};
@@ -25,9 +25,24 @@ pub struct Searched<'a> {
     pub unread: Vec<Unread<'a>>,
 }
 
-/// Searches with a regular expression in files, in order until the search ends, or in `input` if there are none. The name `-`
-/// denotes `input` among them, which is empty after its first search. Returns whether a line is selected, and the inputs that
-/// cannot be read: after one of them the search goes on with the next.
+/// A task for the lines of files.
+#[derive(Clone, Copy)]
+pub struct FileSearch<'a> {
+    /// What is done with each line.
+    pub task: Task<'a>,
+    /// Whether a text is searched as one, and not line by line.
+    pub multiline: bool,
+    /// Whether each line is written at once, and not with those after it.
+    pub at_once: bool,
+    /// The names of the files.
+    pub files: &'a [String],
+    /// Whether names are in front of lines by default.
+    pub several: bool,
+}
+
+/// Searches with a regular expression in files, in order until the search ends. The name `-` denotes `input` among them,
+/// which is empty after its first search. Returns whether a line is selected, and the inputs that cannot be read: after one
+/// of them the search goes on with the next.
 ///
 /// # Errors
 /// The result is a failure of the output, of a search or of memory, or that an input is too long. What was written for the
@@ -35,68 +50,36 @@ pub struct Searched<'a> {
 pub fn search_all<'a, R: Files + AllocGlobal, I: Read + Drop, W: Write>(
     rt: &R,
     regex: &Regex,
-    search: Search<'a>,
+    search: FileSearch<'a>,
     input: I,
     out: &mut W,
 ) -> Searched<'a>
     ensures all { IfOk result.result (WritesInputs regex.now (job search.entry.task)
-        (inputs_of (job search.entry.task) search.entry.multiline (map string_bytes search.entry.files.now) (I.remaining input)) (W.contents out.old) (W.contents out.new) (all_unread result.unread)) }
+        (inputs_of (job search.entry.task) search.entry.multiline search.entry.several (map string_bytes search.entry.files.now) (I.remaining input)) (W.contents out.old) (W.contents out.new) (all_unread result.unread)) }
     ensures first { IfErr result.result (OrOutput (WritesSomeOf regex.now (job search.entry.task)
-        (inputs_of (job search.entry.task) search.entry.multiline (map string_bytes search.entry.files.now) (I.remaining input)) (W.contents out.old) (W.contents out.new) (all_unread result.unread))) }
+        (inputs_of (job search.entry.task) search.entry.multiline search.entry.several (map string_bytes search.entry.files.now) (I.remaining input)) (W.contents out.old) (W.contents out.new) (all_unread result.unread))) }
     ensures failed { IfErr result.result (IsSearchFailure (IsCostly regex.now)) }
 {
     let searcher = Searcher::new(rt.alloc(), regex);
     let mut unread = Vec::new(rt.alloc());
-    if search.files.is_empty() {
-        let result = search_standard_input(&searcher, search, input, out, &mut unread);
-        return Searched { result, unread };
-    }
     let result = search_files(rt, &searcher, search, input, out, &mut unread);
     Searched { result, unread }
-}
-
-/// Searches standard input alone.
-fn search_standard_input<'a, I: Read + Drop, W: Write>(
-    searcher: &Searcher<'_>,
-    search: Search<'a>,
-    input: I,
-    out: &mut W,
-    unread: &mut Vec<Unread<'a>>,
-) -> Result<bool, Failure<'a>>
-    requires alone { length search.files.now ≡ 0 }
-    requires none { unread.old.items ≡ [] }
-    ensures all { IfOk result (WritesInputs searcher.now.regex.now (job search.entry.task)
-        (inputs_of (job search.entry.task) search.entry.multiline [] (I.remaining input)) (W.contents out.old) (W.contents out.new) (all_unread unread.new)) }
-    ensures first { IfErr result (OrOutput (WritesSomeOf searcher.now.regex.now (job search.entry.task)
-        (inputs_of (job search.entry.task) search.entry.multiline [] (I.remaining input)) (W.contents out.old) (W.contents out.new) (all_unread unread.new))) }
-    ensures failed { IfErr result (IsSearchFailure (IsCostly searcher.now.regex.now)) }
-{
-    if has_ended(search.task, false) {
-        return Ok(false);
-    }
-    let search = InputSearch {
-        searcher,
-        task: search.task,
-        place: place_of(search, STANDARD_INPUT, false),
-        at_once: search.at_once,
-    };
-    search_input(search, input, out, unread)
 }
 
 /// Searches files in order, and standard input where its name is among them.
 fn search_files<'a, R: Files, I: Read + Drop, W: Write>(
     rt: &R,
     searcher: &Searcher<'_>,
-    search: Search<'a>,
+    search: FileSearch<'a>,
     input: I,
     out: &mut W,
     unread: &mut Vec<Unread<'a>>,
 ) -> Result<bool, Failure<'a>>
     requires none { unread.old.items ≡ [] }
     ensures all { IfOk result (WritesInputs searcher.now.regex.now (job search.entry.task)
-        (named_inputs (place_of (job search.entry.task) search.entry.multiline (length search.entry.files.now)) (map string_bytes search.entry.files.now) (I.remaining input)) (W.contents out.old) (W.contents out.new) (all_unread unread.new)) }
+        (inputs_of (job search.entry.task) search.entry.multiline search.entry.several (map string_bytes search.entry.files.now) (I.remaining input)) (W.contents out.old) (W.contents out.new) (all_unread unread.new)) }
     ensures first { IfErr result (OrOutput (WritesSomeOf searcher.now.regex.now (job search.entry.task)
-        (named_inputs (place_of (job search.entry.task) search.entry.multiline (length search.entry.files.now)) (map string_bytes search.entry.files.now) (I.remaining input)) (W.contents out.old) (W.contents out.new) (all_unread unread.new))) }
+        (inputs_of (job search.entry.task) search.entry.multiline search.entry.several (map string_bytes search.entry.files.now) (I.remaining input)) (W.contents out.old) (W.contents out.new) (all_unread unread.new))) }
     ensures failed { IfErr result (IsSearchFailure (IsCostly searcher.now.regex.now)) }
 {
     let mut left = Some(input);
@@ -117,13 +100,13 @@ fn search_files<'a, R: Files, I: Read + Drop, W: Write>(
 }
 
 /// Returns how an input is shown after others, of which a line may be selected.
-fn place_of<'a>(search: Search<'a>, file: &'a str, any: bool) -> Place<'a>
-    ensures shown { named result ≡ following any (place_of (job search.entry.task) search.entry.multiline (length search.entry.files.now) file.now) }
+fn place_of<'a>(search: FileSearch<'a>, file: &'a str, any: bool) -> Place<'a>
+    ensures shown { named result ≡ following any (place_of (job search.entry.task) search.entry.multiline search.entry.several file.now) }
     ensures file { result.file.now ≡ file.now }
 {
     Place {
         file,
-        in_front: shows_names(search.task, search.files.len()),
+        in_front: shows_names(search.task, search.several),
         null: has_nulls(search.task),
         multiline: search.multiline,
         follows: any,
@@ -140,13 +123,13 @@ fn has_nulls(task: Task<'_>) -> bool
     }
 }
 
-/// Returns whether names are shown in front of the lines of this many files.
-fn shows_names(task: Task<'_>, files: usize) -> bool
-    ensures { result ≡ shows_names (job task.entry) files }
+/// Returns whether names are shown in front of lines: `several` states whether they are by default.
+fn shows_names(task: Task<'_>, several: bool) -> bool
+    ensures { result ≡ shows_names (job task.entry) several }
 {
     match task {
         Task::Match(selection) => match selection.file_names {
-            FileNames::IfSeveral => files > 1,
+            FileNames::IfSeveral => several,
             FileNames::Always => true,
             FileNames::Never => false,
         },

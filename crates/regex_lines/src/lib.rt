@@ -14,10 +14,15 @@ mod runs;
 mod searcher;
 mod searching;
 mod unread;
+mod walk;
 mod window;
 
-pub use failure::{Failure, read_failure, reject, report, report_unread, write_syntax_error};
-pub use inputs::{Searched, search_all};
+pub use failure::{
+    Failure, detached, read_failure, reject, report, report_paths, report_unread,
+    write_syntax_error,
+};
+pub use inputs::{FileSearch, Searched, search_all};
 pub use printing::{flush, print};
 pub use reading::remove_line_feed;
-pub use unread::{Reason, Unread};
+pub use unread::{Reason, Unread, UnreadPath};
+pub use walk::{Found, find_files};

@@ -31,6 +31,25 @@ pub(crate) struct InputSearch<'s, 'a> {
     pub(crate) at_once: bool,
 }
 
+impl<'s, 'a> InputSearch<'s, 'a> {
+    ghost use Rattle.std.specs.Prelude.{◌≡◌};
+
+    /// Returns what is in front of the line with this number, which may be near a selected one.
+    fn prefix(self, number: u64, near: bool) -> Prefix<'a>
+        ensures task { result.task ≡ self.entry.task }
+        ensures place { result.place ≡ self.entry.place }
+        ensures number { result.number ≡ number }
+        ensures near { result.near ≡ near }
+    {
+        Prefix {
+            task: self.task,
+            place: self.place,
+            number,
+            near,
+        }
+    }
+}
+
 /// Writes what a task shows of each line of an input until enough are selected, and returns how many are.
 pub(crate) fn search_lines<'a, B: BufRead, W: Write>(
     search: InputSearch<'_, 'a>,
@@ -56,7 +75,17 @@ pub(crate) fn search_lines<'a, B: BufRead, W: Write>(
             return Ok(window.selected);
         }
     }
-    Err(Failure::TooLong(search.place.name()))
+    Err(too_long(search))
+}
+
+/// Returns the failure of an input that has too many lines.
+fn too_long<'a>(search: InputSearch<'_, '_>) -> Failure<'a>
+    ensures failed { IsInputFailure (IsCostly search.entry.searcher.now.regex.now) result }
+{
+    match String::from_str(search.searcher.alloc, search.place.name()) {
+        Ok(name) => Failure::TooLong(name),
+        Err(_) => Failure::Memory,
+    }
 }
 
 /// Returns whether enough lines are selected, and those after the last of them are shown.
@@ -246,13 +275,7 @@ fn near_text<'a>(
     ensures near { IfOk result (λ bytes. IsNear search.entry.searcher.now.regex.now (job search.entry.task) (named search.entry.place) number line.now bytes.items) }
     ensures failed { IfErr result (IsInputFailure (IsCostly search.entry.searcher.now.regex.now)) }
 {
-    let prefix = Prefix {
-        task: search.task,
-        place: search.place,
-        number,
-        near: true,
-    };
-    Ok(near(search.searcher, prefix, line)?)
+    Ok(near(search.searcher, search.prefix(number, true), line)?)
 }
 
 /// Writes what is shown for a line that is not selected: nothing, or the line if it is one of those after a selected one.
@@ -318,13 +341,7 @@ fn reply<'a>(
         (prefix_of false (job search.entry.task) (named search.entry.place) number) reply.selected reply.bytes.items) }
     ensures failed { IfErr result (IsInputFailure (IsCostly search.entry.searcher.now.regex.now)) }
 {
-    let prefix = Prefix {
-        task: search.task,
-        place: search.place,
-        number,
-        near: false,
-    };
-    Ok(reply_to(search.searcher, prefix, line, ended)?)
+    Ok(reply_to(search.searcher, search.prefix(number, false), line, ended)?)
 }
 
 /// Writes what a task shows at the end of an input with this many selected lines.

@@ -11,6 +11,30 @@ pub struct Unread<'a> {
     pub reason: Reason,
 }
 
+/// A path that is not read: a directory, or a file in one.
+#[derive(Drop)]
+pub struct UnreadPath {
+    /// Its name. A byte of it that is not UTF-8 is U+FFFD.
+    pub name: String,
+    /// Why it is not read.
+    pub reason: Reason,
+}
+
+impl UnreadPath {
+    ghost use Rattle.std.specs.Prelude.{◌≡◌};
+    ghost use Rattle.regex_lines.specs.Unread.{unread_of, unread_path};
+
+    /// Returns the path as an input that is not read.
+    pub(crate) fn unread(&self) -> Unread<'_>
+        ensures { unread_of result ≡ unread_path self.now }
+    {
+        Unread {
+            name: &self.name,
+            reason: self.reason,
+        }
+    }
+}
+
 /// Why an input is not read.
 #[derive(Clone, Copy)]
 pub enum Reason {
@@ -20,6 +44,8 @@ pub enum Reason {
     Denied,
     /// It is a directory.
     Directory,
+    /// Its name is not UTF-8.
+    NotUtf8,
     /// Another error.
     Other,
 }
@@ -40,6 +66,7 @@ pub(crate) fn text_of(reason: Reason) -> &'static str {
         Reason::NotFound => "No such file or directory",
         Reason::Denied => "Permission denied",
         Reason::Directory => "Is a directory",
+        Reason::NotUtf8 => "the name is not UTF-8",
         Reason::Other => "can't be read",
     }
 }

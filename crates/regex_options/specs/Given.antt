@@ -1,31 +1,33 @@
 -- What the options specify.
-use Rattle.std.specs.Prelude.{ℕ, true, false, not, ◌||◌, ◌&&◌, ◌^◌, nat_lt, List, Option, Some, None, option_and_then, option_map, if◌then◌else◌, ◌==◌, bytes_eq, codes, length}
+use Rattle.std.specs.Prelude.{ℕ, Bool, true, false, not, ◌||◌, ◌&&◌, ◌^◌, nat_lt, List, Option, Some, None, option_and_then, option_map, if◌then◌else◌, ◌==◌, bytes_eq, codes, length}
 use Rattle.std.specs.Str.{all_ascii_digits}
 use Rattle.std.specs.Str.Parse.{digits_value}
 use Rattle.regress_arguments.specs.Letters.{no_flags, with_letters}
 use Rattle.regress_base.specs.declared.types.Flags.{Flags}
 use Rattle.regress_lexer.specs.declared.dialect.Dialect.{Dialect}
 use Rattle.regress_lexer.specs.declared.dialect.Dialect.TheVariants.{Regress, Ecma}
-use Rattle.regex_options.specs.Plain.{Source, in_argument, in_file, source}
+use Rattle.regex_options.specs.Plain.{NameGlob, Source, in_argument, in_file, name_glob, source}
 use Rattle.regex_options.specs.declared.given.Around.{Around}
 use Rattle.regex_options.specs.declared.given.Color.{Color}
 use Rattle.regex_options.specs.declared.given.Color.TheVariants.{Always, Never, Auto}
 use Rattle.regex_options.specs.declared.given.Given as code
 use Rattle.regex_options.specs.declared.given.Options.{Options}
 use Rattle.regex_options.specs.declared.table.Switch.{Switch}
-use Rattle.regex_options.specs.declared.table.Switch.TheVariants.{Help, Version, IgnoreCase, Fixed, WholeLines, WholeWords, Multiline, LineBuffered, Binary, Invert, FileNames, Null, Numbers, Shown, Json, Stage, Small, Html}
+use Rattle.regex_options.specs.declared.table.Switch.TheVariants.{Help, Version, IgnoreCase, Fixed, WholeLines, WholeWords, Multiline, Recursive, LineBuffered, Binary, Invert, FileNames, Null, Numbers, Shown, Json, Stage, Small, Html}
 use Rattle.regex_options.specs.declared.table.Value.{Value}
-use Rattle.regex_options.specs.declared.table.Value.TheVariants.{Pattern, File, Flags as FlagLetters, Dialect as DialectName, Count, Context, Color as When, Text}
+use Rattle.regex_options.specs.declared.table.Value.TheVariants.{Pattern, File, Flags as FlagLetters, Dialect as DialectName, Count, Context, Color as When, Text, Include, Exclude}
 use Rattle.regex_options.specs.declared.task.FileNames.TheVariants.{IfSeveral}
 use Rattle.regex_options.specs.declared.task.Shown.TheVariants.{Lines}
 use Rattle.regex_options.specs.declared.task.Side.{Side}
 use Rattle.regex_options.specs.declared.task.Side.TheVariants.{Before, After, Both}
 
--- the options, and the texts that they have: the pattern of the last option, and the text of a page
+-- the options, and the texts that they have: the pattern of the last option, the text of a page, and the glob of the last
+-- option
 pub record Given : Type 0 where
   pub options : Options
   pub pattern : Option Source
   pub text : Option (List ℕ)
+  pub glob : Option NameGlob
 
 abbrev pub no_options : Options
 no_options = record {
@@ -37,6 +39,7 @@ no_options = record {
   selection = record { invert = false; file_names = IfSeveral; null = false; numbers = false; shown = Lines; max_count = None; context = None; paints = false };
   around = record { before = None; after = None; both = None };
   multiline = false;
+  recursive = false;
   line_buffered = false;
   json = false;
   color = None;
@@ -46,7 +49,7 @@ no_options = record {
 }
 
 abbrev pub nothing_given : Given
-nothing_given = record { options = no_options; pattern = None; text = None }
+nothing_given = record { options = no_options; pattern = None; text = None; glob = None }
 
 -- what the options specify, as the code represents it
 abbrev pub given_by : code.Given → Given
@@ -54,6 +57,7 @@ given_by given = record {
   options = given.options;
   pattern = option_map source given.pattern;
   text = option_map (λ text. text.now) given.text;
+  glob = option_map name_glob given.glob;
 }
 
 -- the options with one more
@@ -65,6 +69,7 @@ switched Fixed o = record o { form = record o.form { fixed = true } }
 switched WholeLines o = record o { form = record o.form { lines = true } }
 switched WholeWords o = record o { form = record o.form { words = true } }
 switched Multiline o = record o { multiline = true }
+switched Recursive o = record o { recursive = true }
 switched LineBuffered o = record o { line_buffered = true }
 switched Binary o = o
 switched Invert o = record o { selection = record o.selection { invert = true } }
@@ -130,6 +135,10 @@ with_color when o = option_map (λ color. record o { color = Some color }) (colo
 abbrev pub with_pattern : Source → Given → Given
 with_pattern pattern given = record given { pattern = Some pattern }
 
+-- what is given with this glob
+abbrev pub with_glob : (text : List ℕ) → (includes : Bool) → Given → Given
+with_glob text includes given = record given { glob = Some (record { text = text; includes = includes }) }
+
 -- what is given with one more option, unless its argument is invalid
 abbrev pub valued : Value → (text : List ℕ) → Given → Option Given
 valued Pattern text given = Some (with_pattern (in_argument text) given)
@@ -140,3 +149,5 @@ valued Count text given = option_map (λ options. record given { options = optio
 valued (Context side) text given = option_map (λ options. record given { options = options }) (with_context side text given.options)
 valued When text given = option_map (λ options. record given { options = options }) (with_color text given.options)
 valued Text text given = Some (record given { text = Some text })
+valued Include text given = Some (with_glob text true given)
+valued Exclude text given = Some (with_glob text false given)

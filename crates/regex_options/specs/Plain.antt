@@ -1,9 +1,11 @@
 -- Plain data: what is done with each line, where the pattern is, and why arguments are invalid.
-use Rattle.std.specs.Prelude.{◌≡◌, ⊤, ℕ, List, [], ◌∷◌, map, Option, Some, None, Result, Ok, Err}
+use Rattle.std.specs.Prelude.{◌≡◌, ⊤, ℕ, Bool, List, [], ◌∷◌, map, Option, Some, None, Result, Ok, Err, string_bytes}
 use Rattle.regex_options.specs.declared.error.ParseError.{ParseError}
 use Rattle.regex_options.specs.declared.error.ParseError.TheVariants.{Usage, Memory}
 use Rattle.regex_options.specs.declared.error.UsageError as code
 use Rattle.regex_options.specs.declared.error.UsageError.TheVariants.{Missing, UnknownCommand, UnknownOption, Invalid, OnlyOfMatch, ExcludedByJson, TextWithoutPage, Unexpected}
+use Rattle.regex_options.specs.declared.files.FileList as code_list
+use Rattle.regex_options.specs.declared.files.NameGlob as code_glob
 use Rattle.regex_options.specs.declared.source.PatternSource.TheVariants.{Text, File}
 use Rattle.regex_options.specs.declared.source.PatternSource.{PatternSource}
 use Rattle.regex_options.specs.declared.source.Patterns.TheVariants.{Operand, Options}
@@ -36,6 +38,25 @@ source (File name) = in_file name.now
 abbrev pub sources : Patterns → List Source
 sources (Operand text) = in_argument text.now ∷ []
 sources (Options given) = map source given.now
+
+-- a glob for the names of files, and whether files that it matches are searched, or are not
+pub record NameGlob : Type 0 where
+  pub text : List ℕ
+  pub includes : Bool
+
+-- the glob as the code represents it
+abbrev pub name_glob : code_glob.NameGlob → NameGlob
+name_glob glob = record { text = glob.text.now; includes = glob.includes }
+
+-- the names of files, whether the files below directories are searched, and globs for the names of those that are
+pub record FileList : Type 0 where
+  pub names : List (List ℕ)
+  pub recursive : Bool
+  pub globs : List NameGlob
+
+-- the same as the code represents it
+abbrev pub file_list : code_list.FileList → FileList
+file_list files = record { names = map string_bytes files.names.now; recursive = files.recursive; globs = map name_glob files.globs.now }
 
 -- a missing argument, by its name; an argument that is wrong; or options that exclude or need others
 pub data UsageError : Type 0 where

@@ -5,7 +5,7 @@ use Rattle.std.specs.List.{after_first, before_first, position_or_len, starts_wi
 use Rattle.std.specs.declared.alloc.Global.{Global}
 use Rattle.regex_options.specs.Given.{Given, given_by, nothing_given, switched, valued}
 use Rattle.regex_options.specs.Table.{has, has_letter, has_long, is_of_match_only, is_valued}
-use Rattle.regex_options.specs.Plain.{Source, UsageError, first_error, invalid, missing, on_ok, only_of_match, or_error, source, unknown_option, usage_error}
+use Rattle.regex_options.specs.Plain.{NameGlob, Source, UsageError, first_error, invalid, missing, name_glob, on_ok, only_of_match, or_error, source, unknown_option, usage_error}
 use Rattle.regex_options.specs.declared.command.Command.{Command}
 use Rattle.regex_options.specs.declared.reading.Reading as code
 use Rattle.regex_options.specs.declared.reading.Words as code_words
@@ -27,35 +27,46 @@ pub record Reading : Type 0 where
 abbrev pub reading_of : code.Reading → Reading
 reading_of r = record { given = given_by r.given; denied = option_map usage_error r.denied; awaits = r.awaits }
 
--- What the arguments up to some point are: what the options specify, the patterns that options have, and the operands,
--- which are the arguments that are neither options nor belong to one.
+-- What the arguments up to some point are: what the options specify, the patterns and the globs that options have, and the
+-- operands, which are the arguments that are neither options nor belong to one.
 pub record Words : Type 0 where
   pub reading : Reading
   pub patterns : List Source
+  pub globs : List NameGlob
   pub operands : List (List ℕ)
 
 abbrev pub start : Words
-start = record { reading = record { given = nothing_given; denied = None; awaits = None }; patterns = []; operands = [] }
+start = record { reading = record { given = nothing_given; denied = None; awaits = None }; patterns = []; globs = []; operands = [] }
 
 -- the same, as the code represents it
 abbrev pub words_of : code_words.Words → Words
-words_of w = record { reading = reading_of w.reading; patterns = map source w.patterns.items; operands = map string_bytes w.operands.items }
+words_of w = record {
+  reading = reading_of w.reading;
+  patterns = map source w.patterns.items;
+  globs = map name_glob w.globs.items;
+  operands = map string_bytes w.operands.items;
+}
 
--- the pattern, if there is one
-abbrev pub listed : Option Source → List Source
+-- the item, if there is one
+abbrev pub listed : {X : Type 0} → Option X → List X
 listed None = []
-listed (Some pattern) = pattern ∷ []
+listed (Some x) = x ∷ []
 
--- the pattern of the last option is forgotten
-abbrev pub without_pattern : Reading → Reading
-without_pattern r = record r { given = record r.given { pattern = None } }
+-- the pattern and the glob of the last option are forgotten
+abbrev pub without_lists : Reading → Reading
+without_lists r = record r { given = record r.given { pattern = None; glob = None } }
 
 abbrev pub with_operands : List (List ℕ) → Words → Words
 with_operands operands w = record w { operands = w.operands ++ operands }
 
--- the words with this reading, and the pattern of its last option
+-- the words with this reading, and the pattern or glob of its last option
 abbrev pub with_reading : Words → Reading → Words
-with_reading w r = record { reading = without_pattern r; patterns = w.patterns ++ listed r.given.pattern; operands = w.operands }
+with_reading w r = record {
+  reading = without_lists r;
+  patterns = w.patterns ++ listed r.given.pattern;
+  globs = w.globs ++ listed r.given.glob;
+  operands = w.operands;
+}
 
 -- the error of an option of this argument that the command lacks
 abbrev pub lacked : Scope → (word : List ℕ) → UsageError

@@ -10,7 +10,7 @@ use Rattle.regress_display.specs.declared.request.Stage.TheVariants as stages
 use Rattle.regress_lexer.specs.declared.dialect.Dialect.{Dialect}
 use Rattle.regex_options.specs.Table.{command_help, is_named, program_help, topic_text}
 use Rattle.regex_options.specs.Given.{Given}
-use Rattle.regex_options.specs.Plain.{Job, job, matching, replacing, Source, in_argument, sources, UsageError, excluded_by_json, missing, on_ok, or_error, text_without_page, unexpected, unknown_command, unknown_option, unless_error}
+use Rattle.regex_options.specs.Plain.{FileList, Job, file_list, job, matching, replacing, Source, in_argument, sources, UsageError, excluded_by_json, missing, on_ok, or_error, text_without_page, unexpected, unknown_command, unknown_option, unless_error}
 use Rattle.regex_options.specs.Reading.{Words, options_of, start, words_of}
 use Rattle.regex_options.specs.declared.command.Command.{Command}
 use Rattle.regex_options.specs.declared.command.Command.TheVariants as commands
@@ -54,7 +54,7 @@ asked_form (Page text) = page (option_map (λ text. text.now) text)
 -- What to do with a pattern: a job for the lines of files, or of standard input if there are none; a tree to show, a report
 -- on what may match otherwise than in ECMA-262, or an explanation. With `multiline` a text is one line.
 pub data Action : Type 0 where
-  search : Job → (multiline : Bool) → (files : List (List ℕ)) → Action
+  search : Job → (multiline : Bool) → FileList → Action
   show : View → Action
   lint : Action
   explain : Form → Action
@@ -85,7 +85,7 @@ parsed_as (Line l) = line l.entry (words_of l.words)
 
 -- what to do with a pattern, as the code represents it
 abbrev pub action : code_action.Action → Action
-action (Search s) = search (job s.task) s.multiline (map string_bytes s.files.now)
+action (Search s) = search (job s.task) s.multiline (file_list s.files)
 action (Show view) = show view
 action Lint = lint
 action (Explain form) = explain (asked_form form)
@@ -159,10 +159,17 @@ selection_of terminal options =
 abbrev pub form_of : Given → Form
 form_of given = if given.options.html then page given.text else lines
 
+-- the files with these names, and which ones are searched
+abbrev pub files_of : Words → (names : List (List ℕ)) → FileList
+files_of w names = record { names = names; recursive = w.reading.given.options.recursive; globs = w.globs }
+
 -- The files are searched. For `replace` the template is in front of them.
-abbrev pub replace_of : (multiline : Bool) → List (List ℕ) → Result Action UsageError
-replace_of multiline [] = Err (missing (codes "TEMPLATE"))
-replace_of multiline (template ∷ files) = Ok (search (replacing template) multiline files)
+abbrev pub replaced_in : (multiline : Bool) → FileList → (names : List (List ℕ)) → Result Action UsageError
+replaced_in multiline rest [] = Err (missing (codes "TEMPLATE"))
+replaced_in multiline rest (template ∷ names) = Ok (search (replacing template) multiline (record rest { names = names }))
+
+abbrev pub replace_of : (multiline : Bool) → (rest : FileList) → Result Action UsageError
+replace_of multiline rest = replaced_in multiline rest rest.names
 
 -- no argument is left
 abbrev pub no_more : List (List ℕ) → Result ⊤ UsageError
@@ -173,15 +180,16 @@ no_more (more ∷ others) = Err (unexpected more)
 abbrev pub alone : Action → List (List ℕ) → Result Action UsageError
 alone action args = on_ok (λ _. Ok action) (no_more args)
 
--- What is done with a pattern, with the operands after the pattern: `split` replaces each match by a line feed.
-abbrev pub action_of : (terminal : Bool) → Operation → Given → List (List ℕ) → Result Action UsageError
-action_of terminal operations.Match given args = Ok (search (matching (selection_of terminal given.options)) given.options.multiline args)
-action_of terminal operations.Replace given args = replace_of given.options.multiline args
-action_of terminal operations.Split given args = Ok (search (replacing (codes "\n")) given.options.multiline args)
-action_of terminal operations.Parse given args = alone (show (view_in given.options (printed_format given.options.json))) args
-action_of terminal operations.Draw given args = alone (show (view_in given.options Svg)) args
-action_of terminal operations.Lint given args = alone lint args
-action_of terminal operations.Explain given args = alone (explain (form_of given)) args
+-- What is done with a pattern, with the operands after the pattern, which may be files: `split` replaces each match by a line
+-- feed.
+abbrev pub action_of : (terminal : Bool) → Operation → Given → (rest : FileList) → Result Action UsageError
+action_of terminal operations.Match given rest = Ok (search (matching (selection_of terminal given.options)) given.options.multiline rest)
+action_of terminal operations.Replace given rest = replace_of given.options.multiline rest
+action_of terminal operations.Split given rest = Ok (search (replacing (codes "\n")) given.options.multiline rest)
+action_of terminal operations.Parse given rest = alone (show (view_in given.options (printed_format given.options.json))) rest.names
+action_of terminal operations.Draw given rest = alone (show (view_in given.options Svg)) rest.names
+action_of terminal operations.Lint given rest = alone lint rest.names
+action_of terminal operations.Explain given rest = alone (explain (form_of given)) rest.names
 
 -- the patterns, and the operands after them, as the code represents them
 abbrev pub after_patterns : Patterns × Bor (List (String Global)) → List Source × List (List ℕ)
@@ -207,7 +215,7 @@ request_for options patterns action = apply (record {
 abbrev pub request_of : (terminal : Bool) → Operation → Words → Result Ask UsageError
 request_of terminal operation w =
     on_ok (λ taken. on_ok (λ action. Ok (request_for w.reading.given.options taken.0 action))
-    (action_of terminal operation w.reading.given taken.1)) (or_error (missing (codes "PATTERN")) (taken_patterns w.patterns w.operands))
+    (action_of terminal operation w.reading.given (files_of w taken.1))) (or_error (missing (codes "PATTERN")) (taken_patterns w.patterns w.operands))
 
 abbrev pub is_lines : Shown → Bool
 is_lines shows.Lines = true

@@ -2,6 +2,7 @@
 ghost use Rattle.std.specs.Prelude.{◌≡◌};
 ghost use Rattle.regex_options.specs.Given.{given_by, nothing_given};
 
+use crate::files::NameGlob;
 use crate::source::{PatternForm, PatternSource};
 use crate::task::{FileNames, Selection, Shown};
 use regress_base::types::Flags;
@@ -38,6 +39,8 @@ pub(crate) struct Options {
     pub(crate) around: Around,
     /// Whether a text is searched as one, and not line by line.
     pub(crate) multiline: bool,
+    /// Whether files are searched for in directories.
+    pub(crate) recursive: bool,
     /// Whether each line is written at once.
     pub(crate) line_buffered: bool,
     pub(crate) json: bool,
@@ -58,6 +61,8 @@ pub(crate) struct Given<'a> {
     pub(crate) pattern: Option<PatternSource<'a>>,
     /// The text of the page.
     pub(crate) text: Option<&'a str>,
+    /// The glob of the last option, if that has one.
+    pub(crate) glob: Option<NameGlob<'a>>,
 }
 
 /// What is specified where no option is given.
@@ -91,6 +96,7 @@ pub(crate) fn nothing_given() -> Given<'static>
                 both: None,
             },
             multiline: false,
+            recursive: false,
             line_buffered: false,
             json: false,
             color: None,
@@ -100,5 +106,6 @@ pub(crate) fn nothing_given() -> Given<'static>
         },
         pattern: None,
         text: None,
+        glob: None,
     }
 }

@@ -5,6 +5,7 @@
 mod command;
 mod environment;
 mod error;
+mod files;
 mod given;
 mod help;
 mod reading;
@@ -18,6 +19,7 @@ mod values;
 pub use command::{COMMANDS, Command, CommandEntry, Operation};
 pub use environment::allows_color;
 pub use error::{ParseError, UsageError, write_usage_error};
+pub use files::{FileList, NameGlob};
 pub use help::{HELP_AFTER, HELP_BEFORE, OPTIONS_END, Topic, VERSION, topic_text};
 pub use request::{
     Action, Arguments, Asked, CommandLine, Form, Output, Parsed, Request, Search, View, interpret,

@@ -1,12 +1,13 @@
 //! Parses options.
 ghost use Rattle.std.specs.Prelude.{◌≡◌, ◌<◌, ◌++◌, ◌∷◌, [], OnOk, drop, find, length, map, option_map, slice_index, string_bytes};
 ghost use Rattle.regex_options.specs.Given.{given_by};
-ghost use Rattle.regex_options.specs.Reading.{is_option, lacked, listed, letters_of, long_parts, noted, options_of, parts_of, reading_of, start, unless_empty, without_pattern, words_of, used, with_letters, with_long, with_switch, with_value, with_word, without_value};
+ghost use Rattle.regex_options.specs.Reading.{is_option, lacked, listed, letters_of, long_parts, noted, options_of, parts_of, reading_of, start, unless_empty, without_lists, words_of, used, with_letters, with_long, with_switch, with_value, with_word, without_value};
 ghost use Rattle.regex_options.specs.Table.{has_letter, has_long};
-ghost use Rattle.regex_options.specs.Plain.{IsParsed, first_error, plain_result, source, usage_error};
+ghost use Rattle.regex_options.specs.Plain.{IsParsed, first_error, name_glob, plain_result, source, usage_error};
 
 use crate::command::Command;
 use crate::error::{ParseError, UsageError};
+use crate::files::NameGlob;
 use crate::given::{Given, nothing_given};
 use crate::source::PatternSource;
 use crate::switches::switched;
@@ -31,6 +32,8 @@ pub(crate) struct Words<'a> {
     pub(crate) reading: Reading<'a>,
     /// The patterns of options, in order.
     pub(crate) patterns: Vec<PatternSource<'a>>,
+    /// The globs of options, in order.
+    pub(crate) globs: Vec<NameGlob<'a>>,
     /// The arguments that are neither options nor arguments of options.
     pub(crate) operands: Vec<String>,
 }
@@ -53,6 +56,7 @@ pub(crate) fn read_options<'a>(
         awaits: None,
     };
     let mut patterns = Vec::new(alloc);
+    let mut globs = Vec::new(alloc);
     let mut operands = Vec::new(alloc);
     let mut rest = args;
     while let [first, after @ ..] = rest {
@@ -62,6 +66,7 @@ pub(crate) fn read_options<'a>(
             return Ok(Words {
                 reading,
                 patterns,
+                globs,
                 operands,
             });
         }
@@ -73,7 +78,8 @@ pub(crate) fn read_options<'a>(
                 Err(error) => return Err(ParseError::Usage(first_error(reading.denied, error))),
             };
             add_pattern(reading.given.pattern, &mut patterns)?;
-            reading = without_pattern(reading);
+            add_glob(reading.given.glob, &mut globs)?;
+            reading = without_lists(reading);
         }
         rest = after;
     }
@@ -85,6 +91,7 @@ pub(crate) fn read_options<'a>(
         None => Ok(Words {
             reading,
             patterns,
+            globs,
             operands,
         }),
     }
@@ -103,13 +110,24 @@ fn add_pattern<'a>(
     Ok(())
 }
 
-/// Forgets the pattern of the last option.
-fn without_pattern<'a>(reading: Reading<'a>) -> Reading<'a>
-    ensures { reading_of result ≡ without_pattern (reading_of reading.entry) }
+/// Adds the glob of the last option.
+fn add_glob<'a>(glob: Option<NameGlob<'a>>, to: &mut Vec<NameGlob<'a>>) -> Result<(), AllocError>
+    ensures { OnOk result (map name_glob to.new.items ≡ map name_glob to.old.items ++ listed (option_map name_glob glob.entry)) }
+{
+    if let Some(glob) = glob {
+        to.push(glob)?;
+    }
+    Ok(())
+}
+
+/// Forgets the pattern and the glob of the last option.
+fn without_lists<'a>(reading: Reading<'a>) -> Reading<'a>
+    ensures { reading_of result ≡ without_lists (reading_of reading.entry) }
 {
     Reading {
         given: Given {
             pattern: None,
+            glob: None,
             ..reading.given
         },
         ..reading

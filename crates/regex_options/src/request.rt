@@ -1,13 +1,14 @@
 //! What the arguments ask for.
 ghost use Rattle.std.specs.Prelude.{◌≡◌, map, option_map, string_bytes};
 ghost use Rattle.regex_options.specs.Given.{given_by};
-ghost use Rattle.regex_options.specs.Plain.{IsParsed, job, source, plain_result, usage_error};
+ghost use Rattle.regex_options.specs.Plain.{IsParsed, file_list, job, name_glob, source, plain_result, usage_error};
 ghost use Rattle.regex_options.specs.Reading.{words_of};
-ghost use Rattle.regex_options.specs.Request.{action, action_of, after_patterns, alone, ask, asked_form, conflict, context_by, context_of, escape_of, excludes_json, form_of, has_context, help_of, interpreted, is_lines, line_interpreted, line_of, no_more, paints, parsed_as, parsed_by, printed_format, replace_of, request_of, search, selection_of, stage_of, taken_patterns, topic_of, unknown, view_in};
+ghost use Rattle.regex_options.specs.Request.{action, action_of, after_patterns, alone, ask, asked_form, conflict, context_by, context_of, escape_of, excludes_json, files_of, form_of, has_context, help_of, interpreted, is_lines, line_interpreted, line_of, no_more, paints, parsed_as, parsed_by, printed_format, replace_of, request_of, search, selection_of, stage_of, taken_patterns, topic_of, unknown, view_in};
 ghost use Rattle.regex_options.specs.Table.{topic_text};
 
 use crate::command::{Command, CommandEntry, Operation, find_command};
 use crate::error::{ParseError, UsageError};
+use crate::files::{FileList, NameGlob};
 use crate::given::{Around, Color, Given, Options};
 use crate::help::Topic;
 use crate::reading::{Reading, Words, read_options};
@@ -76,8 +77,8 @@ pub struct Search<'a> {
     pub multiline: bool,
     /// Whether each line is written at once, and not with those after it.
     pub at_once: bool,
-    /// The names of the files.
-    pub files: &'a [String],
+    /// The files.
+    pub files: FileList<'a>,
 }
 
 /// How a tree is shown.
@@ -318,7 +319,7 @@ fn read_request<'p, 'a: 'p>(
         flags: given.options.flags,
         dialect: given.options.dialect,
         form: given.options.form,
-        action: read_action(operation, given, rest, output)?,
+        action: read_action(operation, given, files_of(words, rest), output)?,
     }))
 }
 
@@ -336,16 +337,28 @@ fn take_patterns<'p, 'a: 'p>(
     }
 }
 
+/// Returns the files with these names, and which ones are searched.
+fn files_of<'p, 'a: 'p>(words: &'p Words<'a>, names: &'p [String]) -> FileList<'p>
+    ensures { file_list result ≡ files_of (words_of words.now) (map string_bytes names.now) }
+{
+    FileList {
+        names,
+        recursive: words.reading.given.options.recursive,
+        globs: &words.globs,
+    }
+}
+
 /// Parses what follows the pattern.
 fn read_action<'a>(
     operation: Operation,
     given: Given<'a>,
-    args: &'a [String],
+    rest: FileList<'a>,
     output: Output,
 ) -> Result<Action<'a>, UsageError<'a>>
-    ensures { plain_result action result ≡ action_of output.colors operation (given_by given.entry) (map string_bytes args.now) }
+    ensures { plain_result action result ≡ action_of output.colors operation (given_by given.entry) (file_list rest.entry) }
 {
     let options = given.options;
+    let args = rest.names;
     let form = LineForm {
         multiline: options.multiline,
         at_once: options.line_buffered || output.at_once,
@@ -354,10 +367,10 @@ fn read_action<'a>(
         Operation::Match => Ok(search_for(
             form,
             Task::Match(selection_of(options, output.colors)),
-            args,
+            rest,
         )),
-        Operation::Replace => replace_of(form, args),
-        Operation::Split => Ok(search_for(form, Task::Replace("\n"), args)),
+        Operation::Replace => replace_of(form, rest),
+        Operation::Split => Ok(search_for(form, Task::Replace("\n"), rest)),
         Operation::Parse => alone(
             Action::Show(view_in(options, printed_format(options.json))),
             args,
@@ -369,11 +382,14 @@ fn read_action<'a>(
 }
 
 /// Parses a template, and the files after it.
-fn replace_of(form: LineForm, args: &[String]) -> Result<Action<'_>, UsageError<'_>>
-    ensures { plain_result action result ≡ replace_of form.multiline (map string_bytes args.now) }
+fn replace_of<'a>(form: LineForm, rest: FileList<'a>) -> Result<Action<'a>, UsageError<'a>>
+    ensures { plain_result action result ≡ replace_of form.multiline (file_list rest.entry) }
 {
-    match args {
-        [template, files @ ..] => { Ok(search_for(form, Task::Replace(template.as_str()), files)) }
+    match rest.names {
+        [template, names @ ..] => {
+            let files = FileList { names, ..rest };
+            Ok(search_for(form, Task::Replace(template.as_str()), files))
+        }
         [] => Err(UsageError::Missing("TEMPLATE")),
     }
 }
@@ -473,8 +489,8 @@ struct LineForm {
     at_once: bool,
 }
 
-fn search_for<'a>(form: LineForm, task: Task<'a>, files: &'a [String]) -> Action<'a>
-    ensures { action result ≡ search (job task.entry) form.multiline (map string_bytes files.now) }
+fn search_for<'a>(form: LineForm, task: Task<'a>, files: FileList<'a>) -> Action<'a>
+    ensures { action result ≡ search (job task.entry) form.multiline (file_list files.entry) }
 {
     Action::Search(Search {
         task,

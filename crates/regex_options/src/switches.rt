@@ -55,6 +55,10 @@ pub(crate) fn switched(switch: Switch, options: Options) -> Options
             multiline: true,
             ..options
         },
+        Switch::Recursive => Options {
+            recursive: true,
+            ..options
+        },
         Switch::Json => Options {
             json: true,
             ..options

@@ -45,6 +45,8 @@ pub enum Switch {
     WholeWords,
     /// A text is one line.
     Multiline,
+    /// Files are searched for in directories.
+    Recursive,
     /// Each line is written at once.
     LineBuffered,
     /// Lines that are not UTF-8 are searched, as they are without it.
@@ -101,6 +103,10 @@ pub enum Value {
     Color,
     /// The text of a page.
     Text,
+    /// A glob of files to search.
+    Include,
+    /// A glob of files not to search.
+    Exclude,
 }
 
 /// The commands that have an option.
@@ -254,7 +260,7 @@ const OF_EXPLAIN: Scope = Scope {
 };
 
 /// The options, in the order of the help.
-pub const OPTIONS: [OptionEntry; 35] = [
+pub const OPTIONS: [OptionEntry; 38] = [
     OptionEntry {
         short: Some("-e"),
         long: Some("regexp"),
@@ -344,6 +350,37 @@ pub const OPTIONS: [OptionEntry; 35] = [
         sets: Sets::Switch(Switch::Multiline),
         scope: OF_LINES,
         line: "      --multiline           the same as --whole\n",
+    },
+    OptionEntry {
+        short: Some("-r"),
+        long: Some("recursive"),
+        sets: Sets::Switch(Switch::Recursive),
+        scope: OF_LINES,
+        line: "  -r, --recursive           search all regular files below a FILE that is a\n                            directory; without FILE those below the current one\n",
+    },
+    OptionEntry {
+        short: None,
+        long: Some("include"),
+        sets: Sets::Value(Argument {
+            value: Value::Include,
+            name: "GLOB",
+            default: None,
+            kind: "GLOB",
+        }),
+        scope: OF_LINES,
+        line: "      --include GLOB        search only files whose name GLOB matches, with *, ?\n                            and [..]; a backslash quotes a character\n",
+    },
+    OptionEntry {
+        short: None,
+        long: Some("exclude"),
+        sets: Sets::Value(Argument {
+            value: Value::Exclude,
+            name: "GLOB",
+            default: None,
+            kind: "GLOB",
+        }),
+        scope: OF_LINES,
+        line: "      --exclude GLOB        search no files whose name GLOB matches; of several\n                            GLOB the last one that matches takes effect\n",
     },
     OptionEntry {
         short: Some("-a"),

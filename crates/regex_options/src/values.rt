@@ -1,8 +1,9 @@
 //! What options with an argument set.
 ghost use Rattle.std.specs.Prelude.{◌≡◌, option_map};
-ghost use Rattle.regex_options.specs.Given.{around_with, color_of, count_of, dialect_of, given_by, valued, with_color, with_context, with_count, with_dialect, with_flags, with_pattern};
+ghost use Rattle.regex_options.specs.Given.{around_with, color_of, count_of, dialect_of, given_by, valued, with_color, with_context, with_count, with_dialect, with_flags, with_glob, with_pattern};
 ghost use Rattle.regex_options.specs.Plain.{source};
 
+use crate::files::NameGlob;
 use crate::given::{Around, Color, Given, Options};
 use crate::source::PatternSource;
 use crate::table::Value;
@@ -22,6 +23,8 @@ pub(crate) fn valued<'a>(value: Value, text: &'a str, given: Given<'a>) -> Optio
             text: Some(text),
             ..given
         }),
+        Value::Include => Some(with_glob(text, true, given)),
+        Value::Exclude => Some(with_glob(text, false, given)),
         Value::Flags => Some(Given {
             options: with_flags(given.options, text)?,
             ..given
@@ -51,6 +54,16 @@ fn with_pattern<'a>(pattern: PatternSource<'a>, given: Given<'a>) -> Given<'a>
 {
     Given {
         pattern: Some(pattern),
+        ..given
+    }
+}
+
+/// Sets the glob of the last option.
+fn with_glob<'a>(text: &'a str, includes: bool, given: Given<'a>) -> Given<'a>
+    ensures { given_by result ≡ with_glob text.now includes (given_by given.entry) }
+{
+    Given {
+        glob: Some(NameGlob { text, includes }),
         ..given
     }
 }

@@ -1,4 +1,4 @@
-use Rattle.std.proofs.Common.{◌≡◌, ◌∙◌, length, ap, map, sym, subst}
+use Rattle.std.proofs.Common.{◌≡◌, ◌∙◌, ap, map, sym, subst}
 use Rattle.std.specs.Prelude.{IfErr, string_bytes}
 use Rattle.regex_lines.specs.Ending.{OrOutput}
 use Rattle.regex_lines.specs.Left.{left_of}
@@ -11,13 +11,13 @@ use Rattle.regex_lines.proofs.inputs.search_files.Goals as goal
 
 pub loop-file-init : goal.loop-file-init
 loop-file-init g c =
-    at_first c.args.searcher.now.regex.now (job c.args.search.task) (place_of (job c.args.search.task) c.args.search.multiline (length c.args.search.files.now)) c.args.search.files.now
+    at_first c.args.searcher.now.regex.now (job c.args.search.task) (place_of (job c.args.search.task) c.args.search.multiline c.args.search.several) c.args.search.files.now
     (g.I.Read.remaining c.args.input) (g.W.Write.contents c.args.out.now) (all_unread c.args.unread.now) (ap (map unread_of) c.requires.none)
 
 pub returns-then-has_ended-clause-all : goal.returns-then-has_ended-clause-all
 returns-then-has_ended-clause-all g c =
     let files = c.args.search.files.now in
-    let inputs = named_inputs (place_of (job c.args.search.task) c.args.search.multiline (length files)) (map string_bytes files) (g.I.Read.remaining c.args.input) in
+    let inputs = named_inputs (place_of (job c.args.search.task) c.args.search.multiline c.args.search.several) (map string_bytes files) (g.I.Read.remaining c.args.input) in
     ended c.args.searcher.now.regex.now (job c.args.search.task) inputs (g.W.Write.contents c.args.out.now)
     c.loop-file.file-index c.loop-file.any (all_unread c.loop-file.unread) (g.W.Write.contents c.loop-file.out) c.loop-file.invariant.first
     (sym c.has_ended.ensures ∙ c.if-has_ended.true)
@@ -25,7 +25,7 @@ returns-then-has_ended-clause-all g c =
 pub returns-in_err-any-clause-first : goal.returns-in_err-any-clause-first
 returns-in_err-any-clause-first g c =
     let files = c.args.search.files.now in
-    let place = place_of (job c.args.search.task) c.args.search.multiline (length files) in
+    let place = place_of (job c.args.search.task) c.args.search.multiline c.args.search.several in
     let inputs = named_inputs place (map string_bytes files) (g.I.Read.remaining c.args.input) in
     let i = c.loop-file.file-index in
     let file = c.file-item.result in
@@ -54,7 +54,7 @@ returns-in_err-any-clause-first g c =
 pub loop-file-preserved : goal.loop-file-preserved
 loop-file-preserved g c =
     let files = c.args.search.files.now in
-    let place = place_of (job c.args.search.task) c.args.search.multiline (length files) in
+    let place = place_of (job c.args.search.task) c.args.search.multiline c.args.search.several in
     let inputs = named_inputs place (map string_bytes files) (g.I.Read.remaining c.args.input) in
     let i = c.loop-file.file-index in
     let file = c.file-item.result in
@@ -85,7 +85,7 @@ loop-file-preserved g c =
 pub returns-clause-all : goal.returns-clause-all
 returns-clause-all g c =
     let files = c.args.search.files.now in
-    let place = place_of (job c.args.search.task) c.args.search.multiline (length files) in
+    let place = place_of (job c.args.search.task) c.args.search.multiline c.args.search.several in
     let inputs = named_inputs place (map string_bytes files) (g.I.Read.remaining c.args.input) in
     let i = c.loop-file.file-index in
     let left = left_of g.I.Read.remaining c.loop-file.left in
