@@ -72,7 +72,7 @@ impl<'t> Memo<'t> {
         let rows = DIRECT_ROWS.min(input.text.len() / POSITIONS);
         Ok(Memo {
             far: far_of(alloc, input, routine)?,
-            symbols: Symbols::new(&input.code.program.leaves),
+            symbols: Symbols::new(&input.code.program.leaves, rows > 0),
             direct: vec![in alloc; 0; rows * 128]?,
             slots: empty_slots(alloc, count)?,
             heads: vec![in alloc; 0; count]?,

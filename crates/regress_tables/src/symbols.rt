@@ -17,6 +17,8 @@ const LISTED: usize = 16;
 pub struct Symbols<'t> {
     /// The leaves.
     pub(crate) tests: &'t [Test],
+    /// Whether representatives are looked for.
+    shared: bool,
     /// For each ASCII character its representative, or 128 if that is not known.
     ascii: [u8; 128],
     /// The first representatives.
@@ -28,12 +30,14 @@ pub struct Symbols<'t> {
 }
 
 impl<'t> Symbols<'t> {
-    /// Returns what is known before any character has occurred.
-    pub(crate) fn new(tests: &'t [Test]) -> Symbols<'t>
+    /// Returns what is known before any character has occurred. Without `shared` each character represents itself, which
+    /// costs less where the rows that follow are not found directly.
+    pub(crate) fn new(tests: &'t [Test], shared: bool) -> Symbols<'t>
         ensures { result.tests.now ≡ tests.now }
     {
         Symbols {
             tests,
+            shared,
             ascii: [128; 128],
             listed: [0; LISTED],
             count: 0,
@@ -50,12 +54,12 @@ impl<'t> Symbols<'t> {
         if known < 128 { Some(known) } else { None }
     }
 
-    /// Returns the representative of a character, which is the character itself beyond ASCII.
+    /// Returns the representative of a character, which is the character itself beyond ASCII, and if none are shared.
     pub(crate) fn symbol_of(&mut self, c: u32) -> u32
         ensures tests { self.new.tests ≡ self.old.tests }
         ensures alike { AreAlike self.old.tests.now c result }
     {
-        if c >= 128 {
+        if c >= 128 || !self.shared {
             return c;
         }
         let known = self.ascii[c as usize];
