@@ -78,7 +78,7 @@ fn parse_parts(cursor: &mut Cursor, around: &ClassContext) -> Result<CodePointSe
         ParsesAs (λ set members. HasMembers members set) (source cursor.new) result (class_parts_by (table_of around.now.tables.now) around.now.parameters.now (length t + 1) t) }
     ensures kind { FailsByNoLimit result }
 {
-    let mut gathered = IntervalCollector::new(cursor.alloc);
+    let mut gathered = IntervalCollector::with_room(cursor.alloc)?;
     while !cursor.is_at(']') {
         parse_part(cursor, around, &mut gathered)?;
     }
