@@ -16,7 +16,7 @@ ghost use Rattle.regress_parse.specs.Rejected.{NoneIsAccepted, IsTrueOf, MayExce
 ghost use Rattle.regress_parse.specs.Fault.{RejectedOnlyIf, ReportsKind};
 ghost use Rattle.regress_parse.specs.Settled.{IsAtFirstDuplicate, IsFaultOf, IsFinalIn, IsFaultIn};
 ghost use Rattle.regress_parse.specs.Parsing.{YieldsWhole, Reaches};
-ghost use Rattle.regress_parse.specs.Spans.{spans_of, spans_in};
+ghost use Rattle.regress_parse.specs.Spans.{spans_in};
 ghost use Rattle.regress_parse.specs.Recorded.{HasSpans};
 
 use crate::fault::{ParseFault, PlacedFault, position};
@@ -203,40 +203,6 @@ pub fn try_parse_in(
     }
 }
 
-/// Parses a pattern as [`try_parse_with_position`] does, and returns a span for each node of the tree too.
-///
-/// # Preconditions
-/// Each element of `pattern` is a code point, at most U+10FFFF.
-///
-/// # Errors
-/// As for [`try_parse_with_position`].
-///
-/// # Complexity
-/// As for [`try_parse`]. In a lookbehind the spans are copied, twice for each lookbehind around them.
-pub fn parse_with_spans(
-    alloc: Global,
-    pattern: &[u32],
-    flags: Flags,
-    tables: &Tables,
-) -> Result<SpannedRegex, PlacedFault>
-    requires { All IsCodePoint pattern.now }
-
-    // The tree of the pattern that the grammar derives, and the spans of its nodes.
-    ensures spanned { IfOk result (λ r. (p : Pattern) × (accepted : IsAccepted (setting_of flags tables.now) pattern.now p)
-        × (tree r.regex.node ≡ tree_of (table_of tables.now) p)
-        × (r.spans.items ≡ spans_of (setting_of flags tables.now) pattern.now p accepted.derived)) }
-
-    // The contract of `try_parse_with_position`.
-    ensures rejected { IfErr result (IsFaultOf (setting_of flags tables.now) pattern.now) }
-    ensures only { OneIsDerived (setting_of flags tables.now) pattern.now }
-    ensures meaning { let setting = setting_of flags tables.now in
-        IfOk result (λ r. OfAccepted setting pattern.now (Means setting (tree r.regex.node))) }
-    ensures well_formed { IfOk result (λ r. IsWellFormed (tree r.regex.node)) }
-    ensures flags { IfOk result (λ r. r.regex.flags ≡ flags) }
-{
-    parse_with_spans_in(alloc, pattern, flags, tables, Dialect::Regress)
-}
-
 /// Parses a pattern of a dialect as [`try_parse_in`] does, and returns a span for each node of the tree too.
 ///
 /// # Preconditions
@@ -246,7 +212,7 @@ pub fn parse_with_spans(
 /// As for [`try_parse_with_position`].
 ///
 /// # Complexity
-/// As for [`parse_with_spans`].
+/// As for [`try_parse`]. In a lookbehind the spans are copied, twice for each lookbehind around them.
 pub fn parse_with_spans_in(
     alloc: Global,
     pattern: &[u32],

@@ -25,6 +25,9 @@ use regress_syntax::fault::FaultKind;
 use regress_syntax::{Fault, Group, parse_optional_quantifier};
 use regress_tree::ir::Node;
 
+/// The number of terms for which a list of several terms has room at first.
+const USUAL_LENGTH: usize = 8;
+
 /// Where an item begins.
 #[derive(Clone, Copy)]
 struct ItemStart {
@@ -165,7 +168,7 @@ impl Parser<'_> {
             (terms_at (context_in around.now) t) }
         ensures reached { FailsBy result (λ kind. Reaches kind (counted self.old) around.now.depth (text self.old)) }
     {
-        let mut parts = Vec::new(self.cursor.alloc);
+        let mut parts = Vec::with_capacity(self.cursor.alloc, USUAL_LENGTH)?;
         parts.push(first)?;
         while !self.cursor.ends_alternative() {
             let taken = push_simple_term(&mut self.cursor, &around.scope, &mut parts)?;
