@@ -71,7 +71,7 @@ pub fn is_one_atom(node: &Node, span: Span, source: Source<'_>) -> Result<bool, 
             _ => false,
         }),
         // An alternative of several nodes may be written as one atom by itself.
-        Node::Alt(left, _) if matches!(**left, Node::Alt(..) | Node::Cat(_)) => Ok(false),
+        Node::Alt(left, _) if has_parts(left) => Ok(false),
         Node::Alt(..) => match text {
             [0x5C, 0x6B, ..] => Ok(is_reference_by_name(text)),
             [0x5C, 0x70 | 0x50, ..] => Ok(is_property(text)),
@@ -80,6 +80,19 @@ pub fn is_one_atom(node: &Node, span: Span, source: Source<'_>) -> Result<bool, 
         },
         _ => Ok(false),
     }
+}
+
+/// Returns whether other nodes are parts of a node.
+fn has_parts(node: &Node) -> bool {
+    matches!(
+        node,
+        Node::Cat(_)
+            | Node::Alt(..)
+            | Node::CaptureGroup { .. }
+            | Node::Loop { .. }
+            | Node::Loop1CharBody { .. }
+            | Node::LookaroundAssertion { .. }
+    )
 }
 
 /// Returns whether a text is one reference by name: it ends where the name ends.
