@@ -1,5 +1,5 @@
 //! The files that are searched: those that are named, and those below directories.
-ghost use Rattle.std.specs.Prelude.{◌≡◌, ◌++◌, ℕ, List, [], All, IfOk, OnOk, chars, false, map, string_bytes, true};
+ghost use Rattle.std.specs.Prelude.{◌≡◌, ◌++◌, ℕ, List, None, [], All, IfOk, OnOk, chars, false, map, string_bytes, true};
 ghost use Rattle.regex_options.specs.Plain.{file_list, name_glob};
 ghost use Rattle.regex_lines.specs.Searched.{is_standard};
 ghost use Rattle.regex_lines.specs.Walk.{AreDefault, IfEntry, IsEntry, IsFound, IsNamed, IsSelectedBelow, decided, filter, filter_of, found_of, joined, selects, selects_by_default, separator};
@@ -11,7 +11,7 @@ use regex_glob::Glob;
 use regex_options::{FileList, NameGlob};
 use regress_base::util::code_points;
 use std::alloc::{AllocError, Global};
-use std::fs::{Files, metadata, symlink_metadata};
+use std::fs::{Files, Metadata, metadata, symlink_metadata};
 use std::io::Read;
 
 /// The files that are found for a list of names.
@@ -121,13 +121,30 @@ fn filters_of(alloc: Global, globs: &[NameGlob<'_>]) -> Result<Vec<Filter>, Allo
 fn is_directory<R: Files>(rt: &R, name: &str) -> bool
     ensures { is_standard name.now ≡ true → result ≡ false }
 {
+    match metadata_of(rt, name) {
+        Some(found) => found.is_dir(),
+        None => false,
+    }
+}
+
+/// Returns whether a name is that of something but a directory, and not of standard input.
+fn is_file<R: Files>(rt: &R, name: &str) -> bool
+    ensures { is_standard name.now ≡ true → result ≡ false }
+{
+    match metadata_of(rt, name) {
+        Some(found) => !found.is_dir(),
+        None => false,
+    }
+}
+
+/// Returns what is known of the file with a name, which is not standard input. A symbolic link is followed.
+fn metadata_of<R: Files>(rt: &R, name: &str) -> Option<Metadata>
+    ensures { is_standard name.now ≡ true → result ≡ None }
+{
     if is_standard(name) {
-        return false;
+        return None;
     }
-    match metadata(rt, name) {
-        Ok(found) => found.is_dir(),
-        Err(_) => false,
-    }
+    metadata(rt, name).ok()
 }
 
 /// Adds a file that is named, unless it is one that is not selected.
@@ -145,19 +162,6 @@ fn add_named<R: Files + AllocGlobal>(
     }
     to.push(String::from_str(rt.alloc(), name)?)?;
     Ok(())
-}
-
-/// Returns whether a name is that of something but a directory, and not of standard input.
-fn is_file<R: Files>(rt: &R, name: &str) -> bool
-    ensures { is_standard name.now ≡ true → result ≡ false }
-{
-    if is_standard(name) {
-        return false;
-    }
-    match metadata(rt, name) {
-        Ok(found) => !found.is_dir(),
-        Err(_) => false,
-    }
 }
 
 /// Returns whether a file with this name is searched.
