@@ -123,6 +123,7 @@ typedef struct regress_difference {
 uint32_t regress_compile_raw(const uint8_t *pattern, size_t length, uint32_t flags, const regress_limits *limits,
                              regress_regex *handle, uint32_t *kind, size_t *position);
 uint32_t regress_is_linear_raw(regress_regex *handle);
+uint32_t regress_is_exact_for_raw(regress_regex *handle, const uint8_t *text, size_t length);
 uint32_t regress_nonlinear_raw(regress_regex *handle);
 uint64_t regress_steps_per_byte_raw(regress_regex *handle);
 uint64_t regress_find_steps_per_byte_raw(regress_regex *handle);
@@ -226,6 +227,19 @@ REGRESS_INLINE uint32_t regress_is_linear(const regress_regex *handle) {
     }
     own = *handle;
     return regress_is_linear_raw(&own);
+}
+
+/* Returns 1 if JavaScript reads the pattern and a text as their code points, else 0: with UNICODE, or if neither has one
+   above U+FFFF, which JavaScript reads as two code units. Then a match in the dialect of ECMA-262 is that of JavaScript. A
+   text that is not UTF-8 gives 0. */
+REGRESS_INLINE uint32_t regress_is_exact_for(const regress_regex *handle, const uint8_t *text, size_t length) {
+    regress_regex own;
+    uint8_t no_byte = 0;
+    if (regress_is_zero(handle) || REGRESS_IS_MISSING(text, length)) {
+        return 0;
+    }
+    own = *handle;
+    return regress_is_exact_for_raw(&own, REGRESS_OR(text, no_byte), length);
 }
 
 /* Why searches are not linear. The numbers never change; a later version may have more of them. */

@@ -638,6 +638,25 @@ static void null_pointers(void) {
     regress_free(&regex);
 }
 
+static uint32_t is_exact(const regress_regex *regex, const char *text) {
+    return regress_is_exact_for(regex, (const uint8_t *)text, strlen(text));
+}
+
+/* Without u JavaScript reads a code point above U+FFFF as two code units. */
+static void exactness(void) {
+    const char *face = "\xF0\x9F\x98\x80";
+    regress_regex regex;
+    CHECK(compiled("^.$", SMALL, &regex) == REGRESS_OK);
+    CHECK(is_exact(&regex, "\xC3\xA9") == 1 && is_exact(&regex, face) == 0 && is_exact(&regex, "\xFF") == 0);
+    CHECK(regress_is_exact_for(&regex, NULL, 0) == 1 && regress_is_exact_for(&regex, NULL, 1) == 0);
+    regress_free(&regex);
+    CHECK(compiled(face, SMALL, &regex) == REGRESS_OK && is_exact(&regex, "a") == 0);
+    regress_free(&regex);
+    CHECK(compiled(face, SMALL | REGRESS_UNICODE, &regex) == REGRESS_OK && is_exact(&regex, face) == 1);
+    regress_free(&regex);
+    CHECK(is_exact(&regex, "a") == 0);
+}
+
 /* A handle that is zero, as one that is freed or was never compiled, is an invalid argument. */
 static void zero_handles(void) {
     regress_regex zero = {NULL};
@@ -850,6 +869,7 @@ int main(void) {
     escapes();
     lists_of_differences();
     null_pointers();
+    exactness();
     zero_handles();
     byte_offsets();
     CHECK(blocks == before);

@@ -508,6 +508,17 @@ class Calls(unittest.TestCase):
             self.assertEqual(pattern.nonlinear, nonlinear)
             self.assertEqual(pattern.is_find_linear, nonlinear == 'capturing-lookaround')
 
+    def test_a_text_is_exact_with_u_or_without_characters_above_ffff(self):
+        face = '\N{GRINNING FACE}'
+        pattern = regress.compile('^.$')
+        self.assertIs(pattern.is_exact_for('\xe9'), True)
+        self.assertIs(pattern.is_exact_for(face), False)
+        self.assertIs(regress.compile(face).is_exact_for('a'), False)
+        self.assertIs(regress.compile(face, 'u').is_exact_for(face), True)
+        self.assertIs(regress.compile(b'a').is_exact_for(face.encode()), False)
+        with self.assertRaises(TypeError):
+            pattern.is_exact_for(b'a')
+
     def test_a_match_is_found_in_linear_time_also_where_lookarounds_capture(self):
         pattern = regress.compile('(?:(?=(a*))a)*b', steps=1)
         # At the last a that is consumed, a* consumes that one.

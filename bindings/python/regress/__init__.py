@@ -424,6 +424,19 @@ class Pattern:
         parts = [None if start < 0 else data[start:end] for start, end in spans]
         return parts if self._type is bytes else [part if part is None else part.decode() for part in parts]
 
+    def is_exact_for(self, string):
+        r"""Returns whether JavaScript reads the pattern and a text as their code points: with the flag u or v, or if
+        neither has one above U+FFFF, which JavaScript reads as two code units.
+
+        Then a match in the dialect 'ecma' is that of JavaScript.
+
+            >>> import regress
+            >>> regress.compile('^.$').is_exact_for('\N{GRINNING FACE}')
+            False
+        """
+        data = _utf8(_same_type(self, string))
+        return self._program.is_exact_for(data)
+
     def _searcher(self, program):
         """Returns what searches for a program of this pattern, in the extension module."""
         return _native.Searcher(self, program, program.address, program.groups, self._type is bytes)
@@ -658,6 +671,9 @@ class _Program:
     def _copy(self):
         """Returns the handle for a call, which changes it."""
         return ctypes.byref(_Regex(self.address))
+
+    def is_exact_for(self, data):
+        return _library.regress_is_exact_for_raw(self._copy(), data, len(data)) == 1
 
     def names(self):
         """Returns the list of the names of all groups, None for a group without one."""
@@ -944,6 +960,7 @@ def _load():
         'regress_steps_per_byte_raw': (wide, handle),
         'regress_find_steps_per_byte_raw': (wide, handle),
         'regress_nonlinear_raw': (number, handle),
+        'regress_is_exact_for_raw': (number, handle, data, size),
         'regress_escape_raw': (number, data, size, octets, size, sizes),
         'regress_free_raw': (None, handle),
         'regress_differences_raw': (number, data, size, number, listed, size, sizes, numbers, sizes),

@@ -158,6 +158,8 @@ extern "C" {
 
     fn regress_nonlinear_raw(handle: *mut RegressRegex) -> u32;
 
+    fn regress_is_exact_for_raw(handle: *mut RegressRegex, text: *const u8, length: usize) -> u32;
+
     fn regress_steps_per_byte_raw(handle: *mut RegressRegex) -> u64;
     fn regress_find_steps_per_byte_raw(handle: *mut RegressRegex) -> u64;
 
@@ -468,6 +470,12 @@ impl Handle {
     pub(crate) fn nonlinear(&self) -> u32 {
         // SAFETY: the handle is alive.
         unsafe { regress_nonlinear_raw(&mut self.copy()) }
+    }
+
+    /// Returns whether JavaScript reads the pattern and a text as their code points.
+    pub(crate) fn is_exact_for(&self, text: &str) -> bool {
+        // SAFETY: the handle is alive, and the pointer and the length are those of a slice.
+        unsafe { regress_is_exact_for_raw(&mut self.copy(), start_of(text), text.len()) == 1 }
     }
 
     /// Returns the bound for the steps of a search for each byte of a text, 0 if searches are not linear.

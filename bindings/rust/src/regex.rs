@@ -376,6 +376,20 @@ impl Regex {
         self.compiled.flags
     }
 
+    /// Returns whether JavaScript reads the pattern and `text` as their code points: with the flag u or v, or if neither has
+    /// one above U+FFFF, which JavaScript reads as two code units. Then a match in the dialect `Ecma` is JavaScript's.
+    ///
+    /// ```
+    /// use regress_front::Regex;
+    ///
+    /// let regex = Regex::new("^.$")?;
+    /// assert!(regex.is_exact_for("é") && !regex.is_exact_for("😀"));
+    /// # Ok::<(), regress_front::Error>(())
+    /// ```
+    pub fn is_exact_for(&self, text: &str) -> bool {
+        self.handle().is_exact_for(text)
+    }
+
     /// Returns whether searches, also those for all matches, take time linear in the length of the text, so that
     /// [`Options::steps`] does not apply to them.
     ///

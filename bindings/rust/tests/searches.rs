@@ -456,6 +456,15 @@ fn linear_searches_have_no_step_limit() {
 }
 
 #[test]
+fn a_text_is_exact_with_u_or_without_characters_above_ffff() {
+    let regex = Regex::new("^.$").unwrap();
+    assert!(regex.is_exact_for("é"));
+    assert!(!regex.is_exact_for("😀"));
+    assert!(!Regex::new("😀").unwrap().is_exact_for("a"));
+    assert!(Regex::with_flags("😀", "u").unwrap().is_exact_for("😀"));
+}
+
+#[test]
 fn a_match_is_found_in_linear_time_also_where_lookarounds_capture() {
     let steps = Options {
         steps: 1,

@@ -5,6 +5,7 @@ ghost use Rattle.regress.specs.Compiled.{groups_of, outcomes_of};
 ghost use Rattle.regress.specs.Memory.{TablesNeedMore};
 ghost use Rattle.regress.specs.Searched.{MatchesSomewhere};
 ghost use Rattle.regress_capi.specs.CompileResults.{CompileResult, options_of};
+ghost use Rattle.regress_capi.specs.ExactResults.{ExactResult};
 ghost use Rattle.regress_capi.specs.Fault.{HasKind, IsTextOf};
 ghost use Rattle.regress_capi.specs.Reasons.{reason_number};
 ghost use Rattle.regress_capi.specs.Request.{dialect_of, setting_in, IsCompileRequest};
@@ -151,6 +152,23 @@ pub extern "C" fn regress_is_linear_raw(alloc: Global, handle: &mut Handle) -> u
     let is_linear = regex.is_linear();
     *handle = Handle::of(regex);
     if is_linear { 1 } else { 0 }
+}
+
+/// Returns whether ECMA-262 reads the pattern and a text as their code points: 1 if so, else 0. It is 0 for a text that
+/// is not UTF-8.
+///
+/// # Preconditions
+/// The handle is one of a compiled pattern.
+#[unsafe(no_mangle)]
+pub extern "C" fn regress_is_exact_for_raw(alloc: Global, handle: &mut Handle, text: &[u8]) -> u32
+    requires { handle.old.value ≡ None → ⊥ }
+    ensures same { handle.new.value ≡ handle.old.value }
+    ensures exact { IfSome handle.old.value (λ regex. ExactResult regex text.now result) }
+{
+    let regex = handle.take(alloc);
+    let result = searches::is_exact_for(&regex, text);
+    *handle = Handle::of(regex);
+    result
 }
 
 /// Returns why searches are not known to take time linear in the length of the text, as a number: 0 if they are.

@@ -7,6 +7,7 @@ pub mod Handles
 pub mod Spans
 pub mod SearchResults
 pub mod Reasons
+pub mod ExactResults
 pub mod CompileResults
 pub mod TextResults
 pub mod ReplaceResults

@@ -6,6 +6,7 @@ ghost use Rattle.regress.specs.Memory.{TablesNeedMore};
 ghost use Rattle.regress.specs.Searched.{MatchesSomewhere};
 ghost use Rattle.regress.specs.Groups.{span_of};
 ghost use Rattle.regress.specs.declared.failure.SearchError.TheVariants.{OutOfSteps, TooMuchMemory};
+ghost use Rattle.regress_capi.specs.ExactResults.{ExactResult};
 ghost use Rattle.regress_capi.specs.ListResults.{width_of};
 ghost use Rattle.regress_capi.specs.SearchResults.{IsBare, SearchResult, TestResult, status_of};
 ghost use Rattle.regress_capi.specs.Spans.{AreEndsOfAll, AreEndsOfFirst, ends_of, match_ends};
@@ -93,6 +94,17 @@ pub fn test(alloc: Global, regex: &Regex, text: &[u8]) -> u32
             Err(error) => error_status(error),
         },
         Err(_) => BAD_INPUT,
+    }
+}
+
+/// Returns whether ECMA-262 reads the pattern and a text as their code points ([`Regex::is_exact_for`]): 1 if so, else 0.
+/// It is 0 for a text that is not UTF-8.
+pub fn is_exact_for(regex: &Regex, text: &[u8]) -> u32
+    ensures { ExactResult regex.now text.now result }
+{
+    match str::from_utf8(text) {
+        Ok(text) => u32::from(regex.is_exact_for(text)),
+        Err(_) => 0,
     }
 }
 
