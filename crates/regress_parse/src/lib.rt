@@ -11,6 +11,7 @@ mod pattern;
 mod positions;
 mod productions;
 mod recording;
+mod room;
 mod span;
 
 pub use bound::node_bound;
