@@ -24,7 +24,7 @@ loop-cursor-preserved c =
 
 pub returns-in_err-parse_part-clause-value : goal.returns-in_err-parse_part-clause-value
 returns-in_err-parse_part-clause-value c =
-    let p = err_from_is_err_and c.from_residual.result c.from_residual.ensures.1 in
+    let p = err_from_is_err_and c.from_residual-in_err-parse_part.result c.from_residual-in_err-parse_part.ensures.1 in
     rw (p.1, p.2) (on_rejected_then c.in_err-parse_part.field-0.0
     (none_after (table_of c.args.around.now.tables.now) c.args.around.now.parameters.now _ (source c.loop-cursor.cursor) c.loop-cursor.gathered c.loop-cursor.invariant
     (sym c.is_at.ensures ∙ c.loop-cursor-test.true))
