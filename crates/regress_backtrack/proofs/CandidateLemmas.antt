@@ -19,6 +19,7 @@ module _ (text : List ℕ) (from : ℕ) where
       let same : to ≡ 0 = cc in
       omega (arith, same, high)
   skips (candidates.Bytes set) to is k low high here = is.2 k low high here
+  skips (candidates.Pair pair) to is k low high here = is.2 k low high here
 
   pub skips_all : (c : Candidates) → Skips c text from None → (k : ℕ) → from ≤ k → IsCandidate c text k → ⊥
   skips_all candidates.Anywhere is k low here = let bad : ⊥ = cc in bad
@@ -28,6 +29,7 @@ module _ (text : List ℕ) (from : ℕ) where
       let bad : ⊥ = cc in
       bad
   skips_all (candidates.Bytes set) is k low here = is k low here
+  skips_all (candidates.Pair pair) is k low here = is k low here
 
 module _ (text : List ℕ) (at : ℕ → List MatchState) (origin from : ℕ) (none : NoneBefore text at origin from) where
   -- no position before the next start has an outcome

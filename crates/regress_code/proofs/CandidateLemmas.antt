@@ -10,7 +10,7 @@ use Rattle.regress_prefilter.specs.declared.candidates.Candidates.TheVariants as
 use Rattle.regress_program.specs.Compiled.{IsPattern}
 use Rattle.regress_program.specs.Program.{Routine}
 use Rattle.regress_code.specs.Candidates.{BeginsAt, IsCandidate}
-use Rattle.regress_leaves.proofs.lemmas.Starts.{bytes_fail}
+use Rattle.regress_leaves.proofs.lemmas.Starts.{bytes_fail, none_distinct}
 
 -- the tree has no match elsewhere
 tree_fails : (c : Candidates) (t : Tree) (setting : Setting) (text : List ℕ) (s : MatchState) → AreCandidates c t →
@@ -18,6 +18,7 @@ tree_fails : (c : Candidates) (t : Tree) (setting : Setting) (text : List ℕ) (
 tree_fails candidates.Anywhere t setting text s are not = absurd (not tt)
 tree_fails candidates.Start t setting text s are not = are setting text s not
 tree_fails (candidates.Bytes set) t setting text s are not = bytes_fail set t setting text s are not
+tree_fails (candidates.Pair pair) t setting text s are not = none_distinct _ (are setting text s not)
 
 -- the candidates of a tree are those of its program
 pub pattern_begins : (c : Candidates) (program : List Routine) (t : Tree) → IsPattern program t → AreCandidates c t → BeginsAt c program

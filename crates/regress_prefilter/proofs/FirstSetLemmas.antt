@@ -31,7 +31,7 @@ use mathlib.Core.Path.{fun_ext}
 use Rattle.regress_prefilter.specs.OneCharacter.{takes_one, test_of}
 use Rattle.regress_prefilter.proofs.lemmas.OneCharacter.{after_parts, takes_one-steps}
 
-member_more : (set set' : ℕ → Bool) (bytes : List ℕ) (k : ℕ) → ((b : ℕ) → IsTrue (set b) → IsTrue (set' b)) → IsMemberAt set bytes k → IsMemberAt set' bytes k
+pub member_more : (set set' : ℕ → Bool) (bytes : List ℕ) (k : ℕ) → ((b : ℕ) → IsTrue (set b) → IsTrue (set' b)) → IsMemberAt set bytes k → IsMemberAt set' bytes k
 member_more set set' bytes k more at = record { inside = at.inside; member = more (slice_index bytes k) at.member }
 
 begun_more : (set set' : ℕ → Bool) (through through' : Bool) (bytes : List ℕ) (from to : ℕ) → ((b : ℕ) → IsTrue (set b) → IsTrue (set' b)) →
@@ -39,7 +39,7 @@ begun_more : (set set' : ℕ → Bool) (through through' : Bool) (bytes : List �
 begun_more set set' through through' bytes from to more on (inl at) = inl (member_more set set' bytes from more at)
 begun_more set set' through through' bytes from to more on (inr both) = inr (on both.0, both.1)
 
-all_more : {A : Type 0} (P Q : A → Type 0) → ((x : A) → P x → Q x) → (xs : List A) → All P xs → All Q xs
+pub all_more : {A : Type 0} (P Q : A → Type 0) → ((x : A) → P x → Q x) → (xs : List A) → All P xs → All Q xs
 all_more P Q f [] all = All-nil Q
 all_more P Q f (x ∷ xs) all = All-cons Q x xs (f x (All-head P x xs all)) (all_more P Q f xs (All-tail P x xs all))
 
@@ -171,11 +171,11 @@ module _ (set : ℕ → Bool) (bytes : List ℕ) where
   unfolding hold_at
   begins-hold test = λ s. all-held s (test s.position)
 
-  first_of_drop : (k : ℕ) → get_or (drop k bytes) 0 0 ≡ slice_index bytes k
+  pub first_of_drop : (k : ℕ) → get_or (drop k bytes) 0 0 ≡ slice_index bytes k
   first_of_drop k = get_or-drop k bytes 0 0 ∙ ap (slice_index bytes) (omega arith)
 
   -- the byte at an offset is the first of the remaining bytes
-  member_of : (k b : ℕ) (rest : List ℕ) → drop k bytes ≡ b ∷ rest → IsTrue (set b) → IsMemberAt set bytes k
+  pub member_of : (k b : ℕ) (rest : List ℕ) → drop k bytes ≡ b ∷ rest → IsTrue (set b) → IsMemberAt set bytes k
   member_of k b rest here member =
       let first : slice_index bytes k ≡ b = sym (first_of_drop k) ∙ ap (λ bs. get_or bs 0 0) here in
       let len = ap length here in
@@ -184,7 +184,7 @@ module _ (set : ℕ → Bool) (bytes : List ℕ) where
         member = subst (λ x. IsTrue (set x)) (sym first) member;
       }
 
-  covered_at : (k c : ℕ) (code rest : List ℕ) → drop k bytes ≡ code ++ rest → 1 ≤ length code →
+  pub covered_at : (k c : ℕ) (code rest : List ℕ) → drop k bytes ≡ code ++ rest → 1 ≤ length code →
       ((b : ℕ) → slice_get code 0 ≡ Some b → IsTrue (set b)) → IsMemberAt set bytes k
   covered_at k c [] rest here some covers = absurd (omega (arith, some))
   covered_at k c (b ∷ code) rest here some covers = member_of k b (code ++ rest) here (covers b refl)

@@ -1,5 +1,6 @@
 pub mod lemmas
 mod FirstSetLemmas
+mod FirstPairLemmas
 mod AnchorLemmas
 mod RequiredLemmas
 mod LiteralLemmas

@@ -6,6 +6,7 @@ use Rattle.regress_tree.specs.Matching.{steps}
 use Rattle.regress_tree.specs.Reading.{forwards}
 use Rattle.regress_tree.specs.Steps.{MatchState, Setting}
 use Rattle.regress_tree.specs.Tree.{Tree}
+use Rattle.regress_prefilter.specs.FirstPairs.{BeginsWithPair, IsNextPair}
 use Rattle.regress_prefilter.specs.FirstSets.{BeginsWithByteOf, IsNextMember}
 use Rattle.regress_prefilter.specs.declared.candidates.Candidates.{Candidates}
 use Rattle.regress_prefilter.specs.declared.candidates.Candidates.TheVariants as candidates
@@ -24,9 +25,11 @@ abbrev pub AreCandidates : Candidates → Tree → Type 0
 AreCandidates candidates.Anywhere t = Unit {0}
 AreCandidates candidates.Start t = IsAnchored t
 AreCandidates (candidates.Bytes set) t = BeginsWithByteOf set t
+AreCandidates (candidates.Pair pair) t = BeginsWithPair pair t
 
 -- the result is the next candidate
 abbrev pub Skips : Candidates → (text : List ℕ) → (from : ℕ) → Option ℕ → Type 0
 Skips candidates.Anywhere text from r = r ≡ Some from
 Skips candidates.Start text from r = r ≡ (if from == 0 then Some 0 else None)
 Skips (candidates.Bytes set) text from r = IsNextMember set text from r
+Skips (candidates.Pair pair) text from r = IsNextPair pair text from r

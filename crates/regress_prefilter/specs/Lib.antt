@@ -1,5 +1,6 @@
 pub mod OneCharacter
 pub mod FirstSets
+pub mod FirstPairs
 pub mod Candidates
 pub mod Required
 pub mod Literals

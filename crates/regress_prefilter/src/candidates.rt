@@ -3,6 +3,7 @@ ghost use Rattle.std.specs.Prelude.{◌≡◌, ◌≤◌, true, IfSome, length};
 ghost use Rattle.regress_tree.specs.Tree.{tree, trees, cat};
 ghost use Rattle.regress_prefilter.specs.Candidates.{AreCandidates, IsAnchored, Skips, is_start};
 
+use crate::first_pairs::{Pair, first_pair, next_pair};
 use crate::first_sets::{first_bytes, next_candidate};
 use regress_base::bytesearch::ByteBitmap;
 use regress_tree::ir::{AnchorType, Node};
@@ -16,22 +17,27 @@ pub enum Candidates {
     Start,
     /// Each offset with one of these bytes.
     Bytes(ByteBitmap),
+    /// Each offset with two bytes of the pair.
+    Pair(Pair),
 }
 
 /// Returns the candidates of a tree: a match of `node` in the forward direction begins at one of them, for any flags
 /// and any text.
 ///
 /// It may give up and return [`Candidates::Anywhere`]: it does so if an alternative does not begin with a `^` that is
-/// not multiline, and [`first_bytes`] returns `None`. No match has to begin at a candidate.
+/// not multiline, and [`first_bytes`] returns `None`. It is [`Candidates::Pair`] where [`first_pair`] returns one. No match has to begin at a candidate.
 ///
 /// # Complexity
-/// At most two passes over the tree, without allocations. The depth of recursion is the depth of the tree, where the
+/// At most three passes over the tree, without allocations. The depth of recursion is the depth of the tree, where the
 /// right sides of alternations do not count.
 pub fn candidates_of(node: &Node) -> Candidates
     ensures { AreCandidates result (tree node.now) }
 {
     if is_anchored(node) {
         return Candidates::Start;
+    }
+    if let Some(pair) = first_pair(node) {
+        return Candidates::Pair(pair);
     }
     match first_bytes(node) {
         Some(set) => Candidates::Bytes(set),
@@ -58,6 +64,7 @@ pub fn next_candidate_from(candidates: &Candidates, text: &str, from: usize) -> 
         Candidates::Anywhere => Some(from),
         Candidates::Start => { if from == 0 { Some(0) } else { None } }
         Candidates::Bytes(set) => next_candidate(set, text.as_bytes(), from),
+        Candidates::Pair(pair) => next_pair(pair, text.as_bytes(), from),
     }
 }
 

@@ -199,7 +199,7 @@ fn first_set_of_bytes(written: &[u8]) -> Option<FirstSet>
 }
 
 /// Returns the first bytes of a leaf that matches one character, if the leaf lists its characters.
-fn set_of(node: &Node) -> Option<ByteBitmap>
+pub(crate) fn set_of(node: &Node) -> Option<ByteBitmap>
     ensures { IfSome result (λ set. (takes_one (tree node.now) ≡ true) × ((c : ℕ) → test_of (tree node.now) c ≡ true → IsCovered (contains set) c)) }
 {
     let mut set = ByteBitmap::default();

@@ -19,7 +19,7 @@ use Rattle.regress_leaves.specs.Starts.{BeginsFolded}
 use Rattle.regress_leaves.proofs.ReadingLemmas.{ascii_after}
 use Rattle.regress_leaves.proofs.lemmas.Leaves.{all_no, any-cons, any-nil, one_yes, one_no}
 
-none_distinct : (states : List MatchState) → dedup states ≡ [] → states ≡ []
+pub none_distinct : (states : List MatchState) → dedup states ≡ [] → states ≡ []
 none_distinct [] is = refl
 none_distinct (s ∷ states) is = let bad : ⊥ = cc in absurd bad
 
