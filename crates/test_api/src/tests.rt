@@ -15,6 +15,7 @@ macro_rules! expect_eq {
 }
 
 mod calls;
+mod candidates;
 mod differences;
 mod examples;
 mod lengths;

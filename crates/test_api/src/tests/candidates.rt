@@ -1,0 +1,21 @@
+//! The offsets at which a search tries a pattern: those whose first two bytes can begin a match, or else the first.
+
+use super::parsed;
+use regress_prefilter::{candidates_of, next_candidate_from};
+use std::test::Fail;
+
+#[test]
+fn a_match_begins_with_two_bytes_that_the_pattern_determines(rt: HostRuntime) -> Result<(), Fail> {
+    for (pattern, text, wanted) in &[
+        ("[a-z][A-Z]", "ab AB cD", 6),
+        ("\\d{3}-", "1 12 123-", 2),
+        ("(?:x|yz)w", "x y yz", 4),
+        ("\\b(?=a)(a+)c", "a aa", 2),
+        ("a?b", "xax", 1),
+    ] {
+        let regex = parsed(rt.alloc(), pattern, false)?;
+        let found = next_candidate_from(&candidates_of(&regex.node), text, 0);
+        assert!(rt; found == Some(*wanted), "{}", pattern);
+    }
+    Ok(())
+}
