@@ -112,7 +112,7 @@ pub consume_terms-loop-self-init : goal.consume_terms-loop-self-init
 consume_terms-loop-self-init g t c =
     let around = c.args.around.now in
     let old = c.args.self.now in
-    rw (c.in_ok-push.ensures.items, c.new-parts.ensures.items) (
+    rw (c.in_ok-push.ensures.items, c.in_ok-parts.ensures.items) (
       (λ t before x goes_on found b.
           terms-first (table_in around) (names_in_context around) (direction_of around) (context_in around) around.depth t before c.args.first x (text old)
           (counted old) goes_on found b.node b.counts b.fits),
