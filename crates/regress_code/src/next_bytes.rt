@@ -48,8 +48,8 @@ pub fn next_bytes_of(
     Ok(next_bytes)
 }
 
-/// Returns the next bytes of an instruction, by those of the instructions before it.
-fn instruction_next_bytes(
+/// Returns the next bytes of an instruction, by those of the instructions before it that are known.
+pub fn instruction_next_bytes(
     tests: &[Test],
     known: &[NextBytes],
     instruction: Instruction,
@@ -151,7 +151,7 @@ fn assertion_next_bytes(node: &Node, after: NextBytes) -> NextBytes
 
 impl NextBytes {
     /// Returns what is known of one of two instructions.
-    fn or(self, other: NextBytes) -> NextBytes
+    pub fn or(self, other: NextBytes) -> NextBytes
         ensures in_order { (d : Direction) (text : List ℕ) (position : ℕ) (states more : List MatchState) →
             Bounds self d text position states → Bounds other d text position more → Bounds result d text position (states ++ more) }
         ensures reversed { (d : Direction) (text : List ℕ) (position : ℕ) (states more : List MatchState) →

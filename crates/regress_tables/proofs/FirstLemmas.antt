@@ -7,6 +7,7 @@ use Rattle.regress_tree.specs.Reading.{forwards, direction_if}
 use Rattle.regress_tree.specs.Steps.{MatchState}
 use Rattle.regress_program.specs.declared.instruction.Instruction.{Instruction}
 use Rattle.regress_program.specs.declared.instruction.Routine as declared
+use Rattle.regress_program.specs.Below.{row_of}
 use Rattle.regress_program.specs.Program.{Op, At, Out, Routine, IsSolution, accept, matcher_of, outcomes_by}
 use Rattle.regress_code.specs.Code.{code_routines}
 use Rattle.regress_program.specs.Views.{op_in, ops_in, routine_in}
@@ -18,16 +19,18 @@ use Rattle.regress_tables.specs.declared.slots.Slot.TheVariants as slots
 use Rattle.regress_tables.specs.declared.table.Table.{Table}
 use Rattle.regress_tables.specs.declared.walker.Walker.{Walker}
 use Rattle.regress_tables.specs.Evaluated.{CanFill}
-use Rattle.regress_tables.specs.Searchable.{IsFirstOutcome, IsSearchable, Solves, captures_in, outcomes_in, program_in, subject_of, width_at}
+use Rattle.regress_tables.specs.Searchable.{HasNoneIn, IsFirstOutcome, IsSearchable, Solves, captures_in, outcomes_in, program_in, subject_of, width_at}
 use Rattle.regress_tables.specs.Slots.{AreInside, IsClean, capture_in, is_set, resolved, set_groups}
 use Rattle.regress_program.specs.Contents.{no_ids}
 use Rattle.regress_program.specs.Ranges.{ranges_of}
 use Rattle.regress_program.specs.Tidy.{IsTidy}
 use Rattle.regress_program.proofs.lemmas.Tidy.{tidy-less}
-use Rattle.regress_tables.specs.Table.{IsFull, IsRight, IsTableOf, cell, has_outcome, index as index_of}
+use Rattle.regress_tables.specs.Memo.{row_bit}
+use Rattle.regress_tables.specs.Table.{IsFull, IsRight, IsTableOf, cell, has_outcome, index as index_of, number_of}
 use Rattle.regress_tables.specs.Walked.{at_of, Leads}
 use Rattle.regress_program.proofs.lemmas.Solutions.{solution}
 use Rattle.regress_tables.proofs.EvaluateLemmas.{full_tells, index-within}
+use Rattle.regress_tables.proofs.RowLemmas.{cell-number}
 use Rattle.regress_tables.proofs.StepLemmas.{not_backwards, walk_steps}
 use Rattle.regress_tables.proofs.WalkLemmas.{Leads-trans, entry-none, solved-by, walk-begins}
 
@@ -105,6 +108,7 @@ module _ (input : Input) (r : Routine) (t : Table) (op : Op) (first w : Walker) 
 -- the routine at an index, with its table
 pub record TableAt (f : Filled) (index : ℕ) (r : Routine) (t : Table) : Type 0 where
   pub is : slice_get (program_in f) index ≡ Some r
+  pub table : slice_get f.input.tables.now index ≡ Some t
   pub entry : r.entry < t.width
   pub of : IsTableOf f.input.text.now r t
   pub full : IsFull t
@@ -129,6 +133,7 @@ table-at f index x t searchable lt is_x is_t =
     let of = filled.are.of index r u is table in
     record {
       is = is;
+      table = table;
       entry = omega (arith, (f.input.code.now.program.is_program index r is).entry, of.width);
       of = of;
       full = filled.are.full index u table;
@@ -196,6 +201,19 @@ module _ (f : Filled) (index n position : ℕ) (r : Routine) (t : Table) (at : T
   first-none bit is none outs solves =
       entry-none (subject_of f).setting f.input.text.now (program_in f) outs index n position r t at.is (at.right outs solves) at.full at.entry
       (omega (arith, within, at.of.text)) (sym is ∙ none)
+
+  -- Nor from any other position of the same row.
+  pub none-in : (bit : Bool) → bit ≡ cell t r.entry true position → bit ≡ false →
+      HasNoneIn f index (number_of t (row_of (direction_if t.backwards) t.length position))
+  none-in bit is none t' m q is' in_text same =
+      let equal : t' ≡ t = same_Some t' t (sym is' ∙ at.table) in
+      let number : number_of t (row_of (direction_if t.backwards) t.length q) ≡ number_of t (row_of (direction_if t.backwards) t.length position) =
+      subst (λ (u : Table). number_of u (row_of (direction_if u.backwards) u.length q) ≡ number_of t (row_of (direction_if t.backwards) t.length position)) equal same in
+      let bits : cell t r.entry true q ≡ false =
+      cell-number t r.entry true q at.entry ∙ ap (λ k. row_bit t k r.entry true) number ∙ sym (cell-number t r.entry true position at.entry) ∙ sym is ∙ none in
+      λ outs solves.
+      entry-none (subject_of f).setting f.input.text.now (program_in f) outs index m q r t at.is (at.right outs solves) at.full at.entry
+      (omega (arith, in_text, at.of.text)) bits
 
   module _ (i : ℕ) (same : i ≡ index) (w v : Walker) (begins : Begins r n position w) (bit : Bool) (is : bit ≡ cell t r.entry true position) (holds : bit ≡ true)
       (ended : Bool) (walks : Walks f i t w v ended) where

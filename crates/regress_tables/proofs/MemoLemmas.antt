@@ -26,7 +26,7 @@ use Rattle.regress_tables.specs.declared.memo.Memo.{Memo}
 use Rattle.regress_tables.specs.declared.probe.Probe.{Probe}
 use Rattle.regress_tables.specs.declared.probe.Probe.TheVariants as probes
 use Rattle.regress_tables.specs.declared.table.Table.{Table}
-use Rattle.regress_tables.specs.Memo.{Covers, HasKey, IsEntry, IsKept, IsKnown, IsNear, IsSymbol, Knows, Represents, SameRows, row_bit}
+use Rattle.regress_tables.specs.Memo.{AreBytesOf, AreFarBytes, Covers, HasKey, IsEntry, IsKept, IsKnown, IsNear, IsSymbol, Knows, Represents, SameRows, row_bit}
 use Rattle.regress_tables.specs.Probes.{CanProbe, Coded, IsProbe, Leads, digit, jumps_if}
 use Rattle.regress_tables.specs.Symbols.{AreAlikeIn}
 use Rattle.regress_program.specs.Tidy.{has_no_back_reference}
@@ -145,6 +145,18 @@ represents-same input outs r t far x y row key solution can covers there here is
           pc moved (omega (arith, can.of.width, lt));
     }
 
+-- ---- the next bytes of far instructions
+
+abbrev pub HasFarBytes : Input → Routine → Memo → Type 0
+HasFarBytes input r memo =
+    AreFarBytes (subject input.rules input.text.now).setting input.text.now (subject input.rules input.text.now).direction r.ops memo.far.items memo.far_bytes
+
+far-bytes-same : (input : Input) (r : Routine) (memo memo' : Memo) → memo'.far.items ≡ memo.far.items → memo'.far_bytes ≡ memo.far_bytes →
+    HasFarBytes input r memo → HasFarBytes input r memo'
+far-bytes-same input r memo memo' far_is bytes_is bytes k pc op is is_op =
+    subst (AreBytesOf (subject input.rules input.text.now).setting input.text.now (subject input.rules input.text.now).direction op) (sym bytes_is)
+    (bytes k pc op (ap (λ far. slice_get far k) (sym far_is) ∙ is) is_op)
+
 -- ---- more rows
 
 module _ (t t' : Table) (extra : List Bool) (bits : bits_of t'.bits ≡ bits_of t.bits ++ extra) (same : SameShape t t') where
@@ -184,14 +196,15 @@ module _ (t t' : Table) (extra : List Bool) (bits : bits_of t'.bits ≡ bits_of 
   }
 
   -- What is known, after more bits, where the new entries have the key of a position and a row that represents it.
-  pub known-next : (input : Input) (r : Routine) (memo memo' : Memo) (x : ℕ) → IsKnown input r t memo → memo'.far.items ≡ memo.far.items →
+  pub known-next : (input : Input) (r : Routine) (memo memo' : Memo) (x : ℕ) → IsKnown input r t memo → memo'.far.items ≡ memo.far.items → memo'.far_bytes ≡ memo.far_bytes →
       memo'.symbols.tests ≡ memo.symbols.tests → ((outs : ℕ → Out) → IsSolution (subject input.rules input.text.now).setting input.text.now (code_routines input.code.now) outs →
       AreRight outs input.tables.now → Knows input outs r.ops t memo → IsRight (outs (length input.tables.now)) t'
       × ((key : Key) (row : ℕ) → IsKept memo' (Some key) row → IsKept memo (Some key) row
       ⊎ (Represents (outs (length input.tables.now)) t' row x × HasKey input outs r.ops t memo.far.items x key))) →
       IsKnown input r t' memo'
-  known-next input r memo memo' x known far_is tests_is each = record {
+  known-next input r memo memo' x known far_is bytes_is tests_is each = record {
     covers = subst (Covers r.ops) (sym far_is) known.covers;
+    bytes = far-bytes-same input r memo memo' far_is bytes_is known.bytes;
     tests = ap (λ s. s.now) tests_is ∙ known.tests;
     knows = λ outs solution right.
         let knows = known.knows outs solution right in
@@ -276,11 +289,12 @@ right-same out t t' bits same right = record {
 }
 
 -- Nothing is known of a table without a row.
-pub known-start : (input : Input) (r : Routine) (t : Table) (memo : Memo) → evaluated t ≡ [] → Covers r.ops memo.far.items →
+pub known-start : (input : Input) (r : Routine) (t : Table) (memo : Memo) → evaluated t ≡ [] → Covers r.ops memo.far.items → HasFarBytes input r memo →
     memo.symbols.tests.now ≡ input.code.now.program.leaves.items →
     ((key : Key) (row : ℕ) → IsKept memo (Some key) row → ⊥) → IsKnown input r t memo
-known-start input r t memo empty covers tests none = record {
+known-start input r t memo empty covers bytes tests none = record {
   covers = covers;
+  bytes = bytes;
   tests = tests;
   knows = λ outs solution right. record {
     right = record { tells = λ pc moved q lt le before. absurd (omega (arith, before, ap length empty)) };
@@ -341,7 +355,7 @@ module _ (input : Input) (r : Routine) (t : Table) (memo : Memo) (x : ℕ) (can 
   -- a row without a number
   pub known-flat : (t' : Table) (extra : List Bool) → Grows t t' extra → (IsFilled input t → IsFilled input t') → IsKnown input r t' memo
   known-flat t' extra grows filled =
-      known-next t t' extra grows.bits grows.shape input r memo memo x known refl refl
+      known-next t t' extra grows.bits grows.shape input r memo memo x known refl refl refl
       (λ outs solution right knows. (filled (λ outs' solution' right'. (known.knows outs' solution' right').right) outs solution right, λ k n kept. inl kept))
 
   module _ (numbered : length t.rows.items ≡ row_of (direction_if t.backwards) t.length x) (key : Option Key)
@@ -357,7 +371,7 @@ module _ (input : Input) (r : Routine) (t : Table) (memo : Memo) (x : ℕ) (can 
         evaluated t' ≡ evaluated t ++ row_bits t n → n < t.distinct → IsKept memo key n → IsKnown input r t' memo
     known-hit t' n same rows bits bits-more less kept =
         let bits' : bits_of t'.bits ≡ bits_of t.bits ++ [] = bits ∙ sym (append-nil (bits_of t.bits)) in
-        known-next t t' [] bits' same input r memo memo x known refl refl
+        known-next t t' [] bits' same input r memo memo x known refl refl refl
         (λ outs solution right knows.
         let out = outs (length input.tables.now) in
         let is : Represents out t n x = represents outs solution right knows key kept has in (
@@ -379,10 +393,10 @@ module _ (input : Input) (r : Routine) (t : Table) (memo : Memo) (x : ℕ) (can 
     -- the number of a row that was computed
     pub known-miss : (t' u : Table) (memo' : Memo) (n : ℕ) (extra : List Bool) → Grows t t' extra → (IsFilled input t → IsFilled input t') →
         SameShape t' u → u.rows.items ≡ t'.rows.items ++ n ∷ [] → bits_of u.bits ≡ take (u.distinct * (2 * t'.width)) (bits_of t'.bits) →
-        t'.distinct ≤ u.distinct → evaluated u ≡ evaluated t' → memo'.far.items ≡ memo.far.items →
+        t'.distinct ≤ u.distinct → evaluated u ≡ evaluated t' → memo'.far.items ≡ memo.far.items → memo'.far_bytes ≡ memo.far_bytes →
         memo'.symbols.tests ≡ memo.symbols.tests → ((k : Key) (m : ℕ) → IsKept memo' (Some k) m → IsKept memo (Some k) m ⊎ ((key ≡ Some k) × (m ≡ n))) →
         IsKnown input r u memo'
-    known-miss t' u memo' n extra grows filled shared rows bits le same far_is tests_is kept_is =
+    known-miss t' u memo' n extra grows filled shared rows bits le same far_is bytes_is tests_is kept_is =
         let shape : SameShape t u = SameShape-trans t t' u grows.shape shared in
         let m = u.distinct * (2 * t'.width) in
         let whole : t'.distinct * (2 * t'.width) ≡ length (bits_of t.bits) =
@@ -392,7 +406,7 @@ module _ (input : Input) (r : Routine) (t : Table) (memo : Memo) (x : ℕ) (can 
         let bits' : bits_of u.bits ≡ bits_of t.bits ++ take k extra =
         bits ∙ ap₂ take sum grows.bits ∙ take-append-add (bits_of t.bits) extra k in
         let rows' : u.rows.items ≡ t.rows.items ++ n ∷ [] = rows ∙ ap (λ xs. xs ++ n ∷ []) grows.rows in
-        known-next t u (take k extra) bits' shape input r memo memo' x known far_is tests_is
+        known-next t u (take k extra) bits' shape input r memo memo' x known far_is bytes_is tests_is
         (λ outs solution right knows.
         let out = outs (length input.tables.now) in
         let right' : IsRight out u = right-same out t' u same shared (filled (λ outs' solution' right'. (known.knows outs' solution' right').right) outs solution right) in
@@ -415,6 +429,7 @@ module _ (input : Input) (r : Routine) (t : Table) (memo : Memo) (x : ℕ) (can 
 pub known-same : (input : Input) (r : Routine) (t : Table) (memo memo' : Memo) → SameRows memo memo' → IsKnown input r t memo → IsKnown input r t memo'
 known-same input r t memo memo' same known = record {
   covers = subst (Covers r.ops) (sym same.far) known.covers;
+  bytes = far-bytes-same input r memo memo' same.far same.bytes known.bytes;
   tests = ap (λ s. s.now) same.tests ∙ known.tests;
   knows = λ outs solution right.
       let knows = known.knows outs solution right in

@@ -4,6 +4,7 @@ pub mod Filled
 pub mod Memo
 pub mod Memory
 pub mod Probes
+pub mod RowSets
 pub mod Search
 pub mod Searchable
 pub mod Slots

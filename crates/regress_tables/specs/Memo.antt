@@ -2,10 +2,13 @@
 use Rattle.std.specs.Prelude.{◌≡◌, ◌≢◌, ℕ, ◌+◌, ◌-◌, ◌*◌, ◌<◌, ◌≤◌, ◌⊎◌, Bool, true, false, List, length, slice_get, slice_index_or, Option, Some, None}
 use Rattle.regress_prefilter.specs.OneCharacter.{takes_one}
 use Rattle.regress_leaves.specs.Subject.{subject}
-use Rattle.regress_tree.specs.Reading.{Read, next_character, of_bytes}
+use Rattle.regress_tree.specs.Reading.{Direction, Read, next_character, of_bytes}
+use Rattle.regress_tree.specs.Steps.{Matcher, Setting}
 use Rattle.regress_program.specs.Below.{column}
-use Rattle.regress_program.specs.Program.{Op, Out, Routine, IsSolution, part, look, matcher_of}
+use Rattle.regress_program.specs.Program.{At, Op, Out, Routine, IsSolution, part, look, matcher_of, outcomes_by}
 use Rattle.regress_code.specs.Code.{code_routines}
+use Rattle.regress_code.specs.NextBytes.{Bounds}
+use Rattle.regress_code.specs.declared.next_bytes.NextBytes.{NextBytes}
 use Rattle.regress_tables.specs.Bits.{bits_of}
 use Rattle.regress_tables.specs.Probes.{Coded}
 use Rattle.regress_tables.specs.Symbols.{AreAlikeIn}
@@ -37,9 +40,19 @@ IsNear (part t next) = takes_one t ≡ true
 IsNear (look negate routine next) = ⊥
 IsNear op = Unit {0}
 
+-- The next bytes of an instruction, whatever has an outcome after it.
+abbrev pub AreBytesOf : Setting → (text : List ℕ) → Direction → Op → NextBytes → Type 0
+AreBytesOf setting text d op bytes = (body_of : ℕ → Matcher) (out : Out) (a : At) →
+    Bounds bytes d text a.state.position (outcomes_by setting text d body_of out op a)
+
 -- All other instructions are listed.
 abbrev pub Covers : List Op → (far : List ℕ) → Type 0
 Covers ops far = (pc : ℕ) (op : Op) → slice_get ops pc ≡ Some op → IsNear op ⊎ ((k : ℕ) × (slice_get far k ≡ Some pc))
+
+-- Where these bytes are excluded, none of those has an outcome.
+abbrev pub AreFarBytes : Setting → (text : List ℕ) → Direction → List Op → (far : List ℕ) → NextBytes → Type 0
+AreFarBytes setting text d ops far bytes = (k pc : ℕ) (op : Op) → slice_get far k ≡ Some pc → slice_get ops pc ≡ Some op →
+    AreBytesOf setting text d op bytes
 
 -- The row at a position is computed from this.
 pub record HasKey (input : Input) (outs : ℕ → Out) (ops : List Op) (t : Table) (far : List ℕ) (position : ℕ) (key : Key) : Type 0 where
@@ -68,6 +81,7 @@ pub record SameRows (memo memo' : Memo) : Type 0 where
   pub far : memo'.far.items ≡ memo.far.items
   pub direct : memo'.direct.items ≡ memo.direct.items
   pub slots : memo'.slots.items ≡ memo.slots.items
+  pub bytes : memo'.far_bytes ≡ memo.far_bytes
   pub tests : memo'.symbols.tests ≡ memo.symbols.tests
 
 -- The row with this number is that of a position with this key.
@@ -84,6 +98,7 @@ pub record Knows (input : Input) (outs : ℕ → Out) (ops : List Op) (t : Table
 -- That holds with any outcomes of the program, if the tables before are right.
 pub record IsKnown (input : Input) (r : Routine) (t : Table) (memo : Memo) : Type 0 where
   pub covers : Covers r.ops memo.far.items
+  pub bytes : AreFarBytes (subject input.rules input.text.now).setting input.text.now (subject input.rules input.text.now).direction r.ops memo.far.items memo.far_bytes
   pub tests : memo.symbols.tests.now ≡ input.code.now.program.leaves.items
   pub knows : (outs : ℕ → Out) → IsSolution (subject input.rules input.text.now).setting input.text.now (code_routines input.code.now) outs →
       AreRight outs input.tables.now → Knows input outs r.ops t memo

@@ -1,18 +1,24 @@
 -- Searching by tables.
 use Rattle.std.specs.Prelude.{◌≡◌, ℕ, ◌≤◌, true, List, [], ◌∷◌, length, slice_get, Option, Some, None}
 use Rattle.regress_leaves.specs.Subject.{Subject, subject}
+use Rattle.regress_tree.specs.Reading.{direction_if}
 use Rattle.regress_tree.specs.Steps.{CaptureSpan, MatchState}
 use Rattle.regress_found.specs.Found.{initial_state}
+use Rattle.regress_program.specs.Below.{row_of}
 use Rattle.regress_program.specs.Program.{Out, Routine, IsSolution, matcher_of}
 use Rattle.regress_program.specs.Ranges.{inner_groups}
 use Rattle.regress_program.specs.Tidy.{is_tabled}
 use Rattle.regress_code.specs.Code.{code_routines, code_tidy}
 use Rattle.regress_tables.specs.declared.filled.Filled.{Filled}
 use Rattle.regress_tables.specs.declared.first.FirstOutcome.{FirstOutcome}
+use Rattle.regress_tables.specs.declared.row_set.RowSet.{RowSet}
 use Rattle.regress_tables.specs.declared.slots.Slot.{Slot}
 use Rattle.regress_tables.specs.declared.slots.Slot.TheVariants as slots
+use Rattle.regress_tables.specs.declared.table.Table.{Table}
 use Rattle.regress_tables.specs.Filled.{AreFilled}
+use Rattle.regress_tables.specs.RowSets.{Has}
 use Rattle.regress_tables.specs.Slots.{AreInside, capture_in, resolved, value}
+use Rattle.regress_tables.specs.Table.{number_of}
 
 -- the program, and the text with the flags and case mappings
 abbrev pub program_in : Filled → List Routine
@@ -51,6 +57,15 @@ abbrev pub IsFirstOutcome : Filled → (index n position : ℕ) → Option First
 IsFirstOutcome f index n position None = (outs : ℕ → Out) → Solves f outs → outcomes_in f outs index n position ≡ []
 IsFirstOutcome f index n position (Some o) = (outs : ℕ → Out) → Solves f outs → (rest : List MatchState) ×
     (outcomes_in f outs index n position ≡ record { position = o.end; captures = resolved (captures_in f outs n) o.slots.items } ∷ rest)
+
+-- The routine has no outcome from any position whose row has this number.
+abbrev pub HasNoneIn : Filled → (index number : ℕ) → Type 0
+HasNoneIn f index number = (t : Table) (n position : ℕ) → slice_get f.input.tables.now index ≡ Some t → position ≤ length f.input.text.now →
+    number_of t (row_of (direction_if t.backwards) t.length position) ≡ number → IsFirstOutcome f index n position None
+
+-- Nor from any whose row has a number of the set.
+abbrev pub HasNoneInAny : Filled → (index : ℕ) → RowSet → Type 0
+HasNoneInAny f index rows = (number : ℕ) → Has rows number → HasNoneIn f index number
 
 -- The outcome ends inside the text, and lookarounds of earlier routines have set its groups.
 pub record IsEnd (f : Filled) (index n : ℕ) (o : FirstOutcome) : Type 0 where

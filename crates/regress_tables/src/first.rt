@@ -2,10 +2,12 @@
 ghost use Rattle.std.specs.Prelude.{◌≡◌, ◌≤◌, ◌<◌, ◌+◌, ◌-◌, ◌*◌, ℕ, IfOk, IfSome, None, Some, false, length, slice_get};
 ghost use Rattle.regress_tree.specs.Reading.{forwards};
 ghost use Rattle.regress_program.specs.Program.{Routine as Code};
-ghost use Rattle.regress_tables.specs.Searchable.{IsEnd, IsFirstOutcome, IsSearchable, program_in, width_at};
+ghost use Rattle.regress_tables.specs.Searchable.{HasNoneInAny, IsEnd, IsFirstOutcome, IsSearchable, program_in, width_at};
 
+use crate::cells::row_of;
 use crate::evaluate::Input;
 use crate::filled::Filled;
+use crate::row_set::RowSet;
 use crate::slots::{Slot, unset_slots};
 use crate::walk::walk;
 use crate::walker::Walker;
@@ -21,15 +23,32 @@ pub(crate) struct FirstOutcome {
     pub(crate) slots: Vec<Slot>,
 }
 
-/// Returns whether a routine has an outcome from a position.
-pub(crate) fn has_first(filled: Filled<'_, '_>, index: usize, position: usize) -> bool
+/// Returns whether a routine has an outcome from a position. Rows without one are added to `failed`.
+#[inline(always)]
+pub(crate) fn has_first(
+    filled: Filled<'_, '_>,
+    index: usize,
+    position: usize,
+    failed: &mut RowSet,
+) -> bool
     requires searchable { IsSearchable filled }
     requires index { index < length (program_in filled) }
     requires position { position ≤ length filled.input.text.now }
+    requires failed { HasNoneInAny filled index failed.old }
     ensures none { result ≡ false → (groups : ℕ) → IsFirstOutcome filled.entry index groups position None }
+    ensures failed { HasNoneInAny filled.entry index failed.new }
 {
     let entry = filled.input.code.program.routines[index].entry;
-    filled.input.tables[index].cell(entry, true, position)
+    let table = &filled.input.tables[index];
+    let number = table.number_of(row_of(table.backwards, table.length, position));
+    if failed.contains(number) {
+        return false;
+    }
+    if table.cell(entry, true, position) {
+        return true;
+    }
+    failed.insert(number);
+    false
 }
 
 /// Returns the first outcome of a routine from a position, with all groups unset, or `None` if there is none.

@@ -8,7 +8,7 @@ ghost use Rattle.regress_program.specs.Tidy.{has_no_back_reference};
 ghost use Rattle.regress_program.specs.Views.{routine_in};
 ghost use Rattle.regress_code.specs.Code.{code_routines};
 ghost use Rattle.regress_tables.specs.Evaluated.{CanFill};
-ghost use Rattle.regress_tables.specs.Memo.{HasKey, IsKept, SameRows};
+ghost use Rattle.regress_tables.specs.Memo.{AreFarBytes, HasKey, IsKept, SameRows};
 ghost use Rattle.regress_tables.specs.Probes.{Coded, digit};
 ghost use Rattle.regress_tables.specs.Table.{AreRight, AreTables, IsRight, evaluated, index};
 
@@ -69,7 +69,7 @@ pub(crate) fn key_at(
 }
 
 /// Returns the number of the next row, below that of the rows of the table, if it is found directly: by the number of the row
-/// that was filled last and an ASCII character. Each row so far has a number.
+/// that was filled last and an ASCII character, at which no far instruction has an outcome. Each row so far has a number.
 pub(crate) fn direct_row(
     input: &Input<'_, '_>,
     routine: &Routine,
@@ -80,6 +80,8 @@ pub(crate) fn direct_row(
     requires can { CanFill input.now (routine_in input.now.code.now.program.leaves.items routine.now) table.now }
     requires position { position ≤ table.now.length }
     requires numbered { length table.now.rows.items ≡ row_of (direction_if table.now.backwards) table.now.length position }
+    requires bytes { let u = subject input.now.rules input.now.text.now in
+        AreFarBytes u.setting u.bytes u.direction (routine_in input.now.code.now.program.leaves.items routine.now).ops memo.now.far.items memo.now.far_bytes }
     requires tests { memo.now.symbols.tests.now ≡ input.now.code.now.program.leaves.items }
     ensures number { IfSome result (λ number. number < table.now.distinct) }
     ensures kept { IfSome result (λ number. (key : Key) × IsKept memo.now (Some key) number × ((outs : ℕ → Out) → AreRight outs input.now.tables.now →
@@ -87,7 +89,13 @@ pub(crate) fn direct_row(
         IsRight (outs (length input.now.tables.now)) table.now → HasKey input.now outs ops table.now memo.now.far.items position key))) }
 {
     let rows = table.rows.len();
-    if rows == 0 || memo.far.len() > 0 {
+    if rows == 0 {
+        return None;
+    }
+    if !memo
+        .far_bytes
+        .excludes(input.text, input.rules.backwards, position)
+    {
         return None;
     }
     let (c, _) = next_ascii(input.text, input.rules.backwards, position)?;

@@ -7,12 +7,13 @@ ghost use Rattle.regress_found.specs.Found.{Finds, state_of};
 ghost use Rattle.regress_found.specs.Tried.{positions_tried};
 ghost use Rattle.regress_program.specs.Program.{Out};
 ghost use Rattle.regress_tables.specs.Search.{capturing_steps, steps_up_to, walk_weight};
-ghost use Rattle.regress_tables.specs.Searchable.{IsFirstOutcome, IsSearchable, Solves, outcomes_in, program_in};
+ghost use Rattle.regress_tables.specs.Searchable.{HasNoneInAny, IsFirstOutcome, IsSearchable, Solves, outcomes_in, program_in};
 
 use crate::filled::Filled;
 use crate::first::{first_outcome, has_first};
 use crate::found::Search;
 use crate::resolve::resolve;
+use crate::row_set::RowSet;
 use crate::slots::captures_of;
 use regress_found::Match;
 use regress_program::blocks::blocks;
@@ -41,9 +42,10 @@ pub(crate) fn find_leftmost(
     let last = filled.input.code.program.routines.len() - 1;
     let mut tried: u64 = 0;
     let mut walked = 0;
+    let mut failed = RowSet::new();
     for start in from..filled.input.text.len() + 1 {
         tried += 1;
-        if may_start(filled, last, start) {
+        if may_start(filled, last, start, &mut failed) {
             if let Some(mut first) = first_outcome(
                 alloc,
                 filled,
@@ -67,16 +69,20 @@ pub(crate) fn find_leftmost(
     })
 }
 
-/// Returns whether a match may start at a position: on a character boundary, where the last routine has an outcome.
-fn may_start(filled: Filled<'_, '_>, last: usize, position: usize) -> bool
+/// Returns whether a match may start at a position: on a character boundary, where the last routine has an outcome. Rows
+/// without one are added to `failed`.
+#[inline(always)]
+fn may_start(filled: Filled<'_, '_>, last: usize, position: usize, failed: &mut RowSet) -> bool
     requires searchable { IsSearchable filled }
     requires last { last < length (program_in filled) }
     requires position { position ≤ length filled.input.text.now }
+    requires failed { HasNoneInAny filled last failed.old }
     ensures boundary { result ≡ true → IsCharBoundary filled.entry.input.text.now position }
     ensures none { result ≡ false → IsCharBoundary filled.entry.input.text.now position →
         (groups : ℕ) → IsFirstOutcome filled.entry last groups position None }
+    ensures failed { HasNoneInAny filled.entry last failed.new }
 {
-    has_first(filled, last, position) && filled.input.text.is_char_boundary(position)
+    has_first(filled, last, position, failed) && filled.input.text.is_char_boundary(position)
 }
 
 /// Returns the steps of a search that has found a match: the positions that it tried, the captures of the match, and the

@@ -15,6 +15,7 @@ mod memo;
 mod memory;
 mod probe;
 mod resolve;
+mod row_set;
 mod rows;
 mod search;
 mod slots;

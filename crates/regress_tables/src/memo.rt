@@ -1,10 +1,14 @@
 //! Rows that were filled, by what they were computed from.
 ghost use Rattle.std.specs.Prelude.{◌≡◌, ◌≢◌, ◌<◌, ℕ, ◌⊎◌, All, IfOk, IfSome, None, Some, false, slice_get, true};
+ghost use Rattle.regress_leaves.specs.Subject.{subject};
+ghost use Rattle.regress_program.specs.Program.{Op};
 ghost use Rattle.regress_program.specs.Views.{op_in, ops_in};
-ghost use Rattle.regress_tables.specs.Memo.{Covers, IsDirect, IsKept, IsNear, direct_index};
+ghost use Rattle.regress_tables.specs.Memo.{AreBytesOf, AreFarBytes, Covers, IsDirect, IsKept, IsNear, direct_index};
 
 use crate::evaluate::Input;
 use crate::symbols::Symbols;
+use regress_base::bytesearch::ByteBitmap;
+use regress_code::next_bytes::{NextBytes, instruction_next_bytes};
 use regress_leaves::leaves::takes_one;
 use regress_program::instruction::{Instruction, Routine};
 use std::alloc::{AllocError, Global};
@@ -34,6 +38,8 @@ pub struct Entry {
 pub(crate) struct Memo<'t> {
     /// The instructions that look at the text, but for those that match one character.
     pub(crate) far: Vec<usize>,
+    /// The next bytes of all of those.
+    pub(crate) far_bytes: NextBytes,
     /// The representatives of characters.
     pub(crate) symbols: Symbols<'t>,
     /// Rows by the number of the row that they follow and the representative of the next character, for ASCII characters at
@@ -65,13 +71,18 @@ impl<'t> Memo<'t> {
         routine: &Routine,
     ) -> Result<Memo<'t>, AllocError>
         ensures covers { IfOk result (λ memo. Covers (ops_in input.entry.code.now.program.leaves.items routine.now.instructions.items) memo.far.items) }
+        ensures bytes { IfOk result (λ memo. (let u = subject input.entry.rules input.entry.text.now in
+            AreFarBytes u.setting u.bytes u.direction (ops_in input.entry.code.now.program.leaves.items routine.now.instructions.items) memo.far.items memo.far_bytes)) }
         ensures tests { IfOk result (λ memo. memo.symbols.tests.now ≡ input.entry.code.now.program.leaves.items) }
         ensures empty { IfOk result (λ memo. (key : Key) (row : ℕ) → IsKept memo (Some key) row → ⊥) }
     {
         let count = SLOTS.min(input.text.len() + 1);
         let rows = DIRECT_ROWS.min(input.text.len() / POSITIONS);
+        let far = far_of(alloc, input, routine)?;
+        let far_bytes = far_bytes_of(input, routine, &far);
         Ok(Memo {
-            far: far_of(alloc, input, routine)?,
+            far,
+            far_bytes,
             symbols: Symbols::new(&input.code.program.leaves, rows > 0),
             direct: vec![in alloc; 0; rows * 128]?,
             slots: empty_slots(alloc, count)?,
@@ -106,6 +117,7 @@ impl<'t> Memo<'t> {
     /// Keeps the number of a row by what it was computed from, if that is known.
     pub(crate) fn add(&mut self, key: Option<Key>, row: usize)
         ensures far { self.new.far.items ≡ self.old.far.items }
+        ensures bytes { self.new.far_bytes ≡ self.old.far_bytes }
         ensures tests { self.new.symbols.tests ≡ self.old.symbols.tests }
         ensures kept { (k : Key) (n : ℕ) → IsKept self.new (Some k) n → IsKept self.old (Some k) n ⊎ ((key ≡ Some k) × (n ≡ row)) }
     {
@@ -172,6 +184,36 @@ fn far_of(alloc: Global, input: Input<'_, '_>, routine: &Routine) -> Result<Vec<
         }
     }
     Ok(far)
+}
+
+/// Returns the next bytes of these instructions, together.
+fn far_bytes_of(input: Input<'_, '_>, routine: &Routine, far: &[usize]) -> NextBytes
+    ensures { let u = subject input.entry.rules input.entry.text.now in
+        AreFarBytes u.setting u.bytes u.direction (ops_in input.entry.code.now.program.leaves.items routine.now.instructions.items) far.now result }
+{
+    let mut bytes = NextBytes::Bytes(ByteBitmap::default());
+    for k in 0..far.len() {
+        bytes = bytes.or(bytes_at(input, routine, far[k]));
+    }
+    bytes
+}
+
+/// Returns the next bytes of an instruction, whatever follows it; none if there is no instruction with this index.
+fn bytes_at(input: Input<'_, '_>, routine: &Routine, pc: usize) -> NextBytes
+    ensures { (op : Op) → slice_get (ops_in input.entry.code.now.program.leaves.items routine.now.instructions.items) pc ≡ Some op →
+        (let u = subject input.entry.rules input.entry.text.now in AreBytesOf u.setting u.bytes u.direction op result) }
+{
+    if pc >= routine.instructions.len() {
+        return NextBytes::Bytes(ByteBitmap::default());
+    }
+    let folds = input.rules.known.has_ascii_case(input.rules.flags);
+    instruction_next_bytes(
+        &input.code.program.leaves,
+        &[],
+        routine.instructions[pc],
+        input.rules.backwards,
+        folds,
+    )
 }
 
 /// Returns whether an instruction looks at the text, and does not match one character.

@@ -137,7 +137,7 @@ pub(crate) fn low_bits(word: u64, count: usize) -> u64
 }
 
 /// Returns a word with one bit changed.
-fn with_bit(word: u64, at: usize, bit: bool) -> u64
+pub(crate) fn with_bit(word: u64, at: usize, bit: bool) -> u64
     requires { at < 64 }
     ensures same { bit_at result at ≡ (if bit then 1 else 0) }
     ensures other { (i : ℕ) → i < 64 → i ≢ at → bit_at result i ≡ bit_at word i }

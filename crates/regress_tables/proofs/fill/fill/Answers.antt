@@ -43,7 +43,7 @@ loop-row-init c = record {
   };
   backwards = c.in_ok-table.ensures.backwards;
   rows = ap length c.in_ok-table.ensures.empty ∙ omega arith;
-  known = known-start _ _ c.in_ok-table.table c.in_ok-memo.memo c.in_ok-table.ensures.empty c.in_ok-memo.ensures.covers c.in_ok-memo.ensures.tests c.in_ok-memo.ensures.empty;
+  known = known-start _ _ c.in_ok-table.table c.in_ok-memo.memo c.in_ok-table.ensures.empty c.in_ok-memo.ensures.covers c.in_ok-memo.ensures.bytes c.in_ok-memo.ensures.tests c.in_ok-memo.ensures.empty;
 }
 
 pub returns-clause-full : goal.returns-clause-full

@@ -100,7 +100,7 @@ returns-clause-known c =
     let r = routine_in c.args.input.now.code.now.program.leaves.items c.args.routine.now in
     known-miss c.args.input.now r t memo c.args.position c.requires.can c.requires.position c.requires.at c.requires.known c.requires.numbered c.key_at-key.result c.key_at-key.ensures.key
     c.fill_both.new.table c.share.new.self c.add.new.self n both.grows.0 both.grows.1 both.filled shared.shape shared.rows shared.bits shared.distinct shared.evaluated
-    (c.add.ensures.far ∙ found.far ∙ same.far) (c.add.ensures.tests ∙ found.tests ∙ same.tests)
+    (c.add.ensures.far ∙ found.far ∙ same.far) (c.add.ensures.bytes ∙ found.bytes ∙ same.bytes) (c.add.ensures.tests ∙ found.tests ∙ same.tests)
     (λ k m is. elim (c.add.ensures.kept k m is) [
       | inl old ↦ inl (kept-same memo c.key_at-key.new.memo same (Some k) m (kept-same c.key_at-key.new.memo c.first_equal-number.new.memo found (Some k) m old))
       | inr new ↦ inr new

@@ -1,18 +1,19 @@
-use Rattle.std.proofs.Common.{◌≡◌, ◌<◌, ◌+◌, ◌-◌, ◌*◌, ℕ, List, [], Some, length, slice_get, refl, sym, ap, ◌∙◌, subst, inr, arith}
-use Rattle.std.proofs.lemmas.List.{get_or_read, nil_from_length}
+use Rattle.std.proofs.Common.{◌≡◌, ◌<◌, ◌+◌, ◌-◌, ◌*◌, Some, length, slice_get, refl, sym, ap, ◌∙◌, subst, inr, arith}
+use Rattle.std.proofs.lemmas.List.{get_or_read}
 use Rattle.std.proofs.lemmas.Option.{slice_get_read}
 use Rattle.regress_leaves.specs.Subject.{subject}
 use Rattle.regress_tree.specs.Reading.{Read, direction_if, next_character, of_bytes}
 use Rattle.regress_program.specs.Below.{row_of}
-use Rattle.regress_program.specs.Program.{matcher_of}
+use Rattle.regress_program.specs.Program.{matcher_of, outcomes_by}
 use Rattle.regress_program.specs.Views.{routine_in}
 use Rattle.regress_code.specs.Code.{code_routines}
+use Rattle.regress_code.specs.NextBytes.{Bounds}
 use Rattle.regress_tables.specs.Memo.{Represents, direct_index}
 use Rattle.regress_tables.specs.declared.memo.Key.{Key}
-use Rattle.regress_tables.specs.Probes.{Coded}
 use Rattle.regress_tables.specs.Symbols.{AreAlike, AreAlikeIn}
 use Rattle.regress_tables.specs.Table.{number_of}
 use Rattle.regress_tables.proofs.AsciiLemmas.{row-behind}
+use Rattle.regress_tables.proofs.FarLemmas.{none-coded}
 use Rattle.regress_tables.proofs.MemoLemmas.{key-some, represented}
 use Rattle.regress_tables.proofs.SymbolLemmas.{alike-in}
 use Rattle.regress_tables.proofs.keys.direct_row.Goals as goal
@@ -35,8 +36,6 @@ returns-clause-kept c =
     let key : Key = record { symbol = symbol + 1; from = from; probes = 0 } in
     let here = c.in_ok-c.ensures in
     let some : 0 < length t.rows.items = omega (arith, c.if-rows-eq0.false) in
-    let listed : length memo.far.items ≡ 0 = omega arith in
-    let none : memo.far.items ≡ [] = nil_from_length memo.far.items listed in
     let is : next_character d (of_bytes u.bytes) x ≡ Some read = ap (λ b. next_character (direction_if b) (of_bytes u.bytes) x) c.requires.can.backwards ∙ here.1 in
     let behind = row-behind d u.bytes t.length x read is here.0 (omega (arith, some, c.requires.numbered)) c.requires.position in
     let last : row_of d t.length read.position ≡ length t.rows.items - 1 = omega (arith, behind.0, c.requires.numbered) in
@@ -55,8 +54,12 @@ returns-clause-kept c =
       key,
       inr ((refl, omega arith, omega (arith, c.in_ok-symbol.ensures.ascii)), ap (slice_get memo.direct.items) at ∙ found),
       λ outs tables right.
-          let coded = subst (λ (far : List ℕ). Coded u.setting u.bytes u.direction (matcher_of u.setting u.bytes (code_routines input.code.now) outs)
-          (outs (length input.tables.now)) r.ops far x 0) (sym none) refl in
+          let body_of = matcher_of u.setting u.bytes (code_routines input.code.now) outs in
+          let out = outs (length input.tables.now) in
+          let coded = none-coded u.setting u.bytes u.direction body_of out r.ops x memo.far.items
+          (λ k pc op is is_op a at. c.excludes.ensures c.if-not-excludes.false (outcomes_by u.setting u.bytes u.direction body_of out op a)
+          (subst (λ p. Bounds memo.far_bytes u.direction u.bytes p (outcomes_by u.setting u.bytes u.direction body_of out op a)) at
+          (c.requires.bytes k pc op is is_op body_of out a))) in
           key-some input outs r.ops t memo.far.items x key (omega (arith, c.requires.position, c.requires.can.of.text)) coded
           read here.1 (omega arith) alike behind.2
           (subst (λ k. Represents (outs (length input.tables.now)) t k read.position) from_is

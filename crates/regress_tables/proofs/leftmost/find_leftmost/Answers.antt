@@ -80,6 +80,7 @@ loop-start-preserved c =
           record {
             tried = omega (arith, c.loop-start.invariant.tried, c.loop-start-test.true, c.loop-start.auto.start);
             walked = w.walked-is ∙ w.in_ok-first.ensures.none w.in_default.is ∙ c.loop-start.invariant.walked;
+            failed = c.may_start.ensures.failed;
             none = λ outs solves.
                 none-more f.input.text.now (at outs) c.args.from start (c.loop-start.invariant.none outs solves)
                 (λ on. ap (λ k. outcomes_in f outs k n start) index ∙ (subst (IsFirstOutcome f last n start) w.in_default.is w.in_ok-first.ensures.first) outs solves);
@@ -88,6 +89,7 @@ loop-start-preserved c =
           record {
             tried = omega (arith, c.loop-start.invariant.tried, c.loop-start-test.true, c.loop-start.auto.start);
             walked = w.walked-is ∙ c.loop-start.invariant.walked;
+            failed = c.may_start.ensures.failed;
             none = λ outs solves.
                 none-more f.input.text.now (at outs) c.args.from start (c.loop-start.invariant.none outs solves)
                 (λ on. ap (λ k. outcomes_in f outs k n start) index ∙ c.may_start.ensures.none w.if-may_start.false on n outs solves);
