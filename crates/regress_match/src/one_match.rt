@@ -10,7 +10,6 @@ ghost use Rattle.regress_match.specs.Pattern.{matcher_outcomes, matcher_tree};
 
 use crate::iteration::outcome_of;
 use crate::matcher::Matcher;
-use crate::searches::steps_before_tables;
 use regress_found::{Found, MemoryFault, Outcome};
 use regress_tables::Linear;
 use std::alloc::Global;
@@ -43,7 +42,7 @@ impl Matcher {
         ensures bounded { IfOk result (λ found. IfSome (find_factor_of self.now) (λ n. IsLinear n text.now found.outcome found.steps)) }
         ensures too_much { IfErr result (λ fault. fault ≡ TooMuchMemory → TablesNeedMore self.now text.now) }
     {
-        let first = self.find_first(alloc, text, from, steps_before_tables(text))?;
+        let first = self.find_first(alloc, text, from, self.steps_before_tables(text))?;
         let steps = first.steps;
         match first.outcome {
             Outcome::OutOfSteps => {

@@ -18,8 +18,14 @@ use regress_backtrack::match_at;
 use regress_found::{Found, Match, MemoryFault, Outcome};
 use std::alloc::{AllocError, Global};
 
-/// The number of steps of backtracking for each byte of a text, and once more, after which tables are made.
-const BACKTRACKING_STEPS: u64 = 64;
+/// The least and the largest number of steps of backtracking for each byte of a text, and once more, after which tables are
+/// made.
+const LEAST_STEPS: u64 = 8;
+
+const MOST_STEPS: u64 = 64;
+
+/// How many more there are, so that a short text is searched without tables where a long one is not.
+const MORE_STEPS: u64 = 4096;
 
 impl Matcher {
     /// Returns the leftmost match in `text` that starts at the byte offset `from` or later, on a character boundary, and
@@ -223,16 +229,20 @@ impl Matcher {
         ensures limited { IfNone (factor_of self.now) (result ≡ steps) }
     {
         if self.is_linear() {
-            steps_before_tables(text)
+            self.steps_before_tables(text)
         } else {
             steps
         }
     }
-}
 
-/// Returns the number of steps of backtracking after which tables are made.
-pub(crate) fn steps_before_tables(text: &str) -> u64
-    ensures { result ≤ 64 * (length text.now + 1) }
-{
-    (text.len() as u64 + 1).saturating_mul(BACKTRACKING_STEPS)
+    /// Returns the number of steps of backtracking after which tables are made. It grows with the number of instructions,
+    /// as their time does.
+    pub(crate) fn steps_before_tables(&self, text: &str) -> u64
+        ensures { result ≤ 64 * (length text.now + 1) }
+    {
+        let bytes = text.len() as u64 + 1;
+        let each = LEAST_STEPS.max(self.code.instructions() as u64);
+        let steps = bytes.saturating_mul(each).saturating_add(MORE_STEPS);
+        steps.min(bytes.saturating_mul(MOST_STEPS))
+    }
 }
