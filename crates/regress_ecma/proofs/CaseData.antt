@@ -13,6 +13,7 @@ use Rattle.regress_ucd.specs.UnicodeTable.{unicode_parts, unicode_table}
 use Rattle.regress_ucd.proofs.lemmas.ValidTable.{unicode_valid}
 use Rattle.regress_ecma.specs.Differences.{HasCaseDataOfUnicode, HasVariantsIn, unlike, cased_beyond_ascii, cased}
 use Rattle.regress_ecma.specs.Compared.{IsOfUnicode}
+use Rattle.regress_ecma.specs.GroupNames.{HasIdentifiers}
 use Rattle.regress_ecma.specs.ClassSetExpressions.{HasPropertiesOfStrings}
 use Rattle.regress_ecma.proofs.Outside.{is_outside, is_inside, inside, carried}
 use Rattle.regress_ecma.proofs.Sets.{same_truth}
@@ -223,3 +224,7 @@ unicode_data = record {
 pub unicode_properties : HasPropertiesOfStrings unicode_table
 unfolding unicode_table unicode_parts unicode_strings
 unicode_properties = refl
+
+-- Its identifiers have no delimiter.
+pub unicode_identifiers : HasIdentifiers unicode_table
+unicode_identifiers = (unicode_valid.id_start_ascii, unicode_valid.id_continue_ascii)

@@ -89,7 +89,7 @@ by_value (Some (value, t)) = by_case (is_lead value) is_lead_first (λ lead. by_
         (ap (λ (second : Found ℕ). option_or (second >>= λ (trail, rest). Some (pair_value value trail, rest)) (Some (value, t))) (trail_same t)
         ∙ by_second (trail_surrogate_at t))
 
-u_escape : (t : Source) → unicode_escape true (char "u" ∷ t) ≡ unicode_at t
+pub u_escape : (t : Source) → unicode_escape true (char "u" ∷ t) ≡ unicode_at t
 unfolding unicode_at
 u_escape [] = refl
 u_escape (c ∷ t) =

@@ -56,3 +56,5 @@ mod DerivedUnions
 mod DerivedClassSets
 mod CodeUnits
 mod Examples
+mod QuantifierNodes
+mod GroupNameNodes

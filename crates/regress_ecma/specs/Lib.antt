@@ -16,3 +16,5 @@ pub mod CodeUnits
 pub mod CharacterEscapes
 pub mod ClassRanges
 pub mod ClassSetExpressions
+pub mod Quantifiers
+pub mod GroupNames
