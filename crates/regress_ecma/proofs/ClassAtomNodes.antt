@@ -31,7 +31,7 @@ use Rattle.regress_ecma.specs.CharacterEscapes.{character_escape, is_no_identity
 use Rattle.regress_ecma.specs.ClassGrammar.{class_escape_at}
 use Rattle.regress_ecma.specs.ClassRanges.{property_value, property_escape, backslash_before_c}
 use Rattle.regress_ecma.proofs.EscapesWithU.{at_character, or_none, and_false, escape_with_u}
-use Rattle.regress_ecma.proofs.EscapesWithoutU.{IsUnits, escape_without_u, literal_trail}
+use Rattle.regress_ecma.proofs.EscapesWithoutU.{IsUnits, escape_without_u, class_trail}
 
 -- the parameters of a class in the dialect
 abbrev pub own : (icase unicode named : Bool) → Parameters
@@ -106,17 +106,17 @@ property_same table capital t = by (property_at false table t) (property_points 
 
 -- ---- letters
 
-not_p : (c : ℕ) → (c == char "p") ≡ false → (c == char "P") ≡ false → is_one_of "pP" c ≡ false
+pub not_p : (c : ℕ) → (c == char "p") ≡ false → (c == char "P") ≡ false → is_one_of "pP" c ≡ false
 not_p c small capital = grind (arith, nat_tests)
 
 no_syntax : (c : ℕ) → (c == char "]") ≡ false → (c == char "\\") ≡ false → (c == char "-") ≡ false → is_one_of "\\]-" c ≡ false
 no_syntax c close slash dash = grind (arith, nat_tests)
 
-no_identity : (named : Bool) (c : ℕ) → (c == char "c") ≡ false → (c == char "k" && named) ≡ false → is_no_identity named c ≡ false
+pub no_identity : (named : Bool) (c : ℕ) → (c == char "c") ≡ false → (c == char "k" && named) ≡ false → is_no_identity named c ≡ false
 no_identity true c letter k = grind (arith, nat_tests)
 no_identity false c letter k = letter
 
-no_brace_u : (c : ℕ) (t : Source) → is_lone_u Ecma true c t ≡ false
+pub no_brace_u : (c : ℕ) (t : Source) → is_lone_u Ecma true c t ≡ false
 no_brace_u c t = by (c == char "u")
   where
     by : (b : Bool) → (b && false && is_at (char "{") t) ≡ false
@@ -233,7 +233,7 @@ module _ (table : Table) (icase named : Bool) where
       (found_map character found)
   of_units b c t letter escaped None units = rw (units, letter) refl
   of_units b c t letter escaped (Some (x, rest)) (inl (small, e)) = inl (small, rw e refl)
-  of_units b c t letter escaped (Some (x, rest)) (inr (u, big, e, trails)) = inr (u, big, rw e refl, trails)
+  of_units b c t letter escaped (Some (x, rest)) (inr (u, big, e, trails)) = inr (u, big, rw e refl, class_trail table b x u rest trails)
 
   k_units : (b : Bool) (t : Source) →
       IsAtomOf table icase false b (option_or (class_escape_of table false b (char "k" ∷ t)) (option_or (backslash_before_c (char "k" ∷ t)) None))
@@ -283,7 +283,7 @@ module _ (table : Table) (icase named : Bool) where
     where
       by : (b : Bool) → nat_le 0x10000 c ≡ b →
           Is (option_or (option_or (found_map character (if b then Some (lead_unit c, trail_unit c ∷ t) else Some (c, t))) None) None) (Some (character c, t))
-      by true e = inr (trail_unit c ∷ t, e, refl, literal_trail table named c t)
+      by true e = inr (trail_unit c ∷ t, e, refl, class_trail table named c (trail_unit c ∷ t) t (inl refl))
       by false e = inl (e, refl)
 
 module _ (table : Table) (icase : Bool) where

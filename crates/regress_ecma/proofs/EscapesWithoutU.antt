@@ -39,7 +39,7 @@ pair_above : (lead trail : ℕ) → nat_le 0x10000 (paired lead trail) ≡ true
 pair_above lead trail = grind (arith, nat_tests)
 
 -- a trail surrogate
-is_trail_unit : (c : ℕ) → is_trail (trail_unit c) ≡ true
+pub is_trail_unit : (c : ℕ) → is_trail (trail_unit c) ≡ true
 is_trail_unit c = let small : (c - 0x10000) % 0x400 < 0x400 = omega arith in grind (arith, nat_tests)
 
 trail_no_pair : (d : ℕ) → is_trail d ≡ true → nat_le 0x10000 d ≡ false
@@ -68,14 +68,14 @@ hex_small n t x few e =
 
 -- ---- what is found
 
-module _ (table : Table) (named : Bool) where
-  -- the trail surrogate that remains after its lead surrogate
-  abbrev pub HasTrail : ℕ → (u rest : Source) → Type 0
-  HasTrail c u rest = class_atom_no_dash table false named u ≡ Some (character (trail_unit c), rest)
+-- the trail surrogate that remains after its lead surrogate: itself, or its escape
+abbrev pub HasTrail : ℕ → (u rest : Source) → Type 0
+HasTrail c u rest = (u ≡ trail_unit c ∷ rest) ⊎ (escaped_trail u ≡ Some (trail_unit c, rest))
 
-  pub literal_trail : (c : ℕ) (t : Source) → HasTrail c (trail_unit c ∷ t) t
+module _ (table : Table) (named : Bool) where
+  trail_itself : (c : ℕ) (t : Source) → class_atom_no_dash table false named (trail_unit c ∷ t) ≡ Some (character (trail_unit c), t)
   unfolding class_atom_no_dash
-  literal_trail c t = by (trail_unit c) (is_trail_unit c)
+  trail_itself c t = by (trail_unit c) (is_trail_unit c)
     where
       by : (d : ℕ) → is_trail d ≡ true → class_atom_no_dash table false named (d ∷ t) ≡ Some (character d, t)
       by d e = rw (class_atom_no_dash, trail_no_syntax d e, trail_no_pair d e) refl
@@ -110,6 +110,10 @@ module _ (table : Table) (named : Bool) where
       (λ miss found. absurd (none-some (d, rest) (sym (ap (λ (b : Bool). if b then led_by (char "u") (hex_4_digits is_trail)
       (k ∷ w) else None) miss) ∙ found))) e
 
+  pub class_trail : (c : ℕ) (u rest : Source) → HasTrail c u rest → class_atom_no_dash table false named u ≡ Some (character (trail_unit c), rest)
+  class_trail c u rest (inl e) = ap (class_atom_no_dash table false named) e ∙ trail_itself c rest
+  class_trail c u rest (inr e) = (escaped_trail_found (trail_unit c) u rest e).0
+
   -- The same is found, or the lead surrogate with the trail surrogate after it.
   abbrev pub IsUnits : (mine found : Found ℕ) → Type 0
   IsUnits mine None = mine ≡ None
@@ -121,7 +125,7 @@ module _ (table : Table) (named : Bool) where
   units_of_character c t = by (nat_le 0x10000 c) refl
     where
       by : (b : Bool) → nat_le 0x10000 c ≡ b → IsUnits (if b then Some (lead_unit c, trail_unit c ∷ t) else Some (c, t)) (Some (c, t))
-      by true e = inr (trail_unit c ∷ t, e, refl, literal_trail c t)
+      by true e = inr (trail_unit c ∷ t, e, refl, inl refl)
       by false e = inl (e, refl)
 
   abbrev Units : Source → Type 0
@@ -186,7 +190,7 @@ module _ (table : Table) (named : Bool) where
         t,
         pair_above lead d,
         ap (λ (x : ℕ). Some (x, t)) (sym (lead_of_pair lead d is found.1)),
-        found.0 ∙ ap (λ (x : ℕ). Some (character x, rest)) (sym (trail_of_pair lead d is found.1)),
+        inr (e ∙ ap (λ (x : ℕ). Some (x, rest)) (sym (trail_of_pair lead d is found.1))),
       )
 
   at_u : (t : Source) → Units (char "u" ∷ t)

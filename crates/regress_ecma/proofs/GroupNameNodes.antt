@@ -49,6 +49,10 @@ written (c ∷ t) x e = by_case (c == char "\\") escape literal
         inl (ap (λ (y : ℕ × Source). y.0 ∷ y.1) (same_Some (c, t) x
         (sym (ap (λ (b : Bool). if b then led_by (char "\\") (unicode_escape true) (c ∷ t) else Some (c, t)) miss) ∙ sym (escaped_same c t) ∙ e)))
 
+-- A character that passes a test is not one that does not.
+differs : (K : ℕ) (p : ℕ → Bool) (c : ℕ) → p K ≡ false → p c ≡ true → (c == K) ≡ false
+differs K p c none passes = by_case (c == K) (λ hit. absurd (false≢true (sym none ∙ ap p (sym (eqb-true c K hit)) ∙ passes))) (λ miss. miss)
+
 -- In what follows, p is a test of the parser, p' that of ECMA-262, and q that of a property.
 module _ (unicode : Bool) (p p' q : ℕ → Bool) (same : (c : ℕ) → p c ≡ p' c) (above : (c : ℕ) → nat_le 0x10000 c ≡ true → q c ≡ p' c) where
   abbrev Is : ℕ → (t rest : Source) → Type 0
@@ -99,22 +103,14 @@ module _ (unicode : Bool) (p p' q : ℕ → Bool) (same : (c : ℕ) → p c ≡ 
   character_derived none c t rest (inr (inr (e, pair, has))) =
       literal_found c t rest none e (sym (above c (and_parts (not unicode) (nat_le 0x10000 c) pair).1) ∙ has)
 
-  -- It does not begin with `>`.
-  not_closing : p' (char ">") ≡ false → q (char ">") ≡ false → (c : ℕ) (t rest : Source) → Is c t rest → is_at (char ">") t ≡ false
-  not_closing none none' c t rest (inl (e, unit, passes)) = ap (is_at (char ">")) e ∙ differs p' c none passes
-    where
-      differs : (p : ℕ → Bool) (c : ℕ) → p (char ">") ≡ false → p c ≡ true → (c == char ">") ≡ false
-      differs p c none passes =
-          by_case (c == char ">") (λ hit. absurd (false≢true (sym none ∙ ap p (sym (eqb-true c (char ">") hit)) ∙ passes))) (λ miss. miss)
-  not_closing none none' c [] rest (inr (inl (e, passes))) = refl
-  not_closing none none' c (d ∷ t) rest (inr (inl (e, passes))) =
-      by_case (d == char "\\") (λ hit. ap (λ (k : ℕ). k == char ">") (eqb-true d (char "\\") hit))
+  -- It does not begin with another character than a backslash that has no such test.
+  begins_not : (K : ℕ) → (char "\\" == K) ≡ false → p' K ≡ false → q K ≡ false → (c : ℕ) (t rest : Source) → Is c t rest → is_at K t ≡ false
+  begins_not K slash none none' c t rest (inl (e, unit, passes)) = ap (is_at K) e ∙ differs K p' c none passes
+  begins_not K slash none none' c [] rest (inr (inl (e, passes))) = refl
+  begins_not K slash none none' c (d ∷ t) rest (inr (inl (e, passes))) =
+      by_case (d == char "\\") (λ hit. ap (λ (k : ℕ). k == K) (eqb-true d (char "\\") hit) ∙ slash)
       (λ miss. absurd (none-some (c, rest) (sym (ap (λ (b : Bool). if b then unicode_escape true t else None) miss) ∙ e)))
-  not_closing none none' c t rest (inr (inr (e, pair, has))) = ap (is_at (char ">")) e ∙ differs q c none' has
-    where
-      differs : (p : ℕ → Bool) (c : ℕ) → p (char ">") ≡ false → p c ≡ true → (c == char ">") ≡ false
-      differs p c none passes =
-          by_case (c == char ">") (λ hit. absurd (false≢true (sym none ∙ ap p (sym (eqb-true c (char ">") hit)) ∙ passes))) (λ miss. miss)
+  begins_not K slash none none' c t rest (inr (inr (e, pair, has))) = ap (is_at K) e ∙ differs K q c none' has
 
 -- ---- the tests
 
@@ -176,6 +172,13 @@ module _ (table : Table) where
     no_start other = rw (no_start_member, other) (nothing (scalar c))
       where
         nothing : (b : Bool) → (b && false || false) ≡ false
+        nothing true = refl
+        nothing false = refl
+
+    no_start_unicode : is_unicode_id_start table c ≡ false
+    no_start_unicode = rw no_start_member (nothing (scalar c))
+      where
+        nothing : (b : Bool) → (b && false) ≡ false
         nothing true = refl
         nothing false = refl
 
@@ -267,8 +270,16 @@ module _ (table : Table) (unicode : Bool) where
 
     part_no_closing : (c : ℕ) (t rest : Source) → IsRegExpIdentifierPart table unicode c t rest → is_at (char ">") t ≡ false
     part_no_closing =
-        not_closing unicode (continues_name table) (is_identifier_part_char table) (is_unicode_id_continue table) (part_same table) (part_above table)
-        no_closing_part no_closing_continue
+        begins_not unicode (continues_name table) (is_identifier_part_char table) (is_unicode_id_continue table) (part_same table) (part_above table)
+        (char ">") refl no_closing_part no_closing_continue
+
+    -- A name does not begin with such a character.
+    pub name_begins_not : (K : ℕ) → K < 0x80 → is_member word_characters K ≡ false → is_one_of "$_" K ≡ false → (char "\\" == K) ≡ false →
+        (name : Name) (t rest : Source) → IsRegExpIdentifierName table unicode name t rest → is_at K t ≡ false
+    name_begins_not K ascii none other slash [] t rest h = absurd h
+    name_begins_not K ascii none other slash (c ∷ cs) t rest (u, start, more) =
+        begins_not unicode (begins_name table) (is_identifier_start_char table) (is_unicode_id_start table) (start_same table) (start_above table)
+        K slash (no_start table proper K ascii none other) (no_start_unicode table proper K ascii none) c t u start
 
     parts_derived : (n : ℕ) (cs : Name) (t rest : Source) → length t < n → AreRegExpIdentifierParts table unicode cs t (char ">" ∷ rest) →
         rest_of_name_by n table t ≡ Some (cs, rest)

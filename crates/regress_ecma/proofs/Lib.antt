@@ -58,3 +58,12 @@ mod CodeUnits
 mod Examples
 mod QuantifierNodes
 mod GroupNameNodes
+mod AtomEscapeNodes
+mod PatternCharacters
+mod PatternAtoms
+mod PatternGroups
+mod PatternStarts
+mod PatternReads
+mod PatternTrees
+mod PatternDerivations
+mod AcceptedPatterns

@@ -5,7 +5,9 @@ use Rattle.regress_base.specs.Intervals.{is_member}
 use Rattle.regress_base.specs.Table.{Table, HasStrings}
 use Rattle.regress_tree.specs.Steps.{Setting}
 use Rattle.regress_tree.specs.Steps as Steps
-use Rattle.regress_syntax.specs.Syntax.{Pattern, names}
+use Rattle.regress_lexer.specs.declared.dialect.Dialect.TheVariants.{Ecma}
+use Rattle.regress_syntax.specs.Productions.{Context}
+use Rattle.regress_syntax.specs.Syntax.{Pattern, counts, names}
 use Rattle.regress_ecma.specs.Notation.{MatchState}
 use Rattle.regress_ecma.specs.Differences.{HasCaseDataOfUnicode, IsProper, differs}
 
@@ -29,3 +31,7 @@ pub record IsOfUnicode (table : Table) : Type 0 where
   pub maps : HasCaseDataOfUnicode table
   pub upper_keeps_words : (c : ℕ) → is_member word_characters c ≡ true → is_member word_characters (table.uppercase c) ≡ true
   pub strings : HasStrings table.strings
+
+-- the parser's context of a pattern in the dialect `Ecma`: its own groups and their names
+abbrev pub own_context : Setting → Pattern → Context
+own_context setting p = record { dialect = Ecma; setting = setting; groups = (counts p).groups; names = names p }

@@ -18,3 +18,5 @@ pub mod ClassRanges
 pub mod ClassSetExpressions
 pub mod Quantifiers
 pub mod GroupNames
+pub mod PatternNodes
+pub mod Patterns
