@@ -16,7 +16,7 @@ use Rattle.regress_ecma.specs.ClassSetExpressions.{HasPropertiesOfStrings}
 use Rattle.regress_ecma.specs.Compared.{own_context}
 use Rattle.regress_ecma.specs.GroupNames.{HasIdentifiers}
 use Rattle.regress_ecma.specs.PatternNodes.{Disjunction, groups, has_duplicate}
-use Rattle.regress_ecma.specs.Patterns.{Mode, mode_of, IsDisjunction, IsDerivedPattern, has_error, has_early_error, IsWithin}
+use Rattle.regress_ecma.specs.Patterns.{Mode, mode_of, IsDisjunction, IsDerivedPattern, has_error, has_early_error, IsWithin, HasMinima}
 use Rattle.regress_ecma.proofs.AtomEscapeNodes.{context, mode}
 use Rattle.regress_ecma.proofs.PatternDerivations.{IsDisjunctionOf, pattern_derived}
 use Rattle.regress_ecma.proofs.PatternTrees.{IsReadPattern, or_parts, disjunction_read}
@@ -68,19 +68,20 @@ module _ (setting : Setting) (all : HasPropertiesOfStrings setting.table)
   mode_with ns = record { unicode = u; sets = v; has_names = list_any is_some ns; group_count = length ns }
 
   pub pattern_accepted : (t : Source) → All IsCodePoint t → (p : Pattern) → IsPattern (own_context setting p) p t [] → NoneConflict p →
-      (d : Disjunction) × IsDerivedPattern setting.table u v d t × (IsWithin d → has_early_error d ≡ false) × (groups d ≡ names p)
+      (d : Disjunction) × IsDerivedPattern setting.table u v d t × IsWithin v d × (HasMinima d → has_early_error d ≡ false) × (groups d ≡ names p)
   pattern_accepted t points p derived apart =
       let found = pattern_derived setting.table v (names p) u all implied i m s p t [] points
           (subst (λ (ctx : Context). IsPattern ctx p t []) (own_is p) derived) in (
         found.0,
         subst (λ (ns : List (Option Name)). IsDisjunction setting.table (mode_with ns) found.0 t []) (sym found.1.groups) found.1.derived,
-        λ (within : IsWithin found.0). ap (λ (ns : List (Option Name)). has_error ns found.0 || has_duplicate found.0) found.1.groups
-            ∙ ap₂ (λ (a b : Bool). a || b) (found.1.fine within) (found.1.duplicate ∙ ap not apart),
+        found.1.within,
+        λ (minima : HasMinima found.0). ap (λ (ns : List (Option Name)). has_error ns found.0 || has_duplicate found.0) found.1.groups
+            ∙ ap₂ (λ (a b : Bool). a || b) (found.1.fine minima) (found.1.duplicate ∙ ap not apart),
         found.1.groups,
       )
 
   pub pattern_of : HasIdentifiers setting.table → (t : Source) → All IsCodePoint t → (d : Disjunction) → IsDerivedPattern setting.table u v d t →
-      has_early_error d ≡ false → IsWithin d → (p : Pattern) × IsPattern (own_context setting p) p t [] × NoneConflict p × (groups d ≡ names p)
+      has_early_error d ≡ false → IsWithin v d → (p : Pattern) × IsPattern (own_context setting p) p t [] × NoneConflict p × (groups d ≡ names p)
   pattern_of proper t points d derived fine within =
       let fines = or_parts (has_error (groups d) d) (has_duplicate d) fine in
       let found = disjunction_read setting.table v (groups d) u proper implied i m s d t [] points refl refl derived fines.0 within in (

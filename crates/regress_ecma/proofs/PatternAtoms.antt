@@ -51,11 +51,12 @@ specified_same name (other ∷ names) =
 
 -- ---- what an atom is
 
--- A term without a group, an error or a limit that it exceeds.
-pub record IsLeaf (names : List (Option Name)) (b : TermBody) : Type 0 where
+-- A term without a group, an error or a class past the limit.
+pub record IsLeaf (names : List (Option Name)) (v : Bool) (b : TermBody) : Type 0 where
   pub groups : groups_of_body b ≡ []
   pub alone : body_has_duplicate b ≡ false
   pub fine : body_has_error names b ≡ false
+  pub within : BodyIsWithin v b
 
 module _ (table : Table) (i m s v : Bool) (names : List (Option Name)) (u : Bool) where
   abbrev own : Context
@@ -70,7 +71,7 @@ module _ (table : Table) (i m s v : Bool) (names : List (Option Name)) (u : Bool
   -- a term without a group, which a quantifier may follow or not
   pub record IsOne (allowed : Bool) (b : TermBody) (t rest : Source) : Type 0 where
     pub derived : Body b t rest
-    pub leaf : IsLeaf names b
+    pub leaf : IsLeaf names v b
     pub quantifiable : is_quantifiable table own_mode b ≡ allowed
 
   -- Such a term is derived, or two of which the second is a trail surrogate.
@@ -81,9 +82,13 @@ module _ (table : Table) (i m s v : Bool) (names : List (Option Name)) (u : Bool
       × ((first : TermBody) × (last : TermBody) × (w : Source) × IsOne true first t w × IsOne true last w rest)
 
   one : (allowed : Bool) (b : TermBody) (t rest : Source) → Body b t rest → groups_of_body b ≡ [] → body_has_duplicate b ≡ false →
-      body_has_error names b ≡ false → is_quantifiable table own_mode b ≡ allowed → AreDerived allowed t rest
-  one allowed b t rest derived groups alone fine quantifiable =
-      inl (b, record { derived = derived; leaf = record { groups = groups; alone = alone; fine = fine }; quantifiable = quantifiable })
+      body_has_error names b ≡ false → BodyIsWithin v b → is_quantifiable table own_mode b ≡ allowed → AreDerived allowed t rest
+  one allowed b t rest derived groups alone fine within quantifiable =
+      inl (b, record {
+        derived = derived;
+        leaf = record { groups = groups; alone = alone; fine = fine; within = within };
+        quantifiable = quantifiable;
+      })
 
 -- ---- trail surrogates
 
@@ -125,14 +130,14 @@ module _ (table : Table) (i m s v : Bool) (names : List (Option Name)) where
         derived = subst (λ (x : Source). IsTermBody table units_mode (pattern_character (trail_unit c)) x rest) (sym e)
             (rw (no_delimiter _ (is_trail_unit c), small_trail _ (is_trail_unit c)) refl,
             no_braces_elsewhere table units_mode (trail_unit c ∷ rest) (no_brace_trail (trail_unit c) (is_trail_unit c)));
-        leaf = record { groups = refl; alone = refl; fine = refl };
+        leaf = record { groups = refl; alone = refl; fine = refl; within = tt };
         quantifiable = refl;
       })
   trail_one c w rest (inr e) =
       let found = escaped_inverse (trail_unit c) w rest e in
       (escape (character (trail_unit c)), record {
         derived = (char "u" ∷ found.0, found.1, refl, inl (rw found.2 refl));
-        leaf = record { groups = refl; alone = refl; fine = refl };
+        leaf = record { groups = refl; alone = refl; fine = refl; within = tt };
         quantifiable = refl;
       })
 
@@ -195,11 +200,11 @@ module _ (table : Table) (i m s v : Bool) (names : List (Option Name)) where
     from_alike c t no_b None alike = each_none (IsAtom (char "\\" ∷ c ∷ t))
     from_alike c t no_b (Some (a, rest)) (allows, inl (node, e, fine)) =
         each_some (IsAtom (char "\\" ∷ c ∷ t)) (a, rest)
-        (one table i m s v names u (atom_allows Ecma a) (escape node) (char "\\" ∷ c ∷ t) rest (c ∷ t, refl, no_b, inl e) refl refl fine (sym allows))
+        (one table i m s v names u (atom_allows Ecma a) (escape node) (char "\\" ∷ c ∷ t) rest (c ∷ t, refl, no_b, inl e) refl refl fine tt (sym allows))
     from_alike c t no_b (Some (a, rest)) (allows, inr (none, (x, w, e, trail))) =
         each_some (IsAtom (char "\\" ∷ c ∷ t)) (a, rest)
         (inr (allows, (escape (character (lead_unit x)), last.0, w,
-          record { derived = (c ∷ t, refl, no_b, inl e); leaf = record { groups = refl; alone = refl; fine = refl }; quantifiable = refl }, last.1)))
+          record { derived = (c ∷ t, refl, no_b, inl e); leaf = record { groups = refl; alone = refl; fine = refl; within = tt }; quantifiable = refl }, last.1)))
       where
         last : (b : TermBody) × IsOne table i m s v names u true b w rest
         last = subst (λ (u : Bool). (b : TermBody) × IsOne table i m s v names u true b w rest) (sym none) (trail_one table i m s v names x w rest trail)
@@ -213,7 +218,7 @@ module _ (table : Table) (i m s v : Bool) (names : List (Option Name)) where
         (λ x f. each_if P (has_name x.0 names) (Some (back_reference (flags table i m s v names u) (by_name_if_set x.0), x.1)) None
         (λ has. each_some P (back_reference (flags table i m s v names u) (by_name_if_set x.0), x.1)
         (one table i m s v names u true (escape (named x.0)) (char "\\" ∷ char "k" ∷ t) x.1
-        (char "k" ∷ t, refl, refl, inr (e, (t, refl, group_name_accepted table u t x.1 x.0 f))) refl refl (ap not (specified_same x.0 names ∙ has)) refl))
+        (char "k" ∷ t, refl, refl, inr (e, (t, refl, group_name_accepted table u t x.1 x.0 f))) refl refl (ap not (specified_same x.0 names ∙ has)) tt refl))
         (λ _. each_none P))
       where
         P : Atom × Source → Type 0
@@ -226,7 +231,7 @@ module _ (table : Table) (i m s v : Bool) (names : List (Option Name)) where
       subst (Each (IsAtom false (char "\\" ∷ char "c" ∷ t))) (sym found)
       (each_some (IsAtom false (char "\\" ∷ char "c" ∷ t)) (literal (flags table i m s v names false) (char "\\"), char "c" ∷ t)
       (one table i m s v names false true backslash (char "\\" ∷ char "c" ∷ t) (char "c" ∷ t)
-      (refl, refl, refl, lone_has_no_escape table i m s v names t none) refl refl refl refl))
+      (refl, refl, refl, lone_has_no_escape table i m s v names t none) refl refl refl tt refl))
     where
       found : escaped_by (context table i m s v names false) (char "c") t ≡ Some (literal (flags table i m s v names false) (char "\\"), char "c" ∷ t)
       found = rw none refl
@@ -249,9 +254,9 @@ module _ (table : Table) (i m s v : Bool) (names : List (Option Name)) where
     unfolding Derived_by
     escapes_derived c t =
         at_character (λ d. Derived_by d t) (char "b") c
-        (each_some (IsAtom u (char "\\" ∷ char "b" ∷ t)) _ (one table i m s v names u false (boundary false) (char "\\" ∷ char "b" ∷ t) t refl refl refl refl refl))
+        (each_some (IsAtom u (char "\\" ∷ char "b" ∷ t)) _ (one table i m s v names u false (boundary false) (char "\\" ∷ char "b" ∷ t) t refl refl refl refl tt refl))
         (λ small. at_character (λ d. Derived_by d t) (char "B") c
-        (each_some (IsAtom u (char "\\" ∷ char "B" ∷ t)) _ (one table i m s v names u false (boundary true) (char "\\" ∷ char "B" ∷ t) t refl refl refl refl refl))
+        (each_some (IsAtom u (char "\\" ∷ char "B" ∷ t)) _ (one table i m s v names u false (boundary true) (char "\\" ∷ char "B" ∷ t) t refl refl refl refl tt refl))
         (λ capital. by_case (is_lone_backslash u c t)
         (λ lone. let parts = lone_parts c t lone in
         subst (λ d. Derived_by d t) (sym parts.0) (lone_derived u t parts.1 parts.2))
@@ -267,11 +272,11 @@ module _ (table : Table) (i m s v : Bool) (names : List (Option Name)) where
         IsCharacterOf table i m s v names u (plain_character table (mode table i m s v names u) t) found → Each (IsAtom u t) found
     from_character t no_braces None alike = each_none (IsAtom u t)
     from_character t no_braces (Some (a, rest)) (allows, inl (c, e)) =
-        each_some (IsAtom u t) (a, rest) (one table i m s v names u (atom_allows Ecma a) (pattern_character c) t rest (e, no_braces) refl refl refl (sym allows))
+        each_some (IsAtom u t) (a, rest) (one table i m s v names u (atom_allows Ecma a) (pattern_character c) t rest (e, no_braces) refl refl refl tt (sym allows))
     from_character t no_braces (Some (a, rest)) (allows, inr (none, (x, w, e, trail))) =
         each_some (IsAtom u t) (a, rest)
         (inr (allows, (pattern_character (lead_unit x), last.0, w,
-          record { derived = (e, no_braces); leaf = record { groups = refl; alone = refl; fine = refl }; quantifiable = refl }, last.1)))
+          record { derived = (e, no_braces); leaf = record { groups = refl; alone = refl; fine = refl; within = tt }; quantifiable = refl }, last.1)))
       where
         last : (b : TermBody) × IsOne table i m s v names u true b w rest
         last = subst (λ (u : Bool). (b : TermBody) × IsOne table i m s v names u true b w rest) (sym none) (trail_one table i m s v names x w rest trail)
@@ -299,13 +304,13 @@ module _ (table : Table) (i m s v : Bool) (names : List (Option Name)) where
           (λ x e. let node = class_set_accepted table all (class_parameters (context table i m s true names u)) refl (implied refl) t x.1 x.0.0 x.0.1 e in
           each_some (λ x. AreDerived table i m s true names u (atom_allows Ecma x.0) (char "[" ∷ t) x.1)
           (class_set (flags table i m s true names u) x.0.0 x.0.1, x.1)
-          (one table i m s true names u true (class node.0) (char "[" ∷ t) x.1 node.1 refl refl refl refl))
+          (one table i m s true names u true (class node.0) (char "[" ∷ t) x.1 node.1 refl refl refl (λ _. node.2) refl))
       by false implied =
           each_then _ (class_at table (class_parameters (context table i m s false names u)) t) _
           (λ x e. let node = class_accepted table (class_parameters (context table i m s false names u)) refl t x.1 points x.0.0 x.0.1 e in
           each_some (λ x. AreDerived table i m s false names u (atom_allows Ecma x.0) (char "[" ∷ t) x.1)
           (class_atom (class_flags (context table i m s false names u)) x.0.0 (compared_members (context table i m s false names u) x.0.1), x.1)
-          (one table i m s false names u true (class node.0) (char "[" ∷ t) x.1 node.1 refl refl refl refl))
+          (one table i m s false names u true (class node.0) (char "[" ∷ t) x.1 node.1 refl refl refl (λ e. absurd (false≢true e)) refl))
 
   -- ---- any atom
 
@@ -317,11 +322,11 @@ module _ (table : Table) (i m s v : Bool) (names : List (Option Name)) where
   unfolding Atom_by Derived_by
   atoms_derived all u implied c t no_group points =
       at_character (λ d. Atom_by u d t) (char ".") c
-      (each_some (IsAtom u (char "." ∷ t)) _ (one table i m s v names u true dot (char "." ∷ t) t refl refl refl refl refl))
+      (each_some (IsAtom u (char "." ∷ t)) _ (one table i m s v names u true dot (char "." ∷ t) t refl refl refl refl tt refl))
       (λ f1. at_character (λ d. Atom_by u d t) (char "^") c
-      (each_some (IsAtom u (char "^" ∷ t)) _ (one table i m s v names u false start (char "^" ∷ t) t refl refl refl refl refl))
+      (each_some (IsAtom u (char "^" ∷ t)) _ (one table i m s v names u false start (char "^" ∷ t) t refl refl refl refl tt refl))
       (λ f2. at_character (λ d. Atom_by u d t) (char "$") c
-      (each_some (IsAtom u (char "$" ∷ t)) _ (one table i m s v names u false end (char "$" ∷ t) t refl refl refl refl refl))
+      (each_some (IsAtom u (char "$" ∷ t)) _ (one table i m s v names u false end (char "$" ∷ t) t refl refl refl refl tt refl))
       (λ f3. at_character (λ d. Atom_by u d t) (char "\\") c (escaped t)
       (λ f4. at_character (λ d. Atom_by u d t) (char "[") c (classes_derived all u implied t points)
       (λ f5. characters_derived u implied c t (none_other c f1 f2 f3 f4 f5 no_group))))))

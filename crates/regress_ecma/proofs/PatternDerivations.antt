@@ -20,7 +20,7 @@ use Rattle.regress_syntax.proofs.lemmas.Productions.{head_at-ends, optional_quan
 use Rattle.regress_ecma.specs.ClassSetExpressions.{HasPropertiesOfStrings}
 use Rattle.regress_ecma.specs.Quantifiers.{is_out_of_order, quantifier_of}
 use Rattle.regress_ecma.specs.PatternNodes.{Disjunction, Alternative, Term, TermBody, alone, or_else, nothing, term_then, unquantified, quantified, lookahead, lookbehind, capture, modified, groups, groups_of_alternative, groups_of_term, groups_of_body, is_repeated, have_a_name_in_common, has_duplicate, alternative_has_duplicate, term_has_duplicate, body_has_duplicate}
-use Rattle.regress_ecma.specs.Patterns.{Mode, is_quantifiable, IsDisjunction, IsAlternative, IsTerm, IsTermBody, has_error, alternative_has_error, term_has_error, body_has_error, IsWithin, AlternativeIsWithin, TermIsWithin, BodyIsWithin}
+use Rattle.regress_ecma.specs.Patterns.{Mode, is_quantifiable, IsDisjunction, IsAlternative, IsTerm, IsTermBody, has_error, alternative_has_error, term_has_error, body_has_error, IsWithin, AlternativeIsWithin, TermIsWithin, BodyIsWithin, HasMinima, AlternativeHasMinima, TermHasMinima, BodyHasMinima}
 use Rattle.regress_ecma.proofs.AtomEscapeNodes.{context, mode}
 use Rattle.regress_ecma.proofs.ClassRangeNodes.{Each, each_at}
 use Rattle.regress_ecma.proofs.EscapesWithU.{by_case}
@@ -93,26 +93,30 @@ module _ (table : Table) (v : Bool) (names : List (Option Name)) (u : Bool) wher
     pub quantifiable : is_quantifiable table own_mode b ≡ allowed
     pub groups : groups_of_body b ≡ found
     pub duplicate : body_has_duplicate b ≡ not apart
-    pub fine : BodyIsWithin b → body_has_error names b ≡ false
+    pub within : BodyIsWithin v b
+    pub fine : BodyHasMinima b → body_has_error names b ≡ false
 
   pub record IsTermOf (found : List (Option Name)) (apart : Bool) (t rest : Source) (x : Term) : Type 0 where
     pub derived : IsTerm table own_mode x t rest
     pub groups : groups_of_term x ≡ found
     pub duplicate : term_has_duplicate x ≡ not apart
-    pub fine : TermIsWithin x → term_has_error names x ≡ false
+    pub within : TermIsWithin v x
+    pub fine : TermHasMinima x → term_has_error names x ≡ false
 
   pub record IsAlternativeOf (found : List (Option Name)) (apart : Bool) (t rest : Source) (a : Alternative) : Type 0 where
     pub derived : IsAlternative table own_mode a t rest
     pub groups : groups_of_alternative a ≡ found
     pub duplicate : alternative_has_duplicate a ≡ not apart
-    pub fine : AlternativeIsWithin a → alternative_has_error names a ≡ false
+    pub within : AlternativeIsWithin v a
+    pub fine : AlternativeHasMinima a → alternative_has_error names a ≡ false
     pub points : All IsCodePoint rest
 
   pub record IsDisjunctionOf (found : List (Option Name)) (apart : Bool) (t rest : Source) (d : Disjunction) : Type 0 where
     pub derived : IsDisjunction table own_mode d t rest
     pub groups : groups d ≡ found
     pub duplicate : has_duplicate d ≡ not apart
-    pub fine : IsWithin d → has_error names d ≡ false
+    pub within : IsWithin v d
+    pub fine : HasMinima d → has_error names d ≡ false
     pub points : All IsCodePoint rest
 
   -- ---- terms
@@ -132,7 +136,8 @@ module _ (table : Table) (v : Bool) (names : List (Option Name)) (u : Bool) wher
         ∙ ap (λ (b : Bool). not apart || b || not others_apart)
         (ap₂ have_a_name_in_common first.groups more.groups ∙ common_same found others_found)
         ∙ by apart (share_name found others_found) others_apart;
-    fine = λ within. either_fine (term_has_error names x) (alternative_has_error names others) (first.fine within.0) (more.fine within.1);
+    within = (first.within, more.within);
+    fine = λ minima. either_fine (term_has_error names x) (alternative_has_error names others) (first.fine minima.0) (more.fine minima.1);
     points = more.points;
   }
     where
@@ -148,12 +153,13 @@ module _ (table : Table) (v : Bool) (names : List (Option Name)) (u : Bool) wher
     quantifiable = h.quantifiable;
     groups = h.leaf.groups;
     duplicate = h.leaf.alone;
+    within = h.leaf.within;
     fine = λ _. h.leaf.fine;
   }
 
   without : (allowed : Bool) (found : List (Option Name)) (apart : Bool) (t rest : Source) (b : TermBody) → IsBodyOf allowed found apart t rest b →
       IsTermOf found apart t rest (unquantified b)
-  without allowed found apart t rest b h = record { derived = h.derived; groups = h.groups; duplicate = h.duplicate; fine = h.fine }
+  without allowed found apart t rest b h = record { derived = h.derived; groups = h.groups; duplicate = h.duplicate; within = h.within; fine = h.fine }
 
   -- a term with what the parser finds after it
   with_quantifier : (i m s : Bool) (allowed : Bool) (found : List (Option Name)) (apart : Bool) (t w z : Source) (b : TermBody) (q : Option Quantifier) →
@@ -169,8 +175,9 @@ module _ (table : Table) (v : Bool) (names : List (Option Name)) (u : Bool) wher
         derived = (w, h.quantifiable ∙ parts.0, h.derived, node.2);
         groups = h.groups;
         duplicate = h.duplicate;
-        fine = λ within. either_fine (body_has_error names b) (is_out_of_order node.0) (h.fine within.0)
-            (order_back node.0 node.1 within.1 (ap is_ordered node.3 ∙ parts.2));
+        within = h.within;
+        fine = λ minima. either_fine (body_has_error names b) (is_out_of_order node.0) (h.fine minima.0)
+            (order_back node.0 node.1 minima.1 (ap is_ordered node.3 ∙ parts.2));
       })
 
   -- ---- groups
@@ -178,14 +185,15 @@ module _ (table : Table) (v : Bool) (names : List (Option Name)) (u : Bool) wher
   of_group : (allowed : Bool) (kind : Group) (p : Pattern) (b : TermBody) (d : Disjunction) (t w rest : Source) →
       IsDisjunctionOf (names_of_pattern p) (are_names_apart p) w (closing ∷ rest) d → IsTermBody table own_mode b t rest → is_quantifiable table own_mode b ≡ allowed →
       groups_of_body b ≡ groups d → body_has_duplicate b ≡ has_duplicate d → names_of_group kind ≡ [] →
-      (BodyIsWithin b → body_has_error names b ≡ false) → IsBodyOf allowed (names_of_item (group kind p)) (are_names_apart_in_item (group kind p)) t rest b
-  of_group allowed kind p b d t w rest inside derived quantifiable same_groups same_duplicate unnamed fine = record {
+      BodyIsWithin v b → (BodyHasMinima b → body_has_error names b ≡ false) → IsBodyOf allowed (names_of_item (group kind p)) (are_names_apart_in_item (group kind p)) t rest b
+  of_group allowed kind p b d t w rest inside derived quantifiable same_groups same_duplicate unnamed within fine = record {
     derived = derived;
     quantifiable = quantifiable;
     groups = same_groups ∙ inside.groups ∙ ap (λ (a : List (Option Name)). a ++ names_of_pattern p) (sym unnamed);
     duplicate =
         same_duplicate ∙ inside.duplicate
         ∙ ap (λ (a : List (Option Name)). not (not (share_name a (names_of_pattern p)) && are_names_apart p)) (sym unnamed);
+    within = within;
     fine = fine;
   }
 
@@ -193,14 +201,14 @@ module _ (table : Table) (v : Bool) (names : List (Option Name)) (u : Bool) wher
       (d : Disjunction) → IsDisjunctionOf (names_of_pattern p) (are_names_apart p) w (closing ∷ rest) d →
       (b : TermBody) × IsBodyOf (allows (context table true true true v names u) (opens kind)) (names_of_item (group kind p)) (are_names_apart_in_item (group kind p)) t rest b
   group_body grouping p t w rest opened d inside =
-      (modified [] None d, of_group true grouping p (modified [] None d) d t w rest inside (w, opened, inside.derived) refl refl refl refl inside.fine)
+      (modified [] None d, of_group true grouping p (modified [] None d) d t w rest inside (w, opened, inside.derived) refl refl refl refl inside.within inside.fine)
   group_body (modified_group change) p t w rest (on, off, opened, fine) d inside =
-      (modified on off d, of_group true (modified_group change) p (modified on off d) d t w rest inside (w, opened, inside.derived) refl refl refl refl
-        (λ within. either_fine _ (has_error names d) fine (inside.fine within)))
+      (modified on off d, of_group true (modified_group change) p (modified on off d) d t w rest inside (w, opened, inside.derived) refl refl refl refl inside.within
+        (λ minima. either_fine _ (has_error names d) fine (inside.fine minima)))
   group_body (look negated forwards) p t w rest opened d inside =
-      (lookahead negated d, of_group (not u) (look negated forwards) p (lookahead negated d) d t w rest inside (w, opened, inside.derived) refl refl refl refl inside.fine)
+      (lookahead negated d, of_group (not u) (look negated forwards) p (lookahead negated d) d t w rest inside (w, opened, inside.derived) refl refl refl refl inside.within inside.fine)
   group_body (look negated backwards) p t w rest opened d inside =
-      (lookbehind negated d, of_group false (look negated backwards) p (lookbehind negated d) d t w rest inside (w, opened, inside.derived) refl refl refl refl inside.fine)
+      (lookbehind negated d, of_group false (look negated backwards) p (lookbehind negated d) d t w rest inside (w, opened, inside.derived) refl refl refl refl inside.within inside.fine)
   group_body (capture_group name) p t w rest opened d inside =
       (capture name d, record {
         derived = (w, opened, inside.derived);
@@ -210,6 +218,7 @@ module _ (table : Table) (v : Bool) (names : List (Option Name)) (u : Bool) wher
             ap₂ (λ (a b : Bool). a || b)
             (ap (λ (a : List (Option Name)). is_repeated a name) inside.groups ∙ repeated_same (names_of_pattern p) name) inside.duplicate
             ∙ by (list_any (same_name name) (names_of_pattern p)) (are_names_apart p);
+        within = inside.within;
         fine = inside.fine;
       })
     where
@@ -254,7 +263,7 @@ module _ (table : Table) (v : Bool) (names : List (Option Name)) (u : Bool) wher
           (d : Disjunction) × IsDisjunctionOf (names_of_pattern p) (are_names_apart p) t rest d
       pattern_derived i m s (one ts) t rest points h =
           let a = terms_derived i m s ts t rest points h.0 in
-          (alone a.0, record { derived = a.1.derived; groups = a.1.groups; duplicate = a.1.duplicate; fine = a.1.fine; points = a.1.points })
+          (alone a.0, record { derived = a.1.derived; groups = a.1.groups; duplicate = a.1.duplicate; within = a.1.within; fine = a.1.fine; points = a.1.points })
       pattern_derived i m s (either ts p) t rest points (mid, h, k) =
           let a = terms_derived i m s ts t (bar ∷ mid) points h in
           let d = pattern_derived i m s p mid rest (All-tail IsCodePoint bar mid a.1.points) k in
@@ -262,7 +271,8 @@ module _ (table : Table) (v : Bool) (names : List (Option Name)) (u : Bool) wher
             derived = (mid, a.1.derived, d.1.derived);
             groups = ap₂ (λ (a b : List (Option Name)). a ++ b) a.1.groups d.1.groups;
             duplicate = ap₂ (λ (a b : Bool). a || b) a.1.duplicate d.1.duplicate ∙ both (are_names_apart_in_terms ts) (are_names_apart p);
-            fine = λ within. either_fine (alternative_has_error names a.0) (has_error names d.0) (a.1.fine within.0) (d.1.fine within.1);
+            within = (a.1.within, d.1.within);
+            fine = λ minima. either_fine (alternative_has_error names a.0) (has_error names d.0) (a.1.fine minima.0) (d.1.fine minima.1);
             points = d.1.points;
           })
         where
@@ -273,7 +283,7 @@ module _ (table : Table) (v : Bool) (names : List (Option Name)) (u : Bool) wher
       terms_derived : (i m s : Bool) (ts : Terms) (t rest : Source) → All IsCodePoint t → AreTerms (context table i m s v names u) ts t rest →
           (a : Alternative) × IsAlternativeOf (names_of_terms ts) (are_names_apart_in_terms ts) t rest a
       terms_derived i m s no_terms t rest points (ends, same) =
-          (nothing, record { derived = same; groups = refl; duplicate = refl; fine = λ _. refl; points = subst (All IsCodePoint) same points })
+          (nothing, record { derived = same; groups = refl; duplicate = refl; within = tt; fine = λ _. refl; points = subst (All IsCodePoint) same points })
       terms_derived i m s (more_terms (atom a) q xs) t rest points (w, z, item, quantifier, more) =
           let points_w = after_all t w ((head_at-ends (context table i m s v names u) t).each (single a, w) item) points in
           let points_z = after_all w z ((optional_quantifier_at-ends (context table i m s v names u) (atom_allows Ecma a) w).each (q, z) quantifier) points_w in

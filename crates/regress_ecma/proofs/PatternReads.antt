@@ -207,11 +207,11 @@ module _ (table : Table) (i m s : Bool) (names : List (Option Name)) where
   opened_class node u t w ((r, inr (e, inverted), h), fine) = (char "^" ∷ r, e)
 
   pub class_read : (v u : Bool) → (v ≡ true → u ≡ true) → (node : CharacterClass) (t w : Source) → All IsCodePoint t →
-      IsClass table (mode table i m s v names u) node t w → depth node.contents < max_nesting_depth → Reads table i m s v names u true t w
+      IsClass table (mode table i m s v names u) node t w → (v ≡ true → depth node.contents < max_nesting_depth) → Reads table i m s v names u true t w
   class_read true u implied node t w points h few =
       let opened = opened_at node.invert t h.0.0 h.0.1 in
       let found = class_set_derived table (class_parameters (context table i m s true names u)) refl (implied refl) opened.0 w node
-          (subst (λ (x : Source). IsAcceptedClassSet table (has_names names) node x w) opened.1 h) few in
+          (subst (λ (x : Source). IsAcceptedClassSet table (has_names names) node x w) opened.1 h) (few refl) in
       inl (
         class_set (flags table i m s true names u) node.invert found.1.0,
         ap (head_at (context table i m s true names u)) opened.1

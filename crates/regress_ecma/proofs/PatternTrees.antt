@@ -295,7 +295,7 @@ module _ (table : Table) (v : Bool) (names : List (Option Name)) (u : Bool) wher
   module _ (proper : HasIdentifiers table) (implied : v ≡ true → u ≡ true) where
     mutual
       pub disjunction_read : (i m s : Bool) (d : Disjunction) (t rest : Source) → All IsCodePoint t → ends_alternative rest ≡ true → is_at bar rest ≡ false →
-          IsDisjunction table own_mode d t rest → has_error names d ≡ false → IsWithin d → (p : Pattern) × IsReadPattern i m s d t rest p
+          IsDisjunction table own_mode d t rest → has_error names d ≡ false → IsWithin v d → (p : Pattern) × IsReadPattern i m s d t rest p
       disjunction_read i m s (alone a) t rest points ends no_bar h fine within =
           let read = alternative_read i m s a t rest points ends h fine within in
           (one read.0, record { derived = (read.1.derived, no_bar); groups = read.1.groups; apart = read.1.apart; points = read.1.points })
@@ -315,7 +315,7 @@ module _ (table : Table) (v : Bool) (names : List (Option Name)) (u : Bool) wher
           both false b = refl
 
       alternative_read : (i m s : Bool) (a : Alternative) (t rest : Source) → All IsCodePoint t → ends_alternative rest ≡ true →
-          IsAlternative table own_mode a t rest → alternative_has_error names a ≡ false → AlternativeIsWithin a → AreRead i m s a t rest
+          IsAlternative table own_mode a t rest → alternative_has_error names a ≡ false → AlternativeIsWithin v a → AreRead i m s a t rest
       alternative_read i m s nothing t rest points ends h fine within =
           (no_terms, record { derived = (ap ends_alternative h ∙ ends, h); groups = refl; apart = refl; points = subst (All IsCodePoint) h points })
       alternative_read i m s (term_then (unquantified b) others) t rest points ends (w, h, k) fine within =
@@ -325,11 +325,11 @@ module _ (table : Table) (v : Bool) (names : List (Option Name)) (u : Bool) wher
       alternative_read i m s (term_then (quantified b p lazy) others) t rest points ends (z, (w, q, h, quantifier), k) fine within =
           let fines = or_parts (body_has_error names b || is_out_of_order p) (alternative_has_error names others) fine in
           let both = or_parts (body_has_error names b) (is_out_of_order p) fines.0 in
-          then_quantified i m s b p lazy others t w z rest q both.1 (body_read i m s b t w points h both.0 within.0.0) quantifier
+          then_quantified i m s b p lazy others t w z rest q both.1 (body_read i m s b t w points h both.0 within.0) quantifier
           (λ (points' : All IsCodePoint z). alternative_read i m s others z rest points' ends k fines.1 within.1)
 
       body_read : (i m s : Bool) (b : TermBody) (t rest : Source) → All IsCodePoint t → IsTermBody table own_mode b t rest → body_has_error names b ≡ false →
-          BodyIsWithin b → IsReadBody i m s b t rest
+          BodyIsWithin v b → IsReadBody i m s b t rest
       body_read i m s start t rest points h fine within =
           leaf i m s start t rest refl refl points
           (inl (anchor (flags table i m s v names u) StartOfLine, ap (head_at (own i m s)) h ∙ start_head table i m s v names u rest, refl))

@@ -213,31 +213,61 @@ IsDerivedPattern table unicode sets d t = IsDisjunction table (mode_of unicode s
 
 -- ---- limits
 
--- The first number of each quantifier is below 2^64, and each class with the flag v nests below the limit.
+-- Classes with the flag v nest below the limit.
+module _ (sets : Bool) where
+  abbrev mutual
+    pub IsWithin : Disjunction → Type 0
+    IsWithin (alone a) = AlternativeIsWithin a
+    IsWithin (or_else a others) = AlternativeIsWithin a × IsWithin others
+
+    pub AlternativeIsWithin : Alternative → Type 0
+    AlternativeIsWithin nothing = Unit {0}
+    AlternativeIsWithin (term_then first others) = TermIsWithin first × AlternativeIsWithin others
+
+    pub TermIsWithin : Term → Type 0
+    TermIsWithin (unquantified body) = BodyIsWithin body
+    TermIsWithin (quantified body prefix lazy) = BodyIsWithin body
+
+    pub BodyIsWithin : TermBody → Type 0
+    BodyIsWithin start = Unit {0}
+    BodyIsWithin end = Unit {0}
+    BodyIsWithin (boundary negated) = Unit {0}
+    BodyIsWithin (lookahead negated d) = IsWithin d
+    BodyIsWithin (lookbehind negated d) = IsWithin d
+    BodyIsWithin (pattern_character c) = Unit {0}
+    BodyIsWithin dot = Unit {0}
+    BodyIsWithin (escape node) = Unit {0}
+    BodyIsWithin backslash = Unit {0}
+    BodyIsWithin (class node) = sets ≡ true → depth node.contents < max_nesting_depth
+    BodyIsWithin (capture name d) = IsWithin d
+    BodyIsWithin (modified on off d) = IsWithin d
+    BodyIsWithin (invalid prefix) = Unit {0}
+
+-- Of each quantifier with two numbers the first is below 2^64.
 abbrev mutual
-  pub IsWithin : Disjunction → Type 0
-  IsWithin (alone a) = AlternativeIsWithin a
-  IsWithin (or_else a others) = AlternativeIsWithin a × IsWithin others
+  pub HasMinima : Disjunction → Type 0
+  HasMinima (alone a) = AlternativeHasMinima a
+  HasMinima (or_else a others) = AlternativeHasMinima a × HasMinima others
 
-  pub AlternativeIsWithin : Alternative → Type 0
-  AlternativeIsWithin nothing = Unit {0}
-  AlternativeIsWithin (term_then first others) = TermIsWithin first × AlternativeIsWithin others
+  pub AlternativeHasMinima : Alternative → Type 0
+  AlternativeHasMinima nothing = Unit {0}
+  AlternativeHasMinima (term_then first others) = TermHasMinima first × AlternativeHasMinima others
 
-  pub TermIsWithin : Term → Type 0
-  TermIsWithin (unquantified body) = BodyIsWithin body
-  TermIsWithin (quantified body prefix lazy) = BodyIsWithin body × HasMinimum prefix
+  pub TermHasMinima : Term → Type 0
+  TermHasMinima (unquantified body) = BodyHasMinima body
+  TermHasMinima (quantified body prefix lazy) = BodyHasMinima body × HasMinimum prefix
 
-  pub BodyIsWithin : TermBody → Type 0
-  BodyIsWithin start = Unit {0}
-  BodyIsWithin end = Unit {0}
-  BodyIsWithin (boundary negated) = Unit {0}
-  BodyIsWithin (lookahead negated d) = IsWithin d
-  BodyIsWithin (lookbehind negated d) = IsWithin d
-  BodyIsWithin (pattern_character c) = Unit {0}
-  BodyIsWithin dot = Unit {0}
-  BodyIsWithin (escape node) = Unit {0}
-  BodyIsWithin backslash = Unit {0}
-  BodyIsWithin (class node) = depth node.contents < max_nesting_depth
-  BodyIsWithin (capture name d) = IsWithin d
-  BodyIsWithin (modified on off d) = IsWithin d
-  BodyIsWithin (invalid prefix) = Unit {0}
+  pub BodyHasMinima : TermBody → Type 0
+  BodyHasMinima start = Unit {0}
+  BodyHasMinima end = Unit {0}
+  BodyHasMinima (boundary negated) = Unit {0}
+  BodyHasMinima (lookahead negated d) = HasMinima d
+  BodyHasMinima (lookbehind negated d) = HasMinima d
+  BodyHasMinima (pattern_character c) = Unit {0}
+  BodyHasMinima dot = Unit {0}
+  BodyHasMinima (escape node) = Unit {0}
+  BodyHasMinima backslash = Unit {0}
+  BodyHasMinima (class node) = Unit {0}
+  BodyHasMinima (capture name d) = HasMinima d
+  BodyHasMinima (modified on off d) = HasMinima d
+  BodyHasMinima (invalid prefix) = Unit {0}

@@ -15,7 +15,7 @@ ghost use Rattle.regress_ecma.specs.ClassSetExpressions.{HasPropertiesOfStrings}
 ghost use Rattle.regress_ecma.specs.Compared.{own_context};
 ghost use Rattle.regress_ecma.specs.GroupNames.{HasIdentifiers, IsGroupName};
 ghost use Rattle.regress_ecma.specs.PatternNodes.{Disjunction, groups};
-ghost use Rattle.regress_ecma.specs.Patterns.{has_early_error, IsDerivedPattern, IsWithin};
+ghost use Rattle.regress_ecma.specs.Patterns.{has_early_error, HasMinima, IsDerivedPattern, IsWithin};
 ghost use Rattle.regress_ecma.specs.Quantifiers.{HasMinimum, is_out_of_order, IsQuantifier, quantifier_of, QuantifierPrefix};
 
 /// States the theorem that in the dialect `Ecma` a pattern is accepted exactly where ECMA-262 accepts it (section 22.2.1 with
@@ -34,13 +34,14 @@ pub fn accepts_patterns_of_ecma()
         (setting.flags.unicode_sets ≡ true → setting.flags.unicode ≡ true) → (t : Source) → All IsCodePoint t →
         (p : Pattern) → IsPattern (own_context setting p) p t [] → NoneConflict p →
         (d : Disjunction) × IsDerivedPattern setting.table setting.flags.unicode setting.flags.unicode_sets d t
-        × (IsWithin d → has_early_error d ≡ false) × (groups d ≡ names p) }
+        × IsWithin setting.flags.unicode_sets d × (HasMinima d → has_early_error d ≡ false) × (groups d ≡ names p) }
 
     // What ECMA-262 derives without an early error the grammar derives, with the same groups, and without names in conflict.
     ensures derived { (setting : Setting) → HasPropertiesOfStrings setting.table →
         (setting.flags.unicode_sets ≡ true → setting.flags.unicode ≡ true) → HasIdentifiers setting.table →
         (t : Source) → All IsCodePoint t → (d : Disjunction) →
-        IsDerivedPattern setting.table setting.flags.unicode setting.flags.unicode_sets d t → has_early_error d ≡ false → IsWithin d →
+        IsDerivedPattern setting.table setting.flags.unicode setting.flags.unicode_sets d t → has_early_error d ≡ false →
+        IsWithin setting.flags.unicode_sets d →
         (p : Pattern) × IsPattern (own_context setting p) p t [] × NoneConflict p × (groups d ≡ names p) }
 
     // A quantifier that is found, ECMA-262 derives. Numbers saturate at `usize::MAX`. The parser takes a `?` that follows, since no
