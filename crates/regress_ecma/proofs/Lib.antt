@@ -56,6 +56,7 @@ mod DerivedUnions
 mod DerivedClassSets
 mod CodeUnits
 mod Examples
+mod PatternExamples
 mod QuantifierNodes
 mod GroupNameNodes
 mod AtomEscapeNodes

@@ -175,7 +175,7 @@ module _ (table : Table) (i m s v : Bool) (names : List (Option Name)) where
   name_escape_at u (character value) t rest h = absurd h
   name_escape_at u (named name) t rest h = (ap (is_at (char "k")) h.1.1, h.0)
 
-  lone_has_no_escape : (t : Source) → begins_with_letter t ≡ false → HasNoEscape table (mode table i m s v names false) (char "c" ∷ t)
+  pub lone_has_no_escape : (t : Source) → begins_with_letter t ≡ false → HasNoEscape table (mode table i m s v names false) (char "c" ∷ t)
   lone_has_no_escape t e node rest (inl found) = none-some (node, rest) (sym (no_control t e) ∙ found)
   lone_has_no_escape t e node rest (inr h) = false≢true (name_escape_at false node (char "c" ∷ t) rest h).0
 
