@@ -1,25 +1,22 @@
 -- A pattern is accepted exactly where ECMA-262 accepts it.
-use Rattle.std.proofs.Common.{◌≡◌, ℕ, zero, suc, ◌+◌, ◌||◌, Bool, true, false, not, List, [], ◌∷◌, ◌++◌, length, Option, Some, None, refl, sym, ap, ap₂, subst, ◌∙◌, arith, length-append}
+use Rattle.std.proofs.Common.{◌≡◌, ℕ, ◌||◌, Bool, true, false, not, List, [], length, Option, Some, None, refl, sym, ap, ap₂, subst, ◌∙◌, arith, length-append}
 use Rattle.std.specs.List.{All, list_any}
 use Rattle.std.specs.Option.{is_some}
-use Rattle.std.proofs.lemmas.Bool.{false≢true}
-use Rattle.regress_base.specs.Table.{Table}
 use Rattle.regress_tree.specs.Steps.{Setting}
 use Rattle.regress_lexer.specs.declared.dialect.Dialect.TheVariants.{Ecma}
 use Rattle.regress_lexer.specs.Source.{Source, IsCodePoint}
 use Rattle.regress_syntax.specs.Grammar.{IsPattern}
 use Rattle.regress_syntax.specs.Productions.{Context}
-use Rattle.regress_syntax.specs.SameNames.{are_names_apart, NoneConflict}
-use Rattle.regress_syntax.specs.Syntax.{Name, Group, grouping, modified, capture, look, Pattern, one, either, Terms, no_terms, more_terms, Item, atom, group, Counts, counts, counts_of_terms, counts_of_item, names, names_of_terms, names_of_item}
-use Rattle.regress_base.specs.declared.types.Quantifier.{Quantifier}
+use Rattle.regress_syntax.specs.SameNames.{NoneConflict}
+use Rattle.regress_syntax.specs.Syntax.{Name, grouping, modified, capture, look, Pattern, one, either, Terms, no_terms, more_terms, Item, atom, group, counts, counts_of_terms, counts_of_item, names, names_of_terms, names_of_item}
 use Rattle.regress_ecma.specs.ClassSetExpressions.{HasPropertiesOfStrings}
 use Rattle.regress_ecma.specs.Compared.{own_context}
 use Rattle.regress_ecma.specs.GroupNames.{HasIdentifiers}
 use Rattle.regress_ecma.specs.PatternNodes.{Disjunction, groups, has_duplicate}
-use Rattle.regress_ecma.specs.Patterns.{Mode, mode_of, IsDisjunction, IsDerivedPattern, has_error, has_early_error, IsWithin, HasMinima}
-use Rattle.regress_ecma.proofs.AtomEscapeNodes.{context, mode}
-use Rattle.regress_ecma.proofs.PatternDerivations.{IsDisjunctionOf, pattern_derived}
-use Rattle.regress_ecma.proofs.PatternTrees.{IsReadPattern, or_parts, disjunction_read}
+use Rattle.regress_ecma.specs.Patterns.{Mode, IsDisjunction, IsDerivedPattern, has_error, has_early_error, IsWithin, HasMinima}
+use Rattle.regress_ecma.proofs.AtomEscapeNodes.{context}
+use Rattle.regress_ecma.proofs.PatternDerivations.{pattern_derived}
+use Rattle.regress_ecma.proofs.PatternTrees.{or_parts, disjunction_read}
 
 -- ---- the number of groups is that of their names
 
@@ -71,7 +68,7 @@ module _ (setting : Setting) (all : HasPropertiesOfStrings setting.table)
       (d : Disjunction) × IsDerivedPattern setting.table u v d t × IsWithin v d × (HasMinima d → has_early_error d ≡ false) × (groups d ≡ names p)
   pattern_accepted t points p derived apart =
       let found = pattern_derived setting.table v (names p) u all implied i m s p t [] points
-          (subst (λ (ctx : Context). IsPattern ctx p t []) (own_is p) derived) in (
+      (subst (λ (ctx : Context). IsPattern ctx p t []) (own_is p) derived) in (
         found.0,
         subst (λ (ns : List (Option Name)). IsDisjunction setting.table (mode_with ns) found.0 t []) (sym found.1.groups) found.1.derived,
         found.1.within,

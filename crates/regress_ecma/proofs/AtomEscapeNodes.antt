@@ -1,31 +1,29 @@
 -- The escapes that the parser finds outside of classes are those that AtomEscape of ECMA-262 derives.
-use Rattle.std.proofs.Common.{◌≡◌, ℕ, ◌==◌, ◌⊎◌, inl, inr, Bool, true, false, not, ◌&&◌, ◌||◌, List, [], ◌∷◌, length, Option, Some, None, if◌then◌else◌, refl, sym, ap, subst, ◌∙◌, nat_le, ◌%◌, arith, eqb-true}
+use Rattle.std.proofs.Common.{◌≡◌, ℕ, ◌==◌, ◌⊎◌, inl, inr, Bool, true, false, not, ◌&&◌, ◌||◌, List, [], ◌∷◌, length, Option, Some, None, if◌then◌else◌, refl, sym, ap, subst, ◌∙◌, nat_le, arith}
 use Rattle.std.specs.Option.{option_or}
-use Rattle.std.proofs.lemmas.Bool.{false≢true, and_parts}
+use Rattle.std.proofs.lemmas.Bool.{false≢true}
 use Rattle.std.proofs.lemmas.Bool.Decides.{nat_tests}
-use Rattle.std.proofs.lemmas.Option.{none-some, same_Some}
 use Rattle.regress_base.specs.declared.charclasses.CharacterClassType.{CharacterClassType}
 use Rattle.regress_base.specs.declared.charclasses.CharacterClassType.TheVariants.{Digits, Spaces, Words}
 use Rattle.regress_base.specs.declared.types.Flags.{Flags}
 use Rattle.regress_base.specs.Intervals.{Bounds}
 use Rattle.regress_base.specs.Table.{Table}
 use Rattle.regress_lexer.specs.declared.dialect.Dialect.TheVariants.{Ecma}
-use Rattle.regress_lexer.specs.Source.{Source, Found, ◌>>=◌, found_map, first_production, char, is_at, is_one_of}
-use Rattle.regress_lexer.specs.Digits.{is_decimal, is_letter, control, number, front, after}
+use Rattle.regress_lexer.specs.Source.{Source, Found, found_map, first_production, char, is_one_of}
+use Rattle.regress_lexer.specs.Digits.{is_decimal, control, number, front, after}
 use Rattle.regress_lexer.specs.Escapes.{begins_with_letter, escape_at, character_escape_at}
 use Rattle.regress_classes.specs.ClassProductions.{complement, class_letter}
 use Rattle.regress_classes.specs.Properties.{Property, of_points, of_strings, property_at}
 use Rattle.regress_syntax.specs.Productions.{Context, atom_allows, begins_number, has_names, is_lone_backslash, class_flags, complements_first, point_property, number_reference_at, escape_productions, escaped_by}
 use Rattle.regress_syntax.specs.Syntax.{Name, Atom, literal, class_escape, class, back_reference, by_number}
-use Rattle.regress_ecma.specs.CharacterEscapes.{character_escape, legacy_octal_escape, identity_escape, lead_unit, is_no_identity}
+use Rattle.regress_ecma.specs.CharacterEscapes.{character_escape, lead_unit}
 use Rattle.regress_ecma.specs.ClassNodes as Nodes
 use Rattle.regress_ecma.specs.ClassRanges.{character_class_escape}
-use Rattle.regress_ecma.specs.PatternNodes.{AtomEscape, decimal, character_class, character, named}
+use Rattle.regress_ecma.specs.PatternNodes.{AtomEscape, decimal, character_class, character}
 use Rattle.regress_ecma.specs.Patterns.{Mode, group_escape, atom_escape, is_wrong_escape}
 use Rattle.regress_ecma.proofs.ClassAtomNodes.{letter_none, not_p, no_identity, no_brace_u}
-use Rattle.regress_ecma.proofs.EscapesWithU.{at_character, by_case, or_none, and_false, escape_with_u}
+use Rattle.regress_ecma.proofs.EscapesWithU.{at_character, by_case, and_false, escape_with_u}
 use Rattle.regress_ecma.proofs.EscapesWithoutU.{HasTrail, IsUnits, escape_without_u}
-use Rattle.regress_ecma.proofs.OctalEscapes.{no_octal_escape}
 
 -- ---- letters
 

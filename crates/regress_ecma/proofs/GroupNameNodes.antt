@@ -1,5 +1,5 @@
 -- The parser finds the names that ECMA-262 derives.
-use Rattle.std.proofs.Common.{◌≡◌, ℕ, zero, suc, ◌+◌, ◌<◌, ◌==◌, ◌⊎◌, inl, inr, Bool, true, false, not, ◌&&◌, ◌||◌, List, [], ◌∷◌, length, drop, Option, Some, None, if◌then◌else◌, refl, sym, ap, subst, ◌∙◌, nat_le, arith, eqb-true}
+use Rattle.std.proofs.Common.{◌≡◌, ℕ, zero, suc, ◌+◌, ◌<◌, ◌==◌, ◌⊎◌, inl, inr, Bool, true, false, not, ◌&&◌, ◌||◌, [], ◌∷◌, length, drop, Some, None, if◌then◌else◌, refl, sym, ap, subst, ◌∙◌, nat_le, arith, eqb-true}
 use Rattle.std.proofs.lemmas.Bool.{false≢true, and_parts}
 use Rattle.std.proofs.lemmas.Bool.Decides.{nat_tests}
 use Rattle.std.proofs.lemmas.Option.{none-some, same_Some}
@@ -10,7 +10,7 @@ use Rattle.regress_base.specs.Table.{Table}
 use Rattle.regress_lexer.specs.Source.{Source, Found, ◌>>=◌, found_map, char, is_at, is_one_of}
 use Rattle.regress_lexer.specs.Escapes.{unicode_at}
 use Rattle.regress_syntax.specs.Syntax.{Name}
-use Rattle.regress_syntax.specs.Names.{is_dollar_or_underscore, begins_name, continues_name, literal_or_escape_at, name_character_at, rest_of_name_by, name_at, group_name_at}
+use Rattle.regress_syntax.specs.Names.{begins_name, continues_name, literal_or_escape_at, name_character_at, rest_of_name_by, name_at, group_name_at}
 use Rattle.regress_syntax.proofs.lemmas.NameEnds.{name_character_at-shortens}
 use Rattle.regress_ecma.specs.CharacterEscapes.{led_by, unicode_escape}
 use Rattle.regress_ecma.specs.GroupNames.{is_unicode_id_start, is_unicode_id_continue, is_identifier_start_char, is_dollar_or_joins, is_identifier_part_char, IsIdentifierCharacter, IsRegExpIdentifierStart, IsRegExpIdentifierPart, AreRegExpIdentifierParts, IsRegExpIdentifierName, IsGroupName, HasIdentifiers}
@@ -290,7 +290,7 @@ module _ (table : Table) (unicode : Bool) where
         let found = part_derived c t u part in
         let shorter : length u < length t = name_character_at-shortens (continues_name table) t (c, u) found in
         ap (λ (b : Bool). if b then Some ([], drop 1 t)
-          else (name_character_at (continues_name table) t >>= λ (c, rest). found_map (λ (cs : Name). c ∷ cs) (rest_of_name_by n table rest))) (part_no_closing c t u part)
+        else (name_character_at (continues_name table) t >>= λ (c, rest). found_map (λ (cs : Name). c ∷ cs) (rest_of_name_by n table rest))) (part_no_closing c t u part)
         ∙ ap (λ (o : Found ℕ). o >>= λ (c, rest). found_map (λ (cs : Name). c ∷ cs) (rest_of_name_by n table rest)) found
         ∙ ap (found_map (λ (cs : Name). c ∷ cs)) (parts_derived n cs u rest (omega arith) more)
 

@@ -1,40 +1,30 @@
 -- The atoms that the parser finds are the terms without groups that ECMA-262 derives.
-use Rattle.std.proofs.Common.{◌≡◌, ℕ, ◌==◌, ◌⊎◌, inl, inr, Bool, true, false, not, ◌&&◌, ◌||◌, List, [], ◌∷◌, length, drop, Option, Some, None, if◌then◌else◌, refl, sym, ap, subst, ◌∙◌, nat_le, ◌<◌, ◌%◌, arith, eqb-true}
-use Rattle.std.specs.List.{All, list_any}
-use Rattle.std.specs.Option.{option_or, is_some}
+use Rattle.std.proofs.Common.{◌≡◌, ℕ, ◌==◌, ◌⊎◌, inl, inr, Bool, true, false, not, ◌&&◌, ◌||◌, List, [], ◌∷◌, Option, Some, None, if◌then◌else◌, refl, sym, ap, subst, ◌∙◌, arith, eqb-true}
+use Rattle.std.specs.List.{All}
 use Rattle.std.proofs.lemmas.Bool.{false≢true, and_parts}
 use Rattle.std.proofs.lemmas.Bool.Decides.{nat_tests}
-use Rattle.std.proofs.lemmas.List.Elements.{All-tail}
-use Rattle.std.proofs.lemmas.Option.{none-some, same_Some}
-use Rattle.regress_base.specs.Intervals.{Bounds}
-use Rattle.regress_base.specs.Limits.{max_nesting_depth}
+use Rattle.std.proofs.lemmas.Option.{none-some}
 use Rattle.regress_base.specs.Table.{Table}
-use Rattle.regress_base.specs.declared.types.AnchorType.TheVariants.{StartOfLine, EndOfLine}
 use Rattle.regress_lexer.specs.declared.dialect.Dialect.TheVariants.{Ecma}
-use Rattle.regress_lexer.specs.Source.{Source, Found, ◌>>=◌, found_map, IsCodePoint, char, is_at, is_one_of}
-use Rattle.regress_lexer.specs.Digits.{is_letter, control, hex_at}
+use Rattle.regress_lexer.specs.Source.{Source, Found, ◌>>=◌, IsCodePoint, char, is_at, is_one_of}
+use Rattle.regress_lexer.specs.Digits.{hex_at}
 use Rattle.regress_lexer.specs.Escapes.{begins_with_letter}
 use Rattle.regress_classes.specs.ClassProductions.{class_at}
-use Rattle.regress_classes.specs.ClassSets.{Value, class_set_at}
+use Rattle.regress_classes.specs.ClassSets.{class_set_at}
 use Rattle.regress_syntax.specs.Names.{group_name_at}
-use Rattle.regress_syntax.specs.Productions.{Context, class_parameters, class_flags, compared_members, single, atom_allows, has_names, has_name, is_lone_backslash, name_reference_at, escaped_by, escaped_at, brackets_at, atom_by, head_at}
-use Rattle.regress_syntax.specs.Syntax.{Name, is_named, Atom, literal, dot as dot_atom, anchor, boundary as boundary_atom, class as class_atom, class_set, back_reference, by_name_if_set}
-use Rattle.regress_ecma.specs.CharacterEscapes.{is_before, lead_unit, trail_unit, is_trail, led_by, hex_4_digits, escaped_trail, character_escape}
-use Rattle.regress_ecma.specs.ClassNodes.{CharacterClass}
-use Rattle.regress_ecma.specs.ClassRanges.{IsAcceptedClass}
-use Rattle.regress_ecma.specs.ClassSetExpressions.{depth, HasPropertiesOfStrings, IsAcceptedClassSet}
-use Rattle.regress_ecma.specs.GroupNames.{IsGroupName, HasIdentifiers}
-use Rattle.regress_ecma.specs.PatternNodes.{AtomEscape, decimal, character_class, character, named, Disjunction, Alternative, Term, TermBody, start, end, boundary, lookahead, lookbehind, pattern_character, dot, escape, backslash, class, capture, modified, invalid, groups_of_body, body_has_duplicate, is_called, is_specified}
-use Rattle.regress_ecma.specs.Patterns.{Mode, atom_escape, group_escape, IsNameEscape, IsAtomEscape, plain_character, HasNoBraces, HasNoEscape, IsClass, is_quantifiable, IsTermBody, is_wrong_escape, body_has_error, BodyIsWithin}
-use Rattle.regress_ecma.proofs.AcceptedClasses.{class_accepted, class_derived}
+use Rattle.regress_syntax.specs.Productions.{Context, class_parameters, class_flags, compared_members, atom_allows, has_names, has_name, is_lone_backslash, name_reference_at, escaped_by, escaped_at, brackets_at, atom_by}
+use Rattle.regress_syntax.specs.Syntax.{Name, is_named, Atom, literal, class as class_atom, class_set, back_reference, by_name_if_set}
+use Rattle.regress_ecma.specs.CharacterEscapes.{lead_unit, trail_unit, is_trail, led_by, hex_4_digits, escaped_trail, character_escape}
+use Rattle.regress_ecma.specs.ClassSetExpressions.{HasPropertiesOfStrings}
+use Rattle.regress_ecma.specs.PatternNodes.{AtomEscape, decimal, character_class, character, named, TermBody, start, end, boundary, pattern_character, dot, escape, backslash, class, groups_of_body, body_has_duplicate, is_called, is_specified}
+use Rattle.regress_ecma.specs.Patterns.{Mode, atom_escape, IsNameEscape, plain_character, HasNoBraces, HasNoEscape, is_quantifiable, IsTermBody, body_has_error, BodyIsWithin}
+use Rattle.regress_ecma.proofs.AcceptedClasses.{class_accepted}
 use Rattle.regress_ecma.proofs.AcceptedClassSets.{class_set_accepted}
-use Rattle.regress_ecma.proofs.DerivedClassSets.{class_set_derived}
 use Rattle.regress_ecma.proofs.AtomEscapeNodes.{flags, context, mode, IsEscapeOf, escapes_alike}
-use Rattle.regress_ecma.proofs.ClassDerivations.{front_is}
-use Rattle.regress_ecma.proofs.ClassRangeNodes.{Each, each_none, each_some, each_if, each_then, each_at, each_weaker}
-use Rattle.regress_ecma.proofs.EscapesWithU.{at_character, by_case, or_none}
+use Rattle.regress_ecma.proofs.ClassRangeNodes.{Each, each_none, each_some, each_if, each_then}
+use Rattle.regress_ecma.proofs.EscapesWithU.{at_character, by_case}
 use Rattle.regress_ecma.proofs.EscapesWithoutU.{HasTrail, is_trail_unit}
-use Rattle.regress_ecma.proofs.GroupNameNodes.{group_name_accepted, group_name_derived}
+use Rattle.regress_ecma.proofs.GroupNameNodes.{group_name_accepted}
 use Rattle.regress_ecma.proofs.OctalEscapes.{no_octal_escape}
 use Rattle.regress_ecma.proofs.PatternCharacters.{no_braces_elsewhere, IsCharacterOf, is_other, characters_alike, found_without_braces, no_delimiter, small_trail, no_brace_trail, none_other}
 
@@ -84,11 +74,14 @@ module _ (table : Table) (i m s v : Bool) (names : List (Option Name)) (u : Bool
   one : (allowed : Bool) (b : TermBody) (t rest : Source) → Body b t rest → groups_of_body b ≡ [] → body_has_duplicate b ≡ false →
       body_has_error names b ≡ false → BodyIsWithin v b → is_quantifiable table own_mode b ≡ allowed → AreDerived allowed t rest
   one allowed b t rest derived groups alone fine within quantifiable =
-      inl (b, record {
-        derived = derived;
-        leaf = record { groups = groups; alone = alone; fine = fine; within = within };
-        quantifiable = quantifiable;
-      })
+      inl (
+        b,
+        record {
+          derived = derived;
+          leaf = record { groups = groups; alone = alone; fine = fine; within = within };
+          quantifiable = quantifiable;
+        },
+      )
 
 -- ---- trail surrogates
 
@@ -125,21 +118,26 @@ module _ (table : Table) (i m s v : Bool) (names : List (Option Name)) where
 
   -- The trail surrogate is a term.
   trail_one : (c : ℕ) (w rest : Source) → HasTrail c w rest → (b : TermBody) × IsOne table i m s v names false true b w rest
-  trail_one c w rest (inl e) =
-      (pattern_character (trail_unit c), record {
-        derived = subst (λ (x : Source). IsTermBody table units_mode (pattern_character (trail_unit c)) x rest) (sym e)
-            (rw (no_delimiter _ (is_trail_unit c), small_trail _ (is_trail_unit c)) refl,
-            no_braces_elsewhere table units_mode (trail_unit c ∷ rest) (no_brace_trail (trail_unit c) (is_trail_unit c)));
-        leaf = record { groups = refl; alone = refl; fine = refl; within = tt };
-        quantifiable = refl;
-      })
+  trail_one c w rest (inl e) = (
+    pattern_character (trail_unit c),
+    record {
+      derived = subst (λ (x : Source). IsTermBody table units_mode (pattern_character (trail_unit c)) x rest) (sym e) (
+        rw (no_delimiter _ (is_trail_unit c), small_trail _ (is_trail_unit c)) refl,
+        no_braces_elsewhere table units_mode (trail_unit c ∷ rest) (no_brace_trail (trail_unit c) (is_trail_unit c)),
+      );
+      leaf = record { groups = refl; alone = refl; fine = refl; within = tt };
+      quantifiable = refl;
+    },
+  )
   trail_one c w rest (inr e) =
-      let found = escaped_inverse (trail_unit c) w rest e in
-      (escape (character (trail_unit c)), record {
-        derived = (char "u" ∷ found.0, found.1, refl, inl (rw found.2 refl));
-        leaf = record { groups = refl; alone = refl; fine = refl; within = tt };
-        quantifiable = refl;
-      })
+      let found = escaped_inverse (trail_unit c) w rest e in (
+        escape (character (trail_unit c)),
+        record {
+          derived = (char "u" ∷ found.0, found.1, refl, inl (rw found.2 refl));
+          leaf = record { groups = refl; alone = refl; fine = refl; within = tt };
+          quantifiable = refl;
+        },
+      )
 
 -- no AtomEscape is derived from a `c` that no letter follows
 no_control_by : (b : Bool) (t : Source) → begins_with_letter t ≡ false → character_escape false b (char "c" ∷ t) ≡ None
@@ -203,8 +201,16 @@ module _ (table : Table) (i m s v : Bool) (names : List (Option Name)) where
         (one table i m s v names u (atom_allows Ecma a) (escape node) (char "\\" ∷ c ∷ t) rest (c ∷ t, refl, no_b, inl e) refl refl fine tt (sym allows))
     from_alike c t no_b (Some (a, rest)) (allows, inr (none, (x, w, e, trail))) =
         each_some (IsAtom (char "\\" ∷ c ∷ t)) (a, rest)
-        (inr (allows, (escape (character (lead_unit x)), last.0, w,
-          record { derived = (c ∷ t, refl, no_b, inl e); leaf = record { groups = refl; alone = refl; fine = refl; within = tt }; quantifiable = refl }, last.1)))
+        (inr (
+          allows,
+          (
+            escape (character (lead_unit x)),
+            last.0,
+            w,
+            record { derived = (c ∷ t, refl, no_b, inl e); leaf = record { groups = refl; alone = refl; fine = refl; within = tt }; quantifiable = refl },
+            last.1,
+          ),
+        ))
       where
         last : (b : TermBody) × IsOne table i m s v names u true b w rest
         last = subst (λ (u : Bool). (b : TermBody) × IsOne table i m s v names u true b w rest) (sym none) (trail_one table i m s v names x w rest trail)
@@ -267,7 +273,7 @@ module _ (table : Table) (i m s v : Bool) (names : List (Option Name)) where
         (λ k. from_alike u c t (both_ways c small capital) (escaped_by (context table i m s v names u) c t)
         (escapes_alike table i m s names u v implied c t (both_ways c small capital) lone k)))))
 
-    -- characters that stand for themselves
+    -- literal characters
     from_character : (t : Source) → HasNoBraces table (mode table i m s v names u) t → (found : Found Atom) →
         IsCharacterOf table i m s v names u (plain_character table (mode table i m s v names u) t) found → Each (IsAtom u t) found
     from_character t no_braces None alike = each_none (IsAtom u t)
@@ -275,8 +281,16 @@ module _ (table : Table) (i m s v : Bool) (names : List (Option Name)) where
         each_some (IsAtom u t) (a, rest) (one table i m s v names u (atom_allows Ecma a) (pattern_character c) t rest (e, no_braces) refl refl refl tt (sym allows))
     from_character t no_braces (Some (a, rest)) (allows, inr (none, (x, w, e, trail))) =
         each_some (IsAtom u t) (a, rest)
-        (inr (allows, (pattern_character (lead_unit x), last.0, w,
-          record { derived = (e, no_braces); leaf = record { groups = refl; alone = refl; fine = refl; within = tt }; quantifiable = refl }, last.1)))
+        (inr (
+          allows,
+          (
+            pattern_character (lead_unit x),
+            last.0,
+            w,
+            record { derived = (e, no_braces); leaf = record { groups = refl; alone = refl; fine = refl; within = tt }; quantifiable = refl },
+            last.1,
+          ),
+        ))
       where
         last : (b : TermBody) × IsOne table i m s v names u true b w rest
         last = subst (λ (u : Bool). (b : TermBody) × IsOne table i m s v names u true b w rest) (sym none) (trail_one table i m s v names x w rest trail)

@@ -1,15 +1,15 @@
--- The characters of patterns that stand for themselves, and the braces that begin no quantifier.
-use Rattle.std.proofs.Common.{◌≡◌, ℕ, ◌==◌, ◌⊎◌, inl, inr, Bool, true, false, not, ◌&&◌, ◌||◌, List, [], ◌∷◌, length, drop, Option, Some, None, if◌then◌else◌, refl, sym, ap, subst, ◌∙◌, nat_le, arith, eqb-true}
+-- The literal characters of patterns, and the braces that begin no quantifier.
+use Rattle.std.proofs.Common.{◌≡◌, ℕ, ◌==◌, ◌⊎◌, inl, inr, Bool, true, false, ◌||◌, List, ◌∷◌, drop, Option, Some, None, if◌then◌else◌, refl, sym, ap, subst, ◌∙◌, nat_le, arith}
 use Rattle.std.specs.Option.{is_some}
-use Rattle.std.proofs.lemmas.Bool.{false≢true, and_parts}
+use Rattle.std.proofs.lemmas.Bool.{false≢true}
 use Rattle.std.proofs.lemmas.Bool.Decides.{nat_tests}
-use Rattle.std.proofs.lemmas.Option.{none-some, same_Some}
+use Rattle.std.proofs.lemmas.Option.{none-some}
 use Rattle.regress_base.specs.Table.{Table}
 use Rattle.regress_base.specs.declared.types.Quantifier.{Quantifier}
 use Rattle.regress_lexer.specs.declared.dialect.Dialect.TheVariants.{Ecma}
-use Rattle.regress_lexer.specs.Source.{Source, Found, ◌>>=◌, found_map, char, is_at, is_one_of, question_mark}
+use Rattle.regress_lexer.specs.Source.{Source, Found, char, is_at, is_one_of}
 use Rattle.regress_lexer.specs.Quantifiers.{quantifier_at}
-use Rattle.regress_syntax.specs.Productions.{Context, atom_allows, brace_by, atom_by}
+use Rattle.regress_syntax.specs.Productions.{atom_allows, atom_by}
 use Rattle.regress_syntax.specs.Syntax.{Name, Atom, literal}
 use Rattle.regress_ecma.specs.CharacterEscapes.{lead_unit, trail_unit, source_character, is_trail}
 use Rattle.regress_ecma.specs.Patterns.{Mode, plain_character, HasNoBraces}
@@ -17,7 +17,7 @@ use Rattle.regress_ecma.specs.Quantifiers.{QuantifierPrefix, star, plus, optiona
 use Rattle.regress_ecma.proofs.AtomEscapeNodes.{flags, context, mode}
 use Rattle.regress_ecma.proofs.ClassDerivations.{front_is}
 use Rattle.regress_ecma.proofs.EscapesWithU.{at_character, by_case}
-use Rattle.regress_ecma.proofs.EscapesWithoutU.{HasTrail, is_trail_unit}
+use Rattle.regress_ecma.proofs.EscapesWithoutU.{HasTrail}
 use Rattle.regress_ecma.proofs.QuantifierNodes.{quantifier_accepted, quantifier_derived}
 
 -- ---- braces
@@ -26,8 +26,10 @@ use Rattle.regress_ecma.proofs.QuantifierNodes.{quantifier_accepted, quantifier_
 pub prefix_found : (p : QuantifierPrefix) (t rest : Source) → IsQuantifierPrefix p t rest → (x : Quantifier × Source) × (quantifier_at t ≡ Some x)
 prefix_found p t rest derived =
     by_case (is_at (char "?") rest)
-    (λ lazy. ((quantifier_of p true, drop 1 rest),
-      quantifier_derived p true t (drop 1 rest) (subst (IsQuantifierPrefix p t) (front_is (char "?") rest lazy) derived) (λ e. absurd (false≢true (sym e)))))
+    (λ lazy. (
+      (quantifier_of p true, drop 1 rest),
+      quantifier_derived p true t (drop 1 rest) (subst (IsQuantifierPrefix p t) (front_is (char "?") rest lazy) derived) (λ e. absurd (false≢true (sym e))),
+    ))
     (λ greedy. ((quantifier_of p false, rest), quantifier_derived p false t rest derived (λ _. greedy)))
 
 braced_first : (p : QuantifierPrefix) (t rest : Source) → IsQuantifierPrefix p (char "{" ∷ t) rest → is_braced p ≡ true
@@ -125,9 +127,25 @@ module _ (table : Table) (i m s v : Bool) (names : List (Option Name)) where
       (λ g3. at_character (λ d. Claim true d t) (char ")") c (λ _ _. refl)
       (λ g4. at_character (λ d. Claim true d t) (char "|") c (λ _ _. refl)
       (λ g5 _ _. rw (
-        f1, f2, f3, f4, f5,
-        swap c _ f1, swap c _ f2, swap c _ f3, swap c _ f4, swap c _ f5, swap c _ f6, swap c _ f7, swap c _ f8, swap c _ f9,
-        swap c _ g1, swap c _ g2, swap c _ g3, swap c _ g4, swap c _ g5
+        f1,
+        f2,
+        f3,
+        f4,
+        f5,
+        swap c _ f1,
+        swap c _ f2,
+        swap c _ f3,
+        swap c _ f4,
+        swap c _ f5,
+        swap c _ f6,
+        swap c _ f7,
+        swap c _ f8,
+        swap c _ f9,
+        swap c _ g1,
+        swap c _ g2,
+        swap c _ g3,
+        swap c _ g4,
+        swap c _ g5,
       ) (refl, inl (c, refl))))))))))))))))
 
   units : (c : ℕ) (t : Source) (a : Atom) → atom_allows Ecma a ≡ true → IsCharacterOf false (source_character false (c ∷ t)) (Some (a, t))
@@ -167,9 +185,25 @@ module _ (table : Table) (i m s v : Bool) (names : List (Option Name)) where
       (λ g3. at_character (λ d. Claim false d t) (char ")") c (λ _ _. refl)
       (λ g4. at_character (λ d. Claim false d t) (char "|") c (λ _ _. refl)
       (λ g5 _ _. rw (
-        f1, f2, f3, f4, f5,
-        swap c _ f1, swap c _ f2, swap c _ f3, swap c _ f4, swap c _ f5, swap c _ f6, swap c _ f7, swap c _ f8, swap c _ f9,
-        swap c _ g1, swap c _ g2, swap c _ g3, swap c _ g4, swap c _ g5
+        f1,
+        f2,
+        f3,
+        f4,
+        f5,
+        swap c _ f1,
+        swap c _ f2,
+        swap c _ f3,
+        swap c _ f4,
+        swap c _ f5,
+        swap c _ f6,
+        swap c _ f7,
+        swap c _ f8,
+        swap c _ f9,
+        swap c _ g1,
+        swap c _ g2,
+        swap c _ g3,
+        swap c _ g4,
+        swap c _ g5,
       ) (units c t (literal (flags table i m s v names false) c) refl)))))))))))))))
 
   pub characters_alike : (u : Bool) (c : ℕ) (t : Source) → is_other c ≡ false → HasNoBraces table (mode table i m s v names u) (c ∷ t) →

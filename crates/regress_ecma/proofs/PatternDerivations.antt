@@ -1,32 +1,32 @@
 -- What the parser's grammar derives ECMA-262 derives, with the same groups.
-use Rattle.std.proofs.Common.{◌≡◌, ℕ, ◌==◌, ◌⊎◌, inl, inr, Bool, true, false, not, ◌&&◌, ◌||◌, List, [], ◌∷◌, ◌++◌, Option, Some, None, if◌then◌else◌, refl, sym, ap, ap₂, subst, ◌∙◌, eqb-true}
+use Rattle.std.proofs.Common.{◌≡◌, ℕ, ◌==◌, inl, inr, Bool, true, false, not, ◌&&◌, ◌||◌, List, [], ◌∷◌, ◌++◌, Option, Some, None, if◌then◌else◌, refl, sym, ap, ap₂, subst, ◌∙◌, eqb-true}
 use Rattle.std.specs.List.{All, list_any}
 use Rattle.std.proofs.lemmas.Bool.{false≢true}
 use Rattle.std.proofs.lemmas.List.Elements.{All-tail}
 use Rattle.std.proofs.lemmas.Option.{none-some, same_Some}
 use Rattle.regress_base.specs.Table.{Table}
 use Rattle.regress_base.specs.declared.types.Quantifier.{Quantifier}
-use Rattle.regress_tree.specs.Reading.{Direction, forwards, backwards}
+use Rattle.regress_tree.specs.Reading.{forwards, backwards}
 use Rattle.regress_lexer.specs.declared.dialect.Dialect.TheVariants.{Ecma}
 use Rattle.regress_lexer.specs.Modifiers.{switched}
 use Rattle.regress_lexer.specs.Quantifiers.{is_ordered}
 use Rattle.regress_lexer.specs.Source.{Source, Found, found_map, IsCodePoint, char, closing, bar}
 use Rattle.regress_lexer.proofs.lemmas.After.{after_all}
-use Rattle.regress_syntax.specs.Grammar.{IsPattern, AreTerms, IsItem}
-use Rattle.regress_syntax.specs.Productions.{Context, context_inside, Head, single, opens, head_of_item, allows, atom_allows, group_at, atom_by, head_at, optional_quantifier_at}
+use Rattle.regress_syntax.specs.Grammar.{IsPattern, AreTerms}
+use Rattle.regress_syntax.specs.Productions.{Context, context_inside, Head, single, opens, allows, atom_allows, group_at, atom_by, head_at, optional_quantifier_at}
 use Rattle.regress_syntax.specs.SameNames.{same_name, share_name, are_names_apart, are_names_apart_in_terms, are_names_apart_in_item}
-use Rattle.regress_syntax.specs.Syntax.{Name, Atom, Group, grouping, modified as modified_group, capture as capture_group, look, Pattern, one, either, Terms, no_terms, more_terms, Item, atom, group, names as names_of_pattern, names_of_terms, names_of_item, names_of_group}
+use Rattle.regress_syntax.specs.Syntax.{Name, Atom, Group, grouping, modified as modified_group, capture as capture_group, look, Pattern, one, either, Terms, no_terms, more_terms, atom, group, names as names_of_pattern, names_of_terms, names_of_item, names_of_group}
 use Rattle.regress_syntax.proofs.lemmas.Productions.{head_at-ends, optional_quantifier_at-ends}
 use Rattle.regress_ecma.specs.ClassSetExpressions.{HasPropertiesOfStrings}
-use Rattle.regress_ecma.specs.Quantifiers.{is_out_of_order, quantifier_of}
+use Rattle.regress_ecma.specs.Quantifiers.{is_out_of_order}
 use Rattle.regress_ecma.specs.PatternNodes.{Disjunction, Alternative, Term, TermBody, alone, or_else, nothing, term_then, unquantified, quantified, lookahead, lookbehind, capture, modified, groups, groups_of_alternative, groups_of_term, groups_of_body, is_repeated, have_a_name_in_common, has_duplicate, alternative_has_duplicate, term_has_duplicate, body_has_duplicate}
 use Rattle.regress_ecma.specs.Patterns.{Mode, is_quantifiable, IsDisjunction, IsAlternative, IsTerm, IsTermBody, has_error, alternative_has_error, term_has_error, body_has_error, IsWithin, AlternativeIsWithin, TermIsWithin, BodyIsWithin, HasMinima, AlternativeHasMinima, TermHasMinima, BodyHasMinima}
 use Rattle.regress_ecma.proofs.AtomEscapeNodes.{context, mode}
-use Rattle.regress_ecma.proofs.ClassRangeNodes.{Each, each_at}
+use Rattle.regress_ecma.proofs.ClassRangeNodes.{each_at}
 use Rattle.regress_ecma.proofs.EscapesWithU.{by_case}
-use Rattle.regress_ecma.proofs.PatternAtoms.{IsLeaf, IsOne, AreDerived, atoms_derived}
-use Rattle.regress_ecma.proofs.PatternGroups.{IsOpenedBy, Opens, groups_opened}
-use Rattle.regress_ecma.proofs.PatternStarts.{IsFoundAs, found_as}
+use Rattle.regress_ecma.proofs.PatternAtoms.{IsOne, AreDerived, atoms_derived}
+use Rattle.regress_ecma.proofs.PatternGroups.{IsOpenedBy, groups_opened}
+use Rattle.regress_ecma.proofs.PatternStarts.{found_as}
 use Rattle.regress_ecma.proofs.PatternTrees.{common_same, repeated_same}
 use Rattle.regress_ecma.proofs.QuantifierNodes.{quantifier_accepted, order_back}
 
@@ -170,15 +170,17 @@ module _ (table : Table) (v : Bool) (names : List (Option Name)) (u : Bool) wher
       (unquantified b, subst (λ (r : Source). IsTermOf found apart t r (unquantified b)) same (without allowed found apart t w b h))
   with_quantifier i m s allowed found apart t w z b (Some q) h e =
       let parts = found_as table i m s v names u allowed w (Some q, z) e in
-      let node = quantifier_accepted w z q parts.1 in
-      (quantified b node.0 node.1, record {
-        derived = (w, h.quantifiable ∙ parts.0, h.derived, node.2);
-        groups = h.groups;
-        duplicate = h.duplicate;
-        within = h.within;
-        fine = λ minima. either_fine (body_has_error names b) (is_out_of_order node.0) (h.fine minima.0)
-            (order_back node.0 node.1 minima.1 (ap is_ordered node.3 ∙ parts.2));
-      })
+      let node = quantifier_accepted w z q parts.1 in (
+        quantified b node.0 node.1,
+        record {
+          derived = (w, h.quantifiable ∙ parts.0, h.derived, node.2);
+          groups = h.groups;
+          duplicate = h.duplicate;
+          within = h.within;
+          fine = λ minima. either_fine (body_has_error names b) (is_out_of_order node.0) (h.fine minima.0)
+              (order_back node.0 node.1 minima.1 (ap is_ordered node.3 ∙ parts.2));
+        },
+      )
 
   -- ---- groups
 
@@ -202,25 +204,29 @@ module _ (table : Table) (v : Bool) (names : List (Option Name)) (u : Bool) wher
       (b : TermBody) × IsBodyOf (allows (context table true true true v names u) (opens kind)) (names_of_item (group kind p)) (are_names_apart_in_item (group kind p)) t rest b
   group_body grouping p t w rest opened d inside =
       (modified [] None d, of_group true grouping p (modified [] None d) d t w rest inside (w, opened, inside.derived) refl refl refl refl inside.within inside.fine)
-  group_body (modified_group change) p t w rest (on, off, opened, fine) d inside =
-      (modified on off d, of_group true (modified_group change) p (modified on off d) d t w rest inside (w, opened, inside.derived) refl refl refl refl inside.within
-        (λ minima. either_fine _ (has_error names d) fine (inside.fine minima)))
+  group_body (modified_group change) p t w rest (on, off, opened, fine) d inside = (
+    modified on off d,
+    of_group true (modified_group change) p (modified on off d) d t w rest inside (w, opened, inside.derived) refl refl refl refl inside.within
+        (λ minima. either_fine _ (has_error names d) fine (inside.fine minima)),
+  )
   group_body (look negated forwards) p t w rest opened d inside =
       (lookahead negated d, of_group (not u) (look negated forwards) p (lookahead negated d) d t w rest inside (w, opened, inside.derived) refl refl refl refl inside.within inside.fine)
   group_body (look negated backwards) p t w rest opened d inside =
       (lookbehind negated d, of_group false (look negated backwards) p (lookbehind negated d) d t w rest inside (w, opened, inside.derived) refl refl refl refl inside.within inside.fine)
-  group_body (capture_group name) p t w rest opened d inside =
-      (capture name d, record {
-        derived = (w, opened, inside.derived);
-        quantifiable = refl;
-        groups = ap (λ (a : List (Option Name)). name ∷ a) inside.groups;
-        duplicate =
-            ap₂ (λ (a b : Bool). a || b)
-            (ap (λ (a : List (Option Name)). is_repeated a name) inside.groups ∙ repeated_same (names_of_pattern p) name) inside.duplicate
-            ∙ by (list_any (same_name name) (names_of_pattern p)) (are_names_apart p);
-        within = inside.within;
-        fine = inside.fine;
-      })
+  group_body (capture_group name) p t w rest opened d inside = (
+    capture name d,
+    record {
+      derived = (w, opened, inside.derived);
+      quantifiable = refl;
+      groups = ap (λ (a : List (Option Name)). name ∷ a) inside.groups;
+      duplicate =
+          ap₂ (λ (a b : Bool). a || b)
+          (ap (λ (a : List (Option Name)). is_repeated a name) inside.groups ∙ repeated_same (names_of_pattern p) name) inside.duplicate
+          ∙ by (list_any (same_name name) (names_of_pattern p)) (are_names_apart p);
+      within = inside.within;
+      fine = inside.fine;
+    },
+  )
     where
       by : (a b : Bool) → (a || not b) ≡ not (not (a || false) && b)
       by true b = refl
@@ -241,10 +247,11 @@ module _ (table : Table) (v : Bool) (names : List (Option Name)) (u : Bool) wher
             (term_then x.0 others, joined [] found true apart t z rest x.0 others x.1 more)
         by (inr (allowed, (first, last, r, h, k))) =
             let x = with_quantifier i m s true [] true r w z last q (of_leaf i m s true last r w k)
-                (ap (λ (b : Bool). optional_quantifier_at (context table i m s v names u) b w) (sym allowed) ∙ quantifier) in
-            (term_then (unquantified first) (term_then x.0 others),
+            (ap (λ (b : Bool). optional_quantifier_at (context table i m s v names u) b w) (sym allowed) ∙ quantifier) in (
+              term_then (unquantified first) (term_then x.0 others),
               joined [] found true apart t r rest (unquantified first) (term_then x.0 others) (without true [] true t r first (of_leaf i m s true first t r h))
-              (joined [] found true apart r z rest x.0 others x.1 more))
+                  (joined [] found true apart r z rest x.0 others x.1 more),
+            )
 
     -- the body of a group, whose modifiers change the flags
     inside_derived : (i m s : Bool) (kind : Group) (p : Pattern) (t rest : Source) →
@@ -266,15 +273,17 @@ module _ (table : Table) (v : Bool) (names : List (Option Name)) (u : Bool) wher
           (alone a.0, record { derived = a.1.derived; groups = a.1.groups; duplicate = a.1.duplicate; within = a.1.within; fine = a.1.fine; points = a.1.points })
       pattern_derived i m s (either ts p) t rest points (mid, h, k) =
           let a = terms_derived i m s ts t (bar ∷ mid) points h in
-          let d = pattern_derived i m s p mid rest (All-tail IsCodePoint bar mid a.1.points) k in
-          (or_else a.0 d.0, record {
-            derived = (mid, a.1.derived, d.1.derived);
-            groups = ap₂ (λ (a b : List (Option Name)). a ++ b) a.1.groups d.1.groups;
-            duplicate = ap₂ (λ (a b : Bool). a || b) a.1.duplicate d.1.duplicate ∙ both (are_names_apart_in_terms ts) (are_names_apart p);
-            within = (a.1.within, d.1.within);
-            fine = λ minima. either_fine (alternative_has_error names a.0) (has_error names d.0) (a.1.fine minima.0) (d.1.fine minima.1);
-            points = d.1.points;
-          })
+          let d = pattern_derived i m s p mid rest (All-tail IsCodePoint bar mid a.1.points) k in (
+            or_else a.0 d.0,
+            record {
+              derived = (mid, a.1.derived, d.1.derived);
+              groups = ap₂ (λ (a b : List (Option Name)). a ++ b) a.1.groups d.1.groups;
+              duplicate = ap₂ (λ (a b : Bool). a || b) a.1.duplicate d.1.duplicate ∙ both (are_names_apart_in_terms ts) (are_names_apart p);
+              within = (a.1.within, d.1.within);
+              fine = λ minima. either_fine (alternative_has_error names a.0) (has_error names d.0) (a.1.fine minima.0) (d.1.fine minima.1);
+              points = d.1.points;
+            },
+          )
         where
           both : (a b : Bool) → (not a || not b) ≡ not (a && b)
           both true b = refl
@@ -292,12 +301,13 @@ module _ (table : Table) (v : Bool) (names : List (Option Name)) (u : Bool) wher
       terms_derived i m s (more_terms (group kind p) q xs) t rest points (w, z, (mid, opened, inside), quantifier, more) =
           let points_mid = after_all t mid ((head_at-ends (context table i m s v names u) t).each (opens kind, mid) opened) points in
           let d = inside_derived i m s kind p mid w
-              (λ (i' m' s' : Bool) (h : IsPattern (context table i' m' s' v names u) p mid (closing ∷ w)).
-              pattern_derived i' m' s' p mid (closing ∷ w) points_mid h) inside in
+          (λ (i' m' s' : Bool) (h : IsPattern (context table i' m' s' v names u) p mid (closing ∷ w)).
+          pattern_derived i' m' s' p mid (closing ∷ w) points_mid h) inside in
           let b = group_body kind p t mid w (opening_node table i m s v names u all implied kind t mid opened) d.0 d.1 in
           let points_w = All-tail IsCodePoint closing w d.1.points in
           let points_z = after_all w z ((optional_quantifier_at-ends (context table i m s v names u) (allows (context table i m s v names u) (opens kind)) w).each (q, z) quantifier) points_w in
           let others = terms_derived i m s xs z rest points_z more in
-          let x = with_quantifier i m s (allows (context table i m s v names u) (opens kind)) (names_of_item (group kind p)) (are_names_apart_in_item (group kind p)) t w z b.0 q b.1 quantifier in
-          (term_then x.0 others.0,
-            joined (names_of_item (group kind p)) (names_of_terms xs) (are_names_apart_in_item (group kind p)) (are_names_apart_in_terms xs) t z rest x.0 others.0 x.1 others.1)
+          let x = with_quantifier i m s (allows (context table i m s v names u) (opens kind)) (names_of_item (group kind p)) (are_names_apart_in_item (group kind p)) t w z b.0 q b.1 quantifier in (
+            term_then x.0 others.0,
+            joined (names_of_item (group kind p)) (names_of_terms xs) (are_names_apart_in_item (group kind p)) (are_names_apart_in_terms xs) t z rest x.0 others.0 x.1 others.1,
+          )

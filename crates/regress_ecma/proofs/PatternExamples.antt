@@ -1,19 +1,17 @@
 -- Worked examples of the grammar of patterns: what is derived, and which early errors there are. V8 accepts and rejects these
--- patterns.
-use Rattle.std.proofs.Common.{◌≡◌, ℕ, Bool, true, false, List, [], ◌∷◌, inl, inr, Option, Some, None, refl, arith}
+-- patterns, but for modifiers and names of several groups, which its version 11.3 does not have.
+use Rattle.std.proofs.Common.{◌≡◌, true, false, [], ◌∷◌, Some, None, refl, arith}
 use Rattle.std.specs.Prelude.{codes}
 use Rattle.regress_base.specs.Table.{Table}
 use Rattle.regress_base.specs.declared.charclasses.CharacterClassType.TheVariants.{Digits}
 use Rattle.regress_lexer.specs.Digits.{front, after}
-use Rattle.regress_lexer.specs.Quantifiers.{quantifier_at}
 use Rattle.regress_lexer.specs.Source.{char}
 use Rattle.regress_ecma.specs.ClassNodes.{class_escape}
-use Rattle.regress_ecma.specs.GroupNames.{is_unicode_id_start, is_identifier_start_char, IsGroupName}
-use Rattle.regress_ecma.specs.Quantifiers.{IsQuantifier, exactly, at_least, between, star, is_out_of_order}
-use Rattle.regress_ecma.specs.PatternNodes.{decimal, character_class, character, named, Disjunction, Term, TermBody, alone, or_else, nothing, term_then, unquantified, quantified, boundary, lookahead, pattern_character, dot, escape, backslash, capture, modified, invalid}
-use Rattle.regress_ecma.specs.Patterns.{Mode, mode_of, atom_escape, decimal_escape, plain_character, IsDerivedPattern, has_early_error, are_wrong_modifiers}
+use Rattle.regress_ecma.specs.Quantifiers.{IsQuantifier, exactly, between, star, is_out_of_order}
+use Rattle.regress_ecma.specs.PatternNodes.{decimal, character_class, character, named, Disjunction, Term, TermBody, alone, or_else, nothing, term_then, unquantified, quantified, lookahead, pattern_character, dot, escape, backslash, capture, modified, invalid}
+use Rattle.regress_ecma.specs.Patterns.{Mode, atom_escape, plain_character, IsDerivedPattern, has_early_error, are_wrong_modifiers}
 use Rattle.regress_ecma.proofs.PatternAtoms.{lone_has_no_escape}
-use Rattle.regress_ecma.proofs.PatternCharacters.{no_braces_from, no_braces_elsewhere}
+use Rattle.regress_ecma.proofs.PatternCharacters.{no_braces_elsewhere}
 
 -- ---- Quantifier
 

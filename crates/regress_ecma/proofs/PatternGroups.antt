@@ -1,22 +1,20 @@
 -- The openings of groups that the parser finds are those that ECMA-262 derives.
-use Rattle.std.proofs.Common.{◌≡◌, ℕ, ◌==◌, ◌<◌, ◌⊎◌, inl, inr, Bool, true, false, not, ◌&&◌, ◌||◌, List, [], ◌∷◌, ◌++◌, length, drop, Option, Some, None, if◌then◌else◌, refl, sym, ap, subst, ◌∙◌, nat_le, arith, eqb-true, append-nil, append_assoc}
+use Rattle.std.proofs.Common.{◌≡◌, ℕ, ◌==◌, ◌⊎◌, inl, inr, Bool, true, false, not, ◌&&◌, ◌||◌, List, [], ◌∷◌, ◌++◌, length, drop, Option, Some, None, if◌then◌else◌, refl, sym, ap, subst, ◌∙◌, arith, append-nil}
 use Rattle.std.specs.List.{list_any, list_all}
 use Rattle.std.proofs.lemmas.Bool.{false≢true, and_parts}
 use Rattle.std.proofs.lemmas.Bool.Decides.{nat_tests}
 use Rattle.std.proofs.lemmas.List.Folds.{list_any-append}
-use Rattle.std.proofs.lemmas.Option.{none-some, same_Some}
-use Rattle.regress_base.specs.Classes.{word_characters}
 use Rattle.regress_base.specs.Intervals.{is_member, is_within}
 use Rattle.regress_base.specs.Table.{Table}
-use Rattle.regress_tree.specs.Reading.{Direction, forwards, backwards}
-use Rattle.regress_lexer.specs.Source.{Source, Found, ◌>>=◌, found_map, char, is_at, is_one_of, colon, question_mark}
+use Rattle.regress_tree.specs.Reading.{forwards, backwards}
+use Rattle.regress_lexer.specs.Source.{Source, Found, ◌>>=◌, char, is_at, colon, question_mark}
 use Rattle.regress_lexer.specs.Digits.{front, after}
 use Rattle.regress_lexer.specs.Modifiers.{Change, is_modifier, is_in, are_different, change_by, letters_off, after_letters_off, modifiers_at}
 use Rattle.regress_lexer.proofs.lemmas.Digits.{drop_one_more}
 use Rattle.regress_syntax.specs.Names.{group_name_at}
 use Rattle.regress_syntax.specs.Productions.{Context, Head, single, opens, named_group_at, angle_at, modified_at, after_question_mark_at, group_at, head_at}
 use Rattle.regress_syntax.specs.Syntax.{Name, Group, grouping, modified, capture, look}
-use Rattle.regress_ecma.specs.GroupNames.{IsGroupName, HasIdentifiers}
+use Rattle.regress_ecma.specs.GroupNames.{HasIdentifiers}
 use Rattle.regress_ecma.specs.Patterns.{Mode, is_flag, IsOpening, AreModifiers, occurs_in, repeats, is_empty, are_wrong_modifiers}
 use Rattle.regress_ecma.proofs.AtomEscapeNodes.{context, mode}
 use Rattle.regress_ecma.proofs.ClassDerivations.{front_is}
@@ -311,7 +309,7 @@ module _ (table : Table) (i m s v : Bool) (names : List (Option Name)) (u : Bool
   unfolding head_at
   angle proper name w rest equals negates found =
       ap (λ (b : Bool). found_map' (if b then Some (opens (look false backwards), drop 1 w)
-        else (if is_at (char "!") w then Some (opens (look true backwards), drop 1 w) else named_group_at table (char "<" ∷ w)))) equals
+      else (if is_at (char "!") w then Some (opens (look true backwards), drop 1 w) else named_group_at table (char "<" ∷ w)))) equals
       ∙ ap (λ (b : Bool). found_map' (if b then Some (opens (look true backwards), drop 1 w) else named_group_at table (char "<" ∷ w))) negates
       ∙ ap (λ (o : Found Name). o >>= λ (name, rest). Some (opens (capture (Some name)), rest)) found
     where
@@ -345,12 +343,21 @@ module _ (table : Table) (i m s v : Bool) (names : List (Option Name)) (u : Bool
   modified_found [] None t rest (e, letters) fine = inr (ap (head_at own) e)
   modified_found (c ∷ on) None t rest (e, letters) fine =
       let signs = no_sign c (and_parts (is_flag c) (list_all is_flag on) letters).0 in
-      inl (change_by (c ∷ on) [], ap (head_at own) e ∙ changes c (on ++ char ":" ∷ rest) (change_by (c ∷ on) []) rest signs.0 signs.1 signs.2 signs.3
-          (without_off c on rest letters fine))
+      inl (
+        change_by (c ∷ on) [],
+        ap (head_at own) e ∙ changes c (on ++ char ":" ∷ rest) (change_by (c ∷ on) []) rest signs.0 signs.1 signs.2 signs.3
+            (without_off c on rest letters fine),
+      )
   modified_found [] (Some off) t rest (e, letters, letters') fine =
-      inl (change_by [] off, ap (head_at own) e ∙ changes (char "-") (off ++ char ":" ∷ rest) (change_by [] off) rest refl refl refl refl
-          (with_off [] off rest refl letters' fine))
+      inl (
+        change_by [] off,
+        ap (head_at own) e ∙ changes (char "-") (off ++ char ":" ∷ rest) (change_by [] off) rest refl refl refl refl
+            (with_off [] off rest refl letters' fine),
+      )
   modified_found (c ∷ on) (Some off) t rest (e, letters, letters') fine =
       let signs = no_sign c (and_parts (is_flag c) (list_all is_flag on) letters).0 in
-      inl (change_by (c ∷ on) off, ap (head_at own) e ∙ changes c (on ++ char "-" ∷ (off ++ char ":" ∷ rest)) (change_by (c ∷ on) off) rest
-          signs.0 signs.1 signs.2 signs.3 (with_off (c ∷ on) off rest letters letters' fine))
+      inl (
+        change_by (c ∷ on) off,
+        ap (head_at own) e ∙ changes c (on ++ char "-" ∷ (off ++ char ":" ∷ rest)) (change_by (c ∷ on) off) rest
+            signs.0 signs.1 signs.2 signs.3 (with_off (c ∷ on) off rest letters letters' fine),
+      )

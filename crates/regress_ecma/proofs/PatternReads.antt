@@ -1,5 +1,5 @@
 -- The terms without groups that ECMA-262 derives are the atoms that the parser finds.
-use Rattle.std.proofs.Common.{◌≡◌, ℕ, zero, suc, ◌+◌, ◌%◌, ◌-◌, ◌==◌, ◌<◌, ◌≤◌, ◌⊎◌, inl, inr, Bool, true, false, not, ◌&&◌, ◌||◌, List, [], ◌∷◌, length, take, drop, Option, Some, None, if◌then◌else◌, refl, sym, ap, subst, ◌∙◌, nat_le, arith, eqb-true, leb-true}
+use Rattle.std.proofs.Common.{◌≡◌, ℕ, zero, suc, ◌==◌, ◌<◌, ◌⊎◌, inl, inr, Bool, true, false, not, ◌&&◌, ◌||◌, List, [], ◌∷◌, length, take, drop, Option, Some, None, if◌then◌else◌, refl, sym, ap, subst, ◌∙◌, arith, eqb-true}
 use Rattle.std.specs.List.{All, list_all}
 use Rattle.std.proofs.lemmas.Bool.{false≢true, and_parts}
 use Rattle.std.proofs.lemmas.Bool.Decides.{nat_tests}
@@ -11,12 +11,10 @@ use Rattle.regress_base.specs.Table.{Table}
 use Rattle.regress_lexer.specs.declared.dialect.Dialect.TheVariants.{Ecma}
 use Rattle.regress_lexer.specs.Source.{Source, Found, ◌>>=◌, found_map, IsCodePoint, char, is_at, is_one_of, is_plain}
 use Rattle.regress_lexer.specs.Digits.{hex_at, is_between, is_hex, number}
-use Rattle.regress_lexer.specs.Escapes.{begins_with_letter, with_trail_surrogate, or_identity_escape, unicode_at, escape_at}
-use Rattle.regress_classes.specs.ClassProductions.{class_at}
-use Rattle.regress_classes.specs.ClassSets.{Value, class_set_at}
-use Rattle.regress_syntax.specs.Names.{group_name_at}
-use Rattle.regress_syntax.specs.Productions.{Context, class_parameters, class_flags, compared_members, single, atom_allows, has_names, has_name, is_lone_backslash, name_reference_at, escaped_by, escaped_at, brackets_at, atom_by, head_at}
-use Rattle.regress_syntax.specs.Syntax.{Name, Atom, literal, dot as dot_atom, anchor, boundary as boundary_atom, class as class_atom, class_set, back_reference, by_name_if_set}
+use Rattle.regress_lexer.specs.Escapes.{begins_with_letter, unicode_at, escape_at}
+use Rattle.regress_classes.specs.ClassSets.{Value}
+use Rattle.regress_syntax.specs.Productions.{Context, class_parameters, class_flags, compared_members, single, atom_allows, has_names, has_name, is_lone_backslash, escaped_by, escaped_at, brackets_at, atom_by, head_at}
+use Rattle.regress_syntax.specs.Syntax.{Name, Atom, literal, class as class_atom, class_set, back_reference, by_name_if_set}
 use Rattle.regress_syntax.proofs.lemmas.Plain.{plain_head}
 use Rattle.regress_ecma.specs.CharacterEscapes.{is_before, lead_unit, trail_unit, is_trail}
 use Rattle.regress_ecma.specs.ClassNodes.{CharacterClass}
@@ -31,7 +29,7 @@ use Rattle.regress_ecma.proofs.AtomEscapeNodes.{flags, context, mode, IsEscapeOf
 use Rattle.regress_ecma.proofs.EscapesWithU.{at_character, by_case, no_hex}
 use Rattle.regress_ecma.proofs.EscapesWithoutU.{HasTrail, is_trail_unit}
 use Rattle.regress_ecma.proofs.GroupNameNodes.{group_name_derived}
-use Rattle.regress_ecma.proofs.PatternAtoms.{specified_same, escaped_inverse, no_control, no_k, no_escape_at_end, name_escape_at, both_ways, lone_parts, name_at_k}
+use Rattle.regress_ecma.proofs.PatternAtoms.{specified_same, escaped_inverse, no_control, no_k, no_escape_at_end, name_escape_at, lone_parts, name_at_k}
 use Rattle.regress_ecma.proofs.PatternCharacters.{IsCharacterOf, is_other, characters_alike, none_other}
 
 module _ (table : Table) (i m s v : Bool) (names : List (Option Name)) where
@@ -62,11 +60,24 @@ module _ (table : Table) (i m s v : Bool) (names : List (Option Name)) where
   read_escape u c t w node e fine None f (inr (n, r, e', many)) =
       absurd (false≢true (sym fine ∙ ap (λ (x : AtomEscape × Source). is_wrong_escape names x.0) (sym (same_Some (decimal n, r) (node, w) (sym e' ∙ e))) ∙ ap not many))
   read_escape u c t w node e fine (Some (a, rest)) f (allows, inl (node', e', fine')) =
-      inl (a, backslash_head u (c ∷ t) (a, rest) f
-      ∙ ap (λ (x : AtomEscape × Source). Some (single a, x.1)) (same_Some (node', rest) (node, w) (sym e' ∙ e)), allows)
+      inl (
+        a,
+        backslash_head u (c ∷ t) (a, rest) f
+            ∙ ap (λ (x : AtomEscape × Source). Some (single a, x.1)) (same_Some (node', rest) (node, w) (sym e' ∙ e)),
+        allows,
+      )
   read_escape u c t w node e fine (Some (a, rest)) f (allows, inr (none, (x, w', e', trail))) =
-      inr (none, (a, x, rest, backslash_head u (c ∷ t) (a, rest) f, allows,
-        subst (λ (y : AtomEscape × Source). HasTrail x y.1 rest) (same_Some (character (lead_unit x), w') (node, w) (sym e' ∙ e)) trail))
+      inr (
+        none,
+        (
+          a,
+          x,
+          rest,
+          backslash_head u (c ∷ t) (a, rest) f,
+          allows,
+          subst (λ (y : AtomEscape × Source). HasTrail x y.1 rest) (same_Some (character (lead_unit x), w') (node, w) (sym e' ∙ e)) trail,
+        ),
+      )
 
   named_read : HasIdentifiers table → (u : Bool) (name : List ℕ) (c : ℕ) (t w : Source) → (u || has_names names) ≡ true →
       (x : Source) × (c ∷ t ≡ char "k" ∷ x) × IsGroupName table u name x w → is_specified name names ≡ true → Reads u true (char "\\" ∷ c ∷ t) w
@@ -154,7 +165,6 @@ module _ (table : Table) (i m s v : Bool) (names : List (Option Name)) where
     where
       P : ℕ → Type 0
       P d = is_other d ≡ true → plain_character table (own_mode true) (d ∷ t) ≡ None
-
   no_other false c t e =
       at_character P (char ".") c (λ _. refl)
       (λ f1. at_character P (char "^") c (λ _. refl)
@@ -187,8 +197,17 @@ module _ (table : Table) (i m s v : Bool) (names : List (Option Name)) where
       by (Some (a, rest)) f (allows, inl (x', e')) group =
           inl (a, headed group (a, rest) f ∙ ap (λ (y : ℕ × Source). Some (single a, y.1)) (same_Some (x', rest) (x, w) (sym e' ∙ e)), allows)
       by (Some (a, rest)) f (allows, inr (none, (x', w', e', trail))) group =
-          inr (none, (a, x', rest, headed group (a, rest) f, allows,
-            subst (λ (y : ℕ × Source). HasTrail x' y.1 rest) (same_Some (lead_unit x', w') (x, w) (sym e' ∙ e)) trail))
+          inr (
+            none,
+            (
+              a,
+              x',
+              rest,
+              headed group (a, rest) f,
+              allows,
+              subst (λ (y : ℕ × Source). HasTrail x' y.1 rest) (same_Some (lead_unit x', w') (x, w) (sym e' ∙ e)) trail,
+            ),
+          )
 
 -- ---- classes
 
@@ -211,7 +230,7 @@ module _ (table : Table) (i m s : Bool) (names : List (Option Name)) where
   class_read true u implied node t w points h few =
       let opened = opened_at node.invert t h.0.0 h.0.1 in
       let found = class_set_derived table (class_parameters (context table i m s true names u)) refl (implied refl) opened.0 w node
-          (subst (λ (x : Source). IsAcceptedClassSet table (has_names names) node x w) opened.1 h) (few refl) in
+      (subst (λ (x : Source). IsAcceptedClassSet table (has_names names) node x w) opened.1 h) (few refl) in
       inl (
         class_set (flags table i m s true names u) node.invert found.1.0,
         ap (head_at (context table i m s true names u)) opened.1
@@ -223,14 +242,14 @@ module _ (table : Table) (i m s : Bool) (names : List (Option Name)) where
       let opened = opened_class node u t w h in
       let points' : All IsCodePoint opened.0 = All-tail IsCodePoint (char "[") opened.0 (subst (All IsCodePoint) opened.1 points) in
       let found = class_derived table (class_parameters (context table i m s false names u)) refl opened.0 w points' node
-          (subst (λ (x : Source). IsAcceptedClass table u (has_names names) node x w) opened.1 h) in
+      (subst (λ (x : Source). IsAcceptedClass table u (has_names names) node x w) opened.1 h) in
       inl (
         class_atom (class_flags (context table i m s false names u)) node.invert (compared_members (context table i m s false names u) found.1.0),
         ap (head_at (context table i m s false names u)) opened.1
             ∙ bracket_head false u opened.0
             (class_atom (class_flags (context table i m s false names u)) node.invert (compared_members (context table i m s false names u) found.1.0), w)
             (ap (found_map (λ (x : Bool × List Bounds).
-              class_atom (class_flags (context table i m s false names u)) x.0 (compared_members (context table i m s false names u) x.1))) found.1.1),
+            class_atom (class_flags (context table i m s false names u)) x.0 (compared_members (context table i m s false names u) x.1))) found.1.1),
         refl,
       )
 
@@ -278,14 +297,20 @@ module _ (table : Table) (i m s v : Bool) (names : List (Option Name)) where
 
   pub trail_read : (c : ℕ) (t rest : Source) → HasTrail c t rest →
       (a : Atom) × (head_at (context table i m s v names false) t ≡ Some (single a, rest)) × (atom_allows Ecma a ≡ true)
-  trail_read c t rest (inl e) =
-      (literal (flags table i m s v names false) (trail_unit c), ap (head_at (context table i m s v names false)) e
-      ∙ plain_head (context table i m s v names false) (trail_unit c) rest (plain_trail (trail_unit c) (is_trail_unit c)), refl)
+  trail_read c t rest (inl e) = (
+    literal (flags table i m s v names false) (trail_unit c),
+    ap (head_at (context table i m s v names false)) e
+        ∙ plain_head (context table i m s v names false) (trail_unit c) rest (plain_trail (trail_unit c) (is_trail_unit c)),
+    refl,
+  )
   trail_read c t rest (inr e) =
-      let found = escaped_inverse (trail_unit c) t rest e in
-      (literal (flags table i m s v names false) (trail_unit c), ap (head_at (context table i m s v names false)) found.1
-      ∙ backslash_head table i m s v names false (char "u" ∷ found.0) (literal (flags table i m s v names false) (trail_unit c), rest)
-      (escaped_trail_at found.0 (trail_unit c) rest (is_trail_unit c) found.2), refl)
+      let found = escaped_inverse (trail_unit c) t rest e in (
+        literal (flags table i m s v names false) (trail_unit c),
+        ap (head_at (context table i m s v names false)) found.1
+            ∙ backslash_head table i m s v names false (char "u" ∷ found.0) (literal (flags table i m s v names false) (trail_unit c), rest)
+            (escaped_trail_at found.0 (trail_unit c) rest (is_trail_unit c) found.2),
+        refl,
+      )
 
 pub trail_points : (c : ℕ) (t rest : Source) → HasTrail c t rest → All IsCodePoint rest → All IsCodePoint t
 trail_points c t rest (inl e) points = subst (All IsCodePoint) (sym e) (All-cons IsCodePoint (trail_unit c) rest (trail_small c) points)

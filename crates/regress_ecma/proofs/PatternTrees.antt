@@ -1,7 +1,7 @@
 -- What ECMA-262 derives the parser's grammar derives, with the same groups.
-use Rattle.std.proofs.Common.{◌≡◌, ℕ, ◌==◌, ◌<◌, ◌⊎◌, inl, inr, Bool, true, false, not, ◌&&◌, ◌||◌, List, [], ◌∷◌, ◌++◌, length, Option, Some, None, if◌then◌else◌, refl, sym, ap, ap₂, subst, ◌∙◌}
+use Rattle.std.proofs.Common.{◌≡◌, ℕ, ◌==◌, ◌⊎◌, inl, inr, Bool, true, false, not, ◌&&◌, ◌||◌, List, [], ◌∷◌, ◌++◌, Option, Some, None, if◌then◌else◌, refl, sym, ap, ap₂, subst, ◌∙◌}
 use Rattle.std.specs.List.{All, list_any}
-use Rattle.std.proofs.lemmas.Bool.{false≢true, and_parts}
+use Rattle.std.proofs.lemmas.Bool.{false≢true}
 use Rattle.std.proofs.lemmas.List.Elements.{All-tail}
 use Rattle.std.proofs.lemmas.Option.{none-some, same_Some}
 use Rattle.regress_base.specs.Table.{Table}
@@ -11,28 +11,27 @@ use Rattle.regress_tree.specs.Reading.{forwards, backwards}
 use Rattle.regress_lexer.specs.declared.dialect.Dialect.TheVariants.{Ecma}
 use Rattle.regress_lexer.specs.Modifiers.{Change, switched}
 use Rattle.regress_lexer.specs.Source.{Source, IsCodePoint, char, is_at, closing, bar, ends_alternative}
-use Rattle.regress_lexer.specs.Quantifiers.{quantifier_at, is_ordered}
+use Rattle.regress_lexer.specs.Quantifiers.{quantifier_at}
 use Rattle.regress_lexer.proofs.lemmas.After.{after_all}
 use Rattle.regress_syntax.specs.Grammar.{IsPattern, AreTerms, IsItem}
-use Rattle.regress_syntax.specs.Names.{group_name_at}
 use Rattle.regress_syntax.specs.Productions.{Context, context_inside, Head, single, opens, head_of_item, allows, atom_allows, head_at, optional_quantifier_at}
 use Rattle.regress_syntax.specs.SameNames.{same_name, share_name, are_names_apart, are_names_apart_in_terms, are_names_apart_in_item}
-use Rattle.regress_syntax.specs.Syntax.{Name, is_named, Atom, dot as dot_atom, anchor, boundary as boundary_atom, Group, grouping, modified as modified_group, capture as capture_group, look, Pattern, one, either, Terms, no_terms, more_terms, Item, atom, group, names as names_of_pattern, names_of_terms, names_of_item, names_of_group}
+use Rattle.regress_syntax.specs.Syntax.{Name, Atom, dot as dot_atom, anchor, boundary as boundary_atom, Group, grouping, modified as modified_group, capture as capture_group, look, Pattern, one, either, Terms, no_terms, more_terms, Item, atom, group, names as names_of_pattern, names_of_terms, names_of_item, names_of_group}
 use Rattle.regress_syntax.proofs.lemmas.NameEnds.{group_name_at-ends}
-use Rattle.regress_syntax.proofs.lemmas.Productions.{head_at-ends, optional_quantifier_at-ends}
+use Rattle.regress_syntax.proofs.lemmas.Productions.{head_at-ends}
 use Rattle.regress_ecma.specs.GroupNames.{HasIdentifiers}
 use Rattle.regress_ecma.specs.Quantifiers.{IsDecimalDigits, QuantifierPrefix, star, plus, optional, exactly, at_least, between, IsQuantifierPrefix, IsQuantifier, is_out_of_order, quantifier_of}
-use Rattle.regress_ecma.specs.PatternNodes.{Disjunction, Alternative, Term, TermBody, alone, or_else, nothing, term_then, unquantified, quantified, start, end, boundary, lookahead, lookbehind, pattern_character, dot, escape, backslash, class, capture, modified, invalid, groups, groups_of_alternative, groups_of_term, groups_of_body, is_called, is_specified, is_repeated, have_a_name_in_common, has_duplicate, alternative_has_duplicate, term_has_duplicate, body_has_duplicate}
-use Rattle.regress_ecma.specs.Patterns.{Mode, IsOpening, is_quantifiable, IsDisjunction, IsAlternative, IsTerm, IsTermBody, are_wrong_modifiers, has_error, alternative_has_error, term_has_error, body_has_error, IsWithin, AlternativeIsWithin, TermIsWithin, BodyIsWithin}
+use Rattle.regress_ecma.specs.PatternNodes.{Disjunction, Alternative, Term, TermBody, alone, or_else, nothing, term_then, unquantified, quantified, start, end, boundary, lookahead, lookbehind, pattern_character, dot, escape, backslash, class, capture, modified, invalid, groups, groups_of_alternative, groups_of_term, groups_of_body, is_repeated, have_a_name_in_common, has_duplicate, alternative_has_duplicate, term_has_duplicate, body_has_duplicate}
+use Rattle.regress_ecma.specs.Patterns.{Mode, IsOpening, is_quantifiable, IsDisjunction, IsAlternative, IsTermBody, are_wrong_modifiers, has_error, alternative_has_error, body_has_error, IsWithin, AlternativeIsWithin, BodyIsWithin}
 use Rattle.regress_ecma.proofs.AtomEscapeNodes.{flags, context, mode}
-use Rattle.regress_ecma.proofs.EscapesWithU.{at_character, by_case}
+use Rattle.regress_ecma.proofs.EscapesWithU.{at_character}
 use Rattle.regress_ecma.proofs.EscapesWithoutU.{HasTrail}
 use Rattle.regress_ecma.proofs.GroupNameNodes.{group_name_derived}
 use Rattle.regress_ecma.proofs.PatternAtoms.{specified_same}
 use Rattle.regress_ecma.proofs.PatternCharacters.{prefix_found}
 use Rattle.regress_ecma.proofs.PatternGroups.{lookahead_found, lookbehind_found, capture_found, modified_found}
 use Rattle.regress_ecma.proofs.PatternReads.{Reads, escape_read, backslash_read, character_read, class_read, trail_read, trail_points}
-use Rattle.regress_ecma.proofs.PatternStarts.{IsStart, item_start, end_start, terms_start, pattern_start, none_found, some_found}
+use Rattle.regress_ecma.proofs.PatternStarts.{item_start, terms_start, pattern_start, none_found, some_found}
 use Rattle.regress_ecma.proofs.QuantifierNodes.{quantifier_derived, order_kept}
 
 -- ---- names
@@ -170,13 +169,16 @@ module _ (table : Table) (v : Bool) (names : List (Option Name)) (u : Bool) wher
   leaf : (i m s : Bool) (b : TermBody) (t rest : Source) → groups_of_body b ≡ [] → body_has_duplicate b ≡ false → All IsCodePoint t →
       Reads table i m s v names u (is_quantifiable table own_mode b) t rest → IsReadBody i m s b t rest
   leaf i m s b t rest none_inside no_duplicate points (inl (a, found, allowed)) =
-      inl (atom a, record {
-        derived = found;
-        allowed = allowed;
-        groups = sym none_inside;
-        apart = sym (ap not no_duplicate);
-        points = after_all t rest ((head_at-ends (own i m s) t).each (single a, rest) found) points;
-      })
+      inl (
+        atom a,
+        record {
+          derived = found;
+          allowed = allowed;
+          groups = sym none_inside;
+          apart = sym (ap not no_duplicate);
+          points = after_all t rest ((head_at-ends (own i m s) t).each (single a, rest) found) points;
+        },
+      )
   leaf i m s b t rest none_inside no_duplicate points (inr (none, (a, c, w, found, allowed, trail))) =
       inr (record {
         none = none;
@@ -201,18 +203,20 @@ module _ (table : Table) (v : Bool) (names : List (Option Name)) (u : Bool) wher
       groups_of_body b ≡ groups_of_term first → body_has_duplicate b ≡ term_has_duplicate first → IsReadAs i m s b t w x →
       optional_quantifier_at (own i m s) (allows (own i m s) (head_of_item x)) w ≡ Some (q, z) → AreRead i m s others z rest →
       AreRead i m s (term_then first others) t rest
-  joined i m s first b others t w z rest x q same_groups same_duplicate read quantifier (ts, more) =
-      (more_terms x q ts, record {
-        derived = (w, z, read.derived, quantifier, more.derived);
-        groups = ap₂ (λ (a b : List (Option Name)). a ++ b) (read.groups ∙ same_groups) more.groups;
-        apart =
-            ap₂ (λ (a b : Bool). a && (not (share_name (names_of_item x) (names_of_terms ts)) && b)) (read.apart ∙ ap not same_duplicate) more.apart
-            ∙ ap (λ (b : Bool). not (term_has_duplicate first) && (not b && not (alternative_has_duplicate others)))
-            (sym (common_same (names_of_item x) (names_of_terms ts))
-            ∙ ap₂ have_a_name_in_common (read.groups ∙ same_groups) more.groups)
-            ∙ by (term_has_duplicate first) (have_a_name_in_common (groups_of_term first) (groups_of_alternative others)) (alternative_has_duplicate others);
-        points = more.points;
-      })
+  joined i m s first b others t w z rest x q same_groups same_duplicate read quantifier (ts, more) = (
+    more_terms x q ts,
+    record {
+      derived = (w, z, read.derived, quantifier, more.derived);
+      groups = ap₂ (λ (a b : List (Option Name)). a ++ b) (read.groups ∙ same_groups) more.groups;
+      apart =
+          ap₂ (λ (a b : Bool). a && (not (share_name (names_of_item x) (names_of_terms ts)) && b)) (read.apart ∙ ap not same_duplicate) more.apart
+          ∙ ap (λ (b : Bool). not (term_has_duplicate first) && (not b && not (alternative_has_duplicate others)))
+          (sym (common_same (names_of_item x) (names_of_terms ts))
+          ∙ ap₂ have_a_name_in_common (read.groups ∙ same_groups) more.groups)
+          ∙ by (term_has_duplicate first) (have_a_name_in_common (groups_of_term first) (groups_of_alternative others)) (alternative_has_duplicate others);
+      points = more.points;
+    },
+  )
     where
       by : (a b c : Bool) → (not a && (not b && not c)) ≡ not (a || b || c)
       by true b c = refl
@@ -230,20 +234,26 @@ module _ (table : Table) (v : Bool) (names : List (Option Name)) (u : Bool) wher
       absurd (false≢true (ap (λ (x : Head × Source). is_single x.0) (same_Some _ _ (sym more.derived.2.1 ∙ found.1))))
   paired i m s b others t w rest lead (more_terms (atom a) q xs, more) =
       let found = trail_head i m s u lead.none lead.c w lead.w lead.trail in
-      let same : (single a, more.derived.0) ≡ (single found.0, lead.w) = same_Some _ _ (sym more.derived.2 ∙ found.1) in
-      (more_terms (atom lead.a) q xs, record {
-        derived = (lead.w, more.derived.1, lead.found,
-          ap (λ (b : Bool). optional_quantifier_at (own i m s) b lead.w) (lead.allowed ∙ sym found.2)
-          ∙ subst (λ (x : Head × Source). optional_quantifier_at (own i m s) (allows (own i m s) x.0) x.1 ≡ Some (q, more.derived.1)) same more.derived.3,
-          more.derived.4);
-        groups = more.groups ∙ ap (λ (a : List (Option Name)). a ++ groups_of_alternative others) (sym lead.groups);
-        apart =
-            more.apart
-            ∙ ap (λ (x : Bool). not (x || have_a_name_in_common [] (groups_of_alternative others) || alternative_has_duplicate others)) (sym lead.alone)
-            ∙ ap (λ (a : List (Option Name)). not (body_has_duplicate b || have_a_name_in_common a (groups_of_alternative others) || alternative_has_duplicate others))
-            (sym lead.groups);
-        points = more.points;
-      })
+      let same : (single a, more.derived.0) ≡ (single found.0, lead.w) = same_Some _ _ (sym more.derived.2 ∙ found.1) in (
+        more_terms (atom lead.a) q xs,
+        record {
+          derived = (
+            lead.w,
+            more.derived.1,
+            lead.found,
+            ap (λ (b : Bool). optional_quantifier_at (own i m s) b lead.w) (lead.allowed ∙ sym found.2)
+                ∙ subst (λ (x : Head × Source). optional_quantifier_at (own i m s) (allows (own i m s) x.0) x.1 ≡ Some (q, more.derived.1)) same more.derived.3,
+            more.derived.4,
+          );
+          groups = more.groups ∙ ap (λ (a : List (Option Name)). a ++ groups_of_alternative others) (sym lead.groups);
+          apart =
+              more.apart
+              ∙ ap (λ (x : Bool). not (x || have_a_name_in_common [] (groups_of_alternative others) || alternative_has_duplicate others)) (sym lead.alone)
+              ∙ ap (λ (a : List (Option Name)). not (body_has_duplicate b || have_a_name_in_common a (groups_of_alternative others) || alternative_has_duplicate others))
+              (sym lead.groups);
+          points = more.points;
+        },
+      )
 
   then_unquantified : (i m s : Bool) (b : TermBody) (others : Alternative) (t w rest : Source) → IsReadBody i m s b t w →
       (All IsCodePoint w → AreRead i m s others w rest) → AreRead i m s (term_then (unquantified b) others) t rest
@@ -282,15 +292,18 @@ module _ (table : Table) (v : Bool) (names : List (Option Name)) (u : Bool) wher
       names_of_group kind ≡ [] → (p : Pattern) → IsPattern (context_inside kind (own i m s)) p w (closing ∷ rest) → names_of_pattern p ≡ groups d →
       are_names_apart p ≡ not (has_duplicate d) → All IsCodePoint (closing ∷ rest) → IsReadBody i m s b t rest
   grouped i m s b kind d t w rest found allowed same_groups same_duplicate unnamed p inside names_same apart points =
-      inl (group kind p, record {
-        derived = (w, found, inside);
-        allowed = allowed;
-        groups = ap (λ (a : List (Option Name)). a ++ names_of_pattern p) unnamed ∙ names_same ∙ sym same_groups;
-        apart =
-            ap (λ (a : List (Option Name)). not (share_name a (names_of_pattern p)) && are_names_apart p) unnamed
-            ∙ apart ∙ ap not (sym same_duplicate);
-        points = All-tail IsCodePoint closing rest points;
-      })
+      inl (
+        group kind p,
+        record {
+          derived = (w, found, inside);
+          allowed = allowed;
+          groups = ap (λ (a : List (Option Name)). a ++ names_of_pattern p) unnamed ∙ names_same ∙ sym same_groups;
+          apart =
+              ap (λ (a : List (Option Name)). not (share_name a (names_of_pattern p)) && are_names_apart p) unnamed
+              ∙ apart ∙ ap not (sym same_duplicate);
+          points = All-tail IsCodePoint closing rest points;
+        },
+      )
 
   module _ (proper : HasIdentifiers table) (implied : v ≡ true → u ≡ true) where
     mutual
@@ -302,13 +315,15 @@ module _ (table : Table) (v : Bool) (names : List (Option Name)) (u : Bool) wher
       disjunction_read i m s (or_else a others) t rest points ends no_bar (w, h, k) fine within =
           let fines = or_parts (alternative_has_error names a) (has_error names others) fine in
           let first = alternative_read i m s a t (bar ∷ w) points refl h fines.0 within.0 in
-          let second = disjunction_read i m s others w rest (All-tail IsCodePoint bar w first.1.points) ends no_bar k fines.1 within.1 in
-          (either first.0 second.0, record {
-            derived = (w, first.1.derived, second.1.derived);
-            groups = ap₂ (λ (a b : List (Option Name)). a ++ b) first.1.groups second.1.groups;
-            apart = ap₂ (λ (a b : Bool). a && b) first.1.apart second.1.apart ∙ both (alternative_has_duplicate a) (has_duplicate others);
-            points = second.1.points;
-          })
+          let second = disjunction_read i m s others w rest (All-tail IsCodePoint bar w first.1.points) ends no_bar k fines.1 within.1 in (
+            either first.0 second.0,
+            record {
+              derived = (w, first.1.derived, second.1.derived);
+              groups = ap₂ (λ (a b : List (Option Name)). a ++ b) first.1.groups second.1.groups;
+              apart = ap₂ (λ (a b : Bool). a && b) first.1.apart second.1.apart ∙ both (alternative_has_duplicate a) (has_duplicate others);
+              points = second.1.points;
+            },
+          )
         where
           both : (a b : Bool) → (not a && not b) ≡ not (a || b)
           both true b = refl
@@ -364,16 +379,19 @@ module _ (table : Table) (v : Bool) (names : List (Option Name)) (u : Bool) wher
       body_read i m s (capture name d) t rest points (w, h, k) fine within =
           let inside = disjunction_read i m s d w (closing ∷ rest) (opening_points proper name t w points h) refl refl k fine within in
           let here = pattern_start table i m s v names u inside.0 w (closing ∷ rest) inside.1.derived in
-          inl (group (capture_group name) inside.0, record {
-            derived = (w, capture_found table i m s v names u proper name t w h here.no_question, inside.1.derived);
-            allowed = refl;
-            groups = ap (λ (a : List (Option Name)). name ∷ a) inside.1.groups;
-            apart =
-                ap₂ (λ (a b : Bool). not (a || false) && b)
-                (sym (repeated_same (names_of_pattern inside.0) name) ∙ ap (λ (a : List (Option Name)). is_repeated a name) inside.1.groups) inside.1.apart
-                ∙ both (is_repeated (groups d) name) (has_duplicate d);
-            points = All-tail IsCodePoint closing rest inside.1.points;
-          })
+          inl (
+            group (capture_group name) inside.0,
+            record {
+              derived = (w, capture_found table i m s v names u proper name t w h here.no_question, inside.1.derived);
+              allowed = refl;
+              groups = ap (λ (a : List (Option Name)). name ∷ a) inside.1.groups;
+              apart =
+                  ap₂ (λ (a b : Bool). not (a || false) && b)
+                  (sym (repeated_same (names_of_pattern inside.0) name) ∙ ap (λ (a : List (Option Name)). is_repeated a name) inside.1.groups) inside.1.apart
+                  ∙ both (is_repeated (groups d) name) (has_duplicate d);
+              points = All-tail IsCodePoint closing rest inside.1.points;
+            },
+          )
         where
           both : (a b : Bool) → (not (a || false) && not b) ≡ not (a || b)
           both true b = refl
@@ -387,7 +405,7 @@ module _ (table : Table) (v : Bool) (names : List (Option Name)) (u : Bool) wher
               ((i' m' s' : Bool) → All IsCodePoint w → (p : Pattern) × IsReadPattern i' m' s' d w (closing ∷ rest) p) → IsReadBody i m s (modified on off d) t rest
           by fine (inl (change, found)) read =
               let inside = read (switched change.icase i) (switched change.multiline m) (switched change.dot_all s)
-                  (after_all t w ((head_at-ends (own i m s) t).each _ found) points) in
+              (after_all t w ((head_at-ends (own i m s) t).each _ found) points) in
               grouped i m s (modified on off d) (modified_group change) d t w rest found refl refl refl refl inside.0 inside.1.derived inside.1.groups
               inside.1.apart inside.1.points
           by fine (inr found) read =

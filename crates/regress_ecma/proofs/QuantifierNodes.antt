@@ -1,18 +1,16 @@
 -- The parser finds the quantifiers that ECMA-262 derives.
-use Rattle.std.proofs.Common.{◌≡◌, ℕ, zero, suc, ◌<◌, ◌≤◌, ◌-◌, ◌^◌, min, ◌==◌, ◌⊎◌, inl, inr, Bool, true, false, not, List, [], ◌∷◌, ◌++◌, length, drop, Option, Some, None, if◌then◌else◌, refl, sym, ap, ap₂, subst, ◌∙◌, nat_le, arith, eqb-true}
+use Rattle.std.proofs.Common.{◌≡◌, ℕ, ◌==◌, Bool, true, false, not, [], ◌∷◌, ◌++◌, length, drop, Some, None, if◌then◌else◌, refl, sym, ap, subst, ◌∙◌, arith, eqb-true}
 use Rattle.std.specs.List.{list_all}
 use Rattle.std.proofs.lemmas.Bool.{false≢true, and_parts}
 use Rattle.std.proofs.lemmas.Bool.Decides.{nat_tests}
-use Rattle.std.proofs.lemmas.Option.{none-some, same_Some}
 use Rattle.regress_base.specs.declared.types.Quantifier.{Quantifier}
 use Rattle.regress_lexer.specs.Source.{Source, Found, ◌>>=◌, char, is_at, question_mark}
 use Rattle.regress_lexer.specs.Digits.{is_decimal, number, front, after}
 use Rattle.regress_lexer.specs.Quantifiers.{RepeatBounds, count_at, closed_brace, maximum_at, quantifier_prefix_by, greedy_or_lazy, quantifier_at, is_ordered}
 use Rattle.regress_ecma.specs.CharacterEscapes.{is_before}
-use Rattle.regress_ecma.specs.Quantifiers.{IsDecimalDigits, QuantifierPrefix, star, plus, optional, exactly, at_least, between, IsQuantifierPrefix, IsQuantifier, is_braced, IsInvalidBracedQuantifier, is_out_of_order, saturated, bounds_of, quantifier_of, HasMinimum}
+use Rattle.regress_ecma.specs.Quantifiers.{IsDecimalDigits, QuantifierPrefix, star, plus, optional, exactly, at_least, between, IsQuantifierPrefix, IsQuantifier, is_braced, is_out_of_order, saturated, bounds_of, quantifier_of, HasMinimum}
 use Rattle.regress_ecma.proofs.ClassDerivations.{front_is}
 use Rattle.regress_ecma.proofs.ClassRangeNodes.{Each, each_none, each_some, each_if, each_then, each_at, each_weaker}
-use Rattle.regress_ecma.proofs.EscapesWithU.{by_case}
 
 -- ---- digits
 
@@ -49,9 +47,11 @@ front_is_prefix p (c ∷ prefix) rest passes ends =
 counts : (t : Source) → Each (λ x. (n : ℕ) × (saturated n ≡ x.0) × IsDecimalDigits n t x.1) (count_at t)
 counts t =
     each_if P (length (front is_decimal t) == 0) None _ (λ _. each_none P)
-    (λ some. each_some P (saturated (number 10 (front is_decimal t)), after is_decimal t)
-    (number 10 (front is_decimal t), refl,
-      (front is_decimal t, front_after is_decimal t, grind (arith, nat_tests, some), front_all is_decimal t, refl)))
+    (λ some. each_some P (saturated (number 10 (front is_decimal t)), after is_decimal t) (
+      number 10 (front is_decimal t),
+      refl,
+      (front is_decimal t, front_after is_decimal t, grind (arith, nat_tests, some), front_all is_decimal t, refl),
+    ))
   where
     P : ℕ × Source → Type 0
     P x = (n : ℕ) × (saturated n ≡ x.0) × IsDecimalDigits n t x.1
@@ -145,9 +145,13 @@ laziness t u bounds p same derived = by (is_at question_mark u) refl
         Each (IsQuantifierNode t)
         (Some (record { min = bounds.0; max = bounds.1; greedy = not b }, if b then drop 1 u else u))
     by true e =
-        each_some (IsQuantifierNode t) (record { min = bounds.0; max = bounds.1; greedy = false }, drop 1 u)
-        (p, true, subst (IsQuantifierPrefix p t) (front_is question_mark u e) derived,
-        ap (λ (b : RepeatBounds). record { min = b.0; max = b.1; greedy = false }) same, λ f. absurd (false≢true (sym f)))
+        each_some (IsQuantifierNode t) (record { min = bounds.0; max = bounds.1; greedy = false }, drop 1 u) (
+          p,
+          true,
+          subst (IsQuantifierPrefix p t) (front_is question_mark u e) derived,
+          ap (λ (b : RepeatBounds). record { min = b.0; max = b.1; greedy = false }) same,
+          λ f. absurd (false≢true (sym f)),
+        )
     by false e =
         each_some (IsQuantifierNode t) (record { min = bounds.0; max = bounds.1; greedy = true }, u)
         (p, false, derived, ap (λ (b : RepeatBounds). record { min = b.0; max = b.1; greedy = true }) same, λ _. e)
@@ -172,11 +176,15 @@ prefix_found optional t rest e = (char "?", rest, e, refl)
 prefix_found (exactly n) t rest (u, e, digits) = (char "{", u, e, ap (λ (o : Found ℕ). o >>= maximum_at) (derived_count n u (char "}" ∷ rest) digits refl))
 prefix_found (at_least n) t rest (u, e, digits) =
     (char "{", u, e, ap (λ (o : Found ℕ). o >>= maximum_at) (derived_count n u (char "," ∷ char "}" ∷ rest) digits refl))
-prefix_found (between n m) t rest (u, v, e, digits, more) =
-    (char "{", u, e, ap (λ (o : Found ℕ). o >>= maximum_at) (derived_count n u (char "," ∷ v) digits refl)
-    ∙ ap (λ (b : Bool). if b then closed_brace (saturated n, None) v
+prefix_found (between n m) t rest (u, v, e, digits, more) = (
+  char "{",
+  u,
+  e,
+  ap (λ (o : Found ℕ). o >>= maximum_at) (derived_count n u (char "," ∷ v) digits refl)
+      ∙ ap (λ (b : Bool). if b then closed_brace (saturated n, None) v
       else (count_at v >>= λ (most, after'). closed_brace (saturated n, Some most) after')) (digit_first v m (char "}" ∷ rest) more)
-    ∙ ap (λ (o : Found ℕ). o >>= λ (most, after'). closed_brace (saturated n, Some most) after') (derived_count m v (char "}" ∷ rest) more refl))
+      ∙ ap (λ (o : Found ℕ). o >>= λ (most, after'). closed_brace (saturated n, Some most) after') (derived_count m v (char "}" ∷ rest) more refl),
+)
   where
     digit_first : (v : Source) (m : ℕ) (rest : Source) → IsDecimalDigits m v rest → is_at (char "}") v ≡ false
     digit_first v m rest ([], same, some, decimal, value) = absurd (omega arith)

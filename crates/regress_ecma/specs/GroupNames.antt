@@ -1,7 +1,6 @@
 -- ECMA-262 (2025), 22.2.1 Patterns: GroupName and RegExpIdentifierName, with their early errors (22.2.1.1). The parameter
 -- [UnicodeMode] is `unicode`. Sources are code points, in which no lead surrogate is before a trail surrogate.
-use Rattle.std.specs.Prelude.{◌≡◌, ℕ, Bool, true, false, not, ◌&&◌, ◌||◌, List, [], ◌∷◌, ◌⊎◌, Some, codes, nat_le, ◌==◌}
-use Rattle.std.specs.List.{list_any}
+use Rattle.std.specs.Prelude.{◌≡◌, ℕ, Bool, true, not, ◌&&◌, ◌||◌, List, [], ◌∷◌, ◌⊎◌, Some, nat_le, ◌==◌}
 use lib.Utf8.{scalar}
 use Rattle.regress_base.specs.Intervals.{is_member}
 use Rattle.regress_base.specs.Table.{Table, HasWordAscii}

@@ -1,5 +1,5 @@
 -- ECMA-262 (2025), 22.2.1 Patterns with B.1.2: the parse nodes of a pattern, and what its GroupSpecifiers are.
-use Rattle.std.specs.Prelude.{ℕ, Bool, true, false, not, ◌&&◌, ◌||◌, List, [], ◌∷◌, ◌++◌, Option, Some, None}
+use Rattle.std.specs.Prelude.{ℕ, Bool, false, ◌||◌, List, [], ◌∷◌, ◌++◌, Option, Some, None}
 use Rattle.std.specs.List.{list_any}
 use Rattle.std.specs.Str.{bytes_eq}
 use Rattle.regress_ecma.specs.ClassNodes.{ClassAtom, CharacterClass}
@@ -51,7 +51,8 @@ mutual
 
 -- ---- capturing groups
 
--- The name of each capturing group in order, `None` without a GroupSpecifier; their number is CountLeftCapturingParensWithin.
+-- The name of each capturing group in order, `None` without a GroupSpecifier. Their number is 22.2.1.2
+-- CountLeftCapturingParensWithin.
 abbrev mutual
   pub groups : Disjunction → List (Option (List ℕ))
   groups (alone a) = groups_of_alternative a
@@ -85,11 +86,11 @@ abbrev pub is_called : List ℕ → Option (List ℕ) → Bool
 is_called name None = false
 is_called name (Some other) = bytes_eq other name
 
--- 22.2.1.5 GroupSpecifiersThatMatch is not empty.
+-- 22.2.1.9 GroupSpecifiersThatMatch is not empty.
 abbrev pub is_specified : List ℕ → List (Option (List ℕ)) → Bool
 is_specified name names = list_any (is_called name) names
 
--- ---- 22.2.1.3 MightBothParticipate
+-- ---- 22.2.1.4 MightBothParticipate
 
 abbrev pub is_repeated : List (Option (List ℕ)) → Option (List ℕ) → Bool
 is_repeated there None = false

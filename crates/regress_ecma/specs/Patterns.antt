@@ -1,5 +1,6 @@
--- ECMA-262 (2025), 22.2.1 Patterns with B.1.2: which parse node a pattern derives, and the early errors (22.2.1.1, B.1.2.1).
--- B.1.2: each alternative is considered only if previous production alternatives do not match.
+-- ECMA-262 (2025), 22.2.1 Patterns with B.1.2: which parse nodes the source of a pattern derives, and the early errors (22.2.1.1,
+-- B.1.2.1). B.1.2: each alternative is considered only if previous production alternatives do not match. Where that matters it
+-- is a premise here, or `first_of`.
 use Rattle.std.specs.Prelude.{◌≡◌, ◌<◌, ℕ, Bool, true, false, not, ◌&&◌, ◌||◌, List, [], ◌∷◌, ◌++◌, length, ◌⊎◌, Option, Some, None, is_some, if◌then◌else◌, nat_le, ◌==◌}
 use Rattle.std.specs.List.{list_any, list_all}
 use Rattle.regress_base.specs.Limits.{max_nesting_depth}
@@ -14,8 +15,9 @@ use Rattle.regress_ecma.specs.GroupNames.{IsGroupName}
 use Rattle.regress_ecma.specs.Quantifiers.{QuantifierPrefix, IsQuantifier, IsInvalidBracedQuantifier, is_out_of_order, HasMinimum}
 use Rattle.regress_ecma.specs.PatternNodes.{AtomEscape, decimal, character_class, character, named, Disjunction, Alternative, Term, TermBody, alone, or_else, nothing, term_then, unquantified, quantified, start, end, boundary, lookahead, lookbehind, pattern_character, dot, escape, backslash, class, capture, modified, invalid, groups, is_specified, has_duplicate}
 
--- The parameters [UnicodeMode] and [UnicodeSetsMode]; whether the pattern contains a GroupName, and the number of its capturing
--- groups. With [UnicodeMode] or a GroupName a pattern is parsed with [NamedCaptureGroups] (B.1.2.9 ParsePattern).
+-- The parameters [UnicodeMode] and [UnicodeSetsMode], whether the pattern contains a GroupName, and the number of its capturing
+-- groups. With [UnicodeMode] or a GroupName it is parsed with [NamedCaptureGroups] (B.1.2.9 ParsePattern), which with
+-- [UnicodeMode] makes a difference for `k` alone.
 pub record Mode : Type 0 where
   pub unicode : Bool
   pub sets : Bool
@@ -78,6 +80,7 @@ module _ (table : Table) (mode : Mode) where
   abbrev pub HasNoEscape : Source → Type 0
   HasNoEscape t = (node : AtomEscape) (rest : Source) → IsAtomEscape node t rest → ⊥
 
+  -- CharacterClass, with its early errors; nothing else begins with `[`.
   abbrev pub IsClass : CharacterClass → (t rest : Source) → Type 0
   IsClass node t rest =
       elim mode.sets [

@@ -1,5 +1,5 @@
 -- ECMA-262 (2025), 22.2.1 Patterns: Quantifier with its early error (22.2.1.1), and B.1.2: InvalidBracedQuantifier.
-use Rattle.std.specs.Prelude.{◌≡◌, ℕ, ◌<◌, ◌-◌, ◌^◌, min, Bool, true, false, not, List, ◌∷◌, ◌++◌, length, Option, Some, None, nat_le}
+use Rattle.std.specs.Prelude.{◌≡◌, ℕ, ◌<◌, ◌-◌, ◌^◌, min, Bool, true, false, not, List, ◌∷◌, ◌++◌, length, Some, None, nat_le}
 use Rattle.std.specs.List.{list_all}
 use Rattle.regress_base.specs.declared.types.Quantifier.{Quantifier}
 use Rattle.regress_lexer.specs.Source.{Source, char}
@@ -63,7 +63,7 @@ is_out_of_order (between n m) = not (nat_le n m)
 abbrev pub saturated : ℕ → ℕ
 saturated n = min n (2 ^ 64 - 1)
 
--- 22.2.2.3.2 CompileQuantifierPrefix
+-- 22.2.2.6 CompileQuantifierPrefix
 abbrev pub bounds_of : QuantifierPrefix → RepeatBounds
 bounds_of star = (0, None)
 bounds_of plus = (1, None)

@@ -1,4 +1,5 @@
-//! ECMA-262's algorithm of matching, transcribed, and the theorem that the definitions of the other crates agree with it.
+//! ECMA-262's grammar and its algorithm of matching, transcribed, and the theorems that the definitions of the other crates agree
+//! with them.
 #![tactic(auto)]
 
 mod code_units;
