@@ -37,8 +37,7 @@ mutual
   count_of_item (group (capture name) p) = omega (arith, count_is p)
   count_of_item (group (look negated direction) p) = omega (arith, count_is p)
 
-module _ (setting : Setting) (all : HasPropertiesOfStrings setting.table)
-    (implied : setting.flags.unicode_sets ≡ true → setting.flags.unicode ≡ true) where
+module _ (setting : Setting) (implied : setting.flags.unicode_sets ≡ true → setting.flags.unicode ≡ true) where
   abbrev i : Bool
   i = setting.flags.icase
 
@@ -64,9 +63,9 @@ module _ (setting : Setting) (all : HasPropertiesOfStrings setting.table)
   abbrev mode_with : List (Option Name) → Mode
   mode_with ns = record { unicode = u; sets = v; has_names = list_any is_some ns; group_count = length ns }
 
-  pub pattern_accepted : (t : Source) → All IsCodePoint t → (p : Pattern) → IsPattern (own_context setting p) p t [] → NoneConflict p →
+  pub pattern_accepted : HasPropertiesOfStrings setting.table → (t : Source) → All IsCodePoint t → (p : Pattern) → IsPattern (own_context setting p) p t [] → NoneConflict p →
       (d : Disjunction) × IsDerivedPattern setting.table u v d t × IsWithin v d × (HasMinima d → has_early_error d ≡ false) × (groups d ≡ names p)
-  pattern_accepted t points p derived apart =
+  pattern_accepted all t points p derived apart =
       let found = pattern_derived setting.table v (names p) u all implied i m s p t [] points
       (subst (λ (ctx : Context). IsPattern ctx p t []) (own_is p) derived) in (
         found.0,

@@ -49,9 +49,6 @@ pub record IsLeaf (names : List (Option Name)) (v : Bool) (b : TermBody) : Type 
   pub within : BodyIsWithin v b
 
 module _ (table : Table) (i m s v : Bool) (names : List (Option Name)) (u : Bool) where
-  abbrev own : Context
-  own = context table i m s v names u
-
   abbrev own_mode : Mode
   own_mode = mode table i m s v names u
 

@@ -256,11 +256,6 @@ with_off on off rest letters letters' fine =
     let found' = front_is_prefix is_modifier off (char ":" ∷ rest) letters' refl in
     rw (found.0, found.1, found'.0, found'.1, some on off (parts.0), different_same (on ++ off), repeats_both on off, parts.1) refl
   where
-    either : (a b : Bool) → (a || b) ≡ false → (a ≡ false) × (b ≡ false)
-    either false false e = (refl, refl)
-    either false true e = absurd (false≢true (sym e))
-    either true b e = absurd (false≢true (sym e))
-
     regroup : (a b c d : Bool) → (a || b || c || d) ≡ false → (a ≡ false) × ((b || c || d) ≡ false)
     regroup false b c d e = (refl, e)
     regroup true b c d e = absurd (false≢true (sym e))

@@ -10,16 +10,13 @@ use Rattle.regress_lexer.specs.Quantifiers.{quantifier_at, is_ordered}
 use Rattle.regress_lexer.specs.Source.{Source, Found, found_map, char, is_at, closing, bar, ends_alternative}
 use Rattle.regress_lexer.proofs.lemmas.Quantifiers.{no_quantifier}
 use Rattle.regress_syntax.specs.Grammar.{AreTerms, IsPattern}
-use Rattle.regress_syntax.specs.Productions.{Context, Head, single, optional_quantifier_at, no_quantifier_at, this_quantifier, head_at}
+use Rattle.regress_syntax.specs.Productions.{Head, single, optional_quantifier_at, no_quantifier_at, this_quantifier, head_at}
 use Rattle.regress_syntax.specs.Syntax.{Name, literal, Pattern, one, either, Terms, no_terms, more_terms, atom, group}
 use Rattle.regress_ecma.proofs.AtomEscapeNodes.{flags, context}
 use Rattle.regress_ecma.proofs.EscapesWithU.{at_character, and_false}
 use Rattle.regress_ecma.proofs.PatternCharacters.{swap}
 
 module _ (table : Table) (i m s v : Bool) (names : List (Option Name)) (u : Bool) where
-  abbrev own : Context
-  own = context table i m s v names u
-
   -- No quantifier begins here, and no brace that has to begin one.
   pub record IsStart (t : Source) : Type 0 where
     pub no_quantifier : quantifier_at t ≡ None

@@ -113,7 +113,7 @@ module _ (table : Table) (i m s v : Bool) (names : List (Option Name)) (u : Bool
   boundary_head true t = refl
   boundary_head false t = refl
 
-abbrev is_single : Head → Bool
+abbrev pub is_single : Head → Bool
 is_single (single a) = true
 is_single (opens kind) = false
 

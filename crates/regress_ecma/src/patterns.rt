@@ -24,22 +24,20 @@ ghost use Rattle.regress_ecma.specs.Quantifiers.{HasMinimum, is_out_of_order, Is
 /// `Patterns` has the grammar of the standard, with `Quantifiers`, `GroupNames` and what `accepts_what_ecma_accepts` is about.
 /// They refer to no production of the other crates, but for properties by name. Sources are code points.
 ///
-/// The limits: a minimum of 2^64 or more is not compared with its maximum, and classes with the flag v nest up to a limit. The
-/// limits of `try_parse_in` come on top.
+/// Limits: `{n,m}` with n > m is accepted if m is 2^64 - 1 or more, and classes with the flag v nest up to a limit. Those of
+/// `try_parse_in` come on top.
 ///
 /// The function does nothing at run time; call it where a proof needs the theorem.
 pub fn accepts_patterns_of_ecma()
     // A pattern that the grammar derives without names in conflict, ECMA-262 derives without an early error, with the same groups.
-    ensures accepted { (setting : Setting) → HasPropertiesOfStrings setting.table →
-        (setting.flags.unicode_sets ≡ true → setting.flags.unicode ≡ true) → (t : Source) → All IsCodePoint t →
-        (p : Pattern) → IsPattern (own_context setting p) p t [] → NoneConflict p →
+    ensures accepted { (setting : Setting) → (setting.flags.unicode_sets ≡ true → setting.flags.unicode ≡ true) →
+        HasPropertiesOfStrings setting.table → (t : Source) → All IsCodePoint t → (p : Pattern) → IsPattern (own_context setting p) p t [] → NoneConflict p →
         (d : Disjunction) × IsDerivedPattern setting.table setting.flags.unicode setting.flags.unicode_sets d t
         × IsWithin setting.flags.unicode_sets d × (HasMinima d → has_early_error d ≡ false) × (groups d ≡ names p) }
 
     // What ECMA-262 derives without an early error the grammar derives, with the same groups, and without names in conflict.
-    ensures derived { (setting : Setting) → HasPropertiesOfStrings setting.table →
-        (setting.flags.unicode_sets ≡ true → setting.flags.unicode ≡ true) → HasIdentifiers setting.table →
-        (t : Source) → All IsCodePoint t → (d : Disjunction) →
+    ensures derived { (setting : Setting) → (setting.flags.unicode_sets ≡ true → setting.flags.unicode ≡ true) →
+        HasIdentifiers setting.table → (t : Source) → All IsCodePoint t → (d : Disjunction) →
         IsDerivedPattern setting.table setting.flags.unicode setting.flags.unicode_sets d t → has_early_error d ≡ false →
         IsWithin setting.flags.unicode_sets d →
         (p : Pattern) × IsPattern (own_context setting p) p t [] × NoneConflict p × (groups d ≡ names p) }
