@@ -63,7 +63,8 @@ module _ (setting : Setting) (implied : setting.flags.unicode_sets ≡ true → 
   abbrev mode_with : List (Option Name) → Mode
   mode_with ns = record { unicode = u; sets = v; has_names = list_any is_some ns; group_count = length ns }
 
-  pub pattern_accepted : HasPropertiesOfStrings setting.table → (t : Source) → All IsCodePoint t → (p : Pattern) → IsPattern (own_context setting p) p t [] → NoneConflict p →
+  pub pattern_accepted : HasPropertiesOfStrings setting.table → (t : Source) → All IsCodePoint t → (p : Pattern) →
+      IsPattern (own_context setting p) p t [] → NoneConflict p →
       (d : Disjunction) × IsDerivedPattern setting.table u v d t × IsWithin v d × (HasMinima d → has_early_error d ≡ false) × (groups d ≡ names p)
   pattern_accepted all t points p derived apart =
       let found = pattern_derived setting.table v (names p) u all implied i m s p t [] points

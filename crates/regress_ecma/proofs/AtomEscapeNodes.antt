@@ -114,7 +114,8 @@ module _ (table : Table) (i m s v : Bool) (names : List (Option Name)) where
       by true e = rw digit (refl, inl (decimal n, refl, ap not e))
       by false e = rw digit (inr (n, after is_decimal (c ∷ t), refl, e))
 
-  other_u : (c : ℕ) (t : Source) → atom_escape table (mode true) (c ∷ t) ≡ option_or (found_map character (character_escape true (has_names names) (c ∷ t))) None →
+  other_u : (c : ℕ) (t : Source) →
+      atom_escape table (mode true) (c ∷ t) ≡ option_or (found_map character (character_escape true (has_names names) (c ∷ t))) None →
       escaped_by (context true) c t ≡ found_map (literal (flags true)) (escape_at true (c ∷ t)) → Alike_u c t
   unfolding Alike_u
   other_u c t left right =
@@ -170,7 +171,8 @@ module _ (table : Table) (i m s : Bool) (names : List (Option Name)) where
   Alike : ℕ → Source → Type 0
   Alike c t = Is (atom_escape table own_mode (c ∷ t)) (escaped_by own c t)
 
-  of_units : (mine found : Found ℕ) → IsUnits table (has_names names) mine found → Is (option_or (found_map character mine) None) (found_map (literal own_flags) found)
+  of_units : (mine found : Found ℕ) → IsUnits table (has_names names) mine found →
+      Is (option_or (found_map character mine) None) (found_map (literal own_flags) found)
   of_units mine None units = inl (rw units refl)
   of_units mine (Some (x, rest)) (inl (small, e)) = (refl, inl (character x, rw e refl, refl))
   of_units mine (Some (x, rest)) (inr (u, big, e, trails)) = (refl, inr (refl, (x, u, rw e refl, trails)))
@@ -194,7 +196,8 @@ module _ (table : Table) (i m s : Bool) (names : List (Option Name)) where
       escaped_by own c t ≡ number_reference_at own c t → Alike c t
   unfolding Alike
   group_units c t digit few found =
-      subst (Is (atom_escape table own_mode (c ∷ t))) (sym found) (rw (digit, few) (refl, inl (decimal (number 10 (front is_decimal (c ∷ t))), refl, ap not few)))
+      subst (Is (atom_escape table own_mode (c ∷ t))) (sym found) (rw (digit, few)
+      (refl, inl (decimal (number 10 (front is_decimal (c ∷ t))), refl, ap not few)))
 
   escapes : (c : ℕ) (t : Source) → is_one_of "bB" c ≡ false → is_lone_backslash false c t ≡ false → (c == char "k" && has_names names) ≡ false → Alike c t
   unfolding Alike
@@ -209,9 +212,11 @@ module _ (table : Table) (i m s : Bool) (names : List (Option Name)) where
       (λ letter lone. by_case (begins_number c)
       (λ digit. by_case (nat_le (number 10 (front is_decimal (c ∷ t))) (length names))
       (λ few. group_units c t digit few (no_letter table i m s false names false c t (letter_none c d dd s' ss w ww) ∙ reference letter digit))
-      (λ many. other c t (left d dd s' ss w ww (beyond digit many)) (no_letter table i m s false names false c t (letter_none c d dd s' ss w ww) ∙ reference letter digit ∙ past many)
+      (λ many. other c t (left d dd s' ss w ww (beyond digit many)) (no_letter table i m s false names false c t
+      (letter_none c d dd s' ss w ww) ∙ reference letter digit ∙ past many)
       (escape_without_u table (has_names names) c t (no_identity (has_names names) c letter k))))
-      (λ digit. other c t (left d dd s' ss w ww (no_number digit)) (no_letter table i m s false names false c t (letter_none c d dd s' ss w ww) ∙ right letter digit)
+      (λ digit. other c t (left d dd s' ss w ww (no_number digit)) (no_letter table i m s false names false c t
+      (letter_none c d dd s' ss w ww) ∙ right letter digit)
       (escape_without_u table (has_names names) c t (no_identity (has_names names) c letter k)))) lone))))))
     where
       letter_follows : not (begins_with_letter t) ≡ false → begins_with_letter t ≡ true

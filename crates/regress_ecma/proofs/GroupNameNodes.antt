@@ -290,7 +290,8 @@ module _ (table : Table) (unicode : Bool) where
         let found = part_derived c t u part in
         let shorter : length u < length t = name_character_at-shortens (continues_name table) t (c, u) found in
         ap (λ (b : Bool). if b then Some ([], drop 1 t)
-        else (name_character_at (continues_name table) t >>= λ (c, rest). found_map (λ (cs : Name). c ∷ cs) (rest_of_name_by n table rest))) (part_no_closing c t u part)
+        else (name_character_at (continues_name table) t >>= λ (c, rest). found_map (λ (cs : Name). c ∷ cs) (rest_of_name_by n table rest)))
+        (part_no_closing c t u part)
         ∙ ap (λ (o : Found ℕ). o >>= λ (c, rest). found_map (λ (cs : Name). c ∷ cs) (rest_of_name_by n table rest)) found
         ∙ ap (found_map (λ (cs : Name). c ∷ cs)) (parts_derived n cs u rest (omega arith) more)
 

@@ -82,7 +82,8 @@ module _ (table : Table) (i m s v : Bool) (names : List (Option Name)) (u : Bool
 
 -- ---- trail surrogates
 
-pub escaped_inverse : (d : ℕ) (w rest : Source) → escaped_trail w ≡ Some (d, rest) → (x : Source) × (w ≡ char "\\" ∷ char "u" ∷ x) × (hex_at 4 x ≡ Some (d, rest))
+pub escaped_inverse : (d : ℕ) (w rest : Source) → escaped_trail w ≡ Some (d, rest) →
+    (x : Source) × (w ≡ char "\\" ∷ char "u" ∷ x) × (hex_at 4 x ≡ Some (d, rest))
 escaped_inverse d [] rest e = absurd (none-some (d, rest) e)
 escaped_inverse d (c ∷ []) rest e = absurd (by (c == char "\\") e)
   where
@@ -257,9 +258,11 @@ module _ (table : Table) (i m s v : Bool) (names : List (Option Name)) where
     unfolding Derived_by
     escapes_derived c t =
         at_character (λ d. Derived_by d t) (char "b") c
-        (each_some (IsAtom u (char "\\" ∷ char "b" ∷ t)) _ (one table i m s v names u false (boundary false) (char "\\" ∷ char "b" ∷ t) t refl refl refl refl tt refl))
+        (each_some (IsAtom u (char "\\" ∷ char "b" ∷ t)) _ (one table i m s v names u false (boundary false)
+        (char "\\" ∷ char "b" ∷ t) t refl refl refl refl tt refl))
         (λ small. at_character (λ d. Derived_by d t) (char "B") c
-        (each_some (IsAtom u (char "\\" ∷ char "B" ∷ t)) _ (one table i m s v names u false (boundary true) (char "\\" ∷ char "B" ∷ t) t refl refl refl refl tt refl))
+        (each_some (IsAtom u (char "\\" ∷ char "B" ∷ t)) _ (one table i m s v names u false (boundary true)
+        (char "\\" ∷ char "B" ∷ t) t refl refl refl refl tt refl))
         (λ capital. by_case (is_lone_backslash u c t)
         (λ lone. let parts = lone_parts c t lone in
         subst (λ d. Derived_by d t) (sym parts.0) (lone_derived u t parts.1 parts.2))
@@ -275,7 +278,8 @@ module _ (table : Table) (i m s v : Bool) (names : List (Option Name)) where
         IsCharacterOf table i m s v names u (plain_character table (mode table i m s v names u) t) found → Each (IsAtom u t) found
     from_character t no_braces None alike = each_none (IsAtom u t)
     from_character t no_braces (Some (a, rest)) (allows, inl (c, e)) =
-        each_some (IsAtom u t) (a, rest) (one table i m s v names u (atom_allows Ecma a) (pattern_character c) t rest (e, no_braces) refl refl refl tt (sym allows))
+        each_some (IsAtom u t) (a, rest) (one table i m s v names u (atom_allows Ecma a) (pattern_character c) t rest (e, no_braces) refl refl refl tt
+        (sym allows))
     from_character t no_braces (Some (a, rest)) (allows, inr (none, (x, w, e, trail))) =
         each_some (IsAtom u t) (a, rest)
         (inr (

@@ -220,7 +220,8 @@ module _ (table : Table) (i m s v : Bool) (names : List (Option Name)) where
       (λ f. no_braces_from table (mode table i m s v names u) (char "{" ∷ t) (by u (quantifier_at (char "{" ∷ t)) f))
       (λ miss _. no_braces_elsewhere table (mode table i m s v names u) (c ∷ t) miss) e
     where
-      by : (u : Bool) (found : Found Quantifier) → (if u || is_some found then None else Some (literal (flags table i m s v names u) (char "{"), t)) ≡ Some x → found ≡ None
+      by : (u : Bool) (found : Found Quantifier) →
+          (if u || is_some found then None else Some (literal (flags table i m s v names u) (char "{"), t)) ≡ Some x → found ≡ None
       by true found f = absurd (none-some x f)
       by false None f = refl
       by false (Some q) f = absurd (none-some x f)

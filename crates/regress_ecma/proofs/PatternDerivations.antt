@@ -185,9 +185,11 @@ module _ (table : Table) (v : Bool) (names : List (Option Name)) (u : Bool) wher
   -- ---- groups
 
   of_group : (allowed : Bool) (kind : Group) (p : Pattern) (b : TermBody) (d : Disjunction) (t w rest : Source) →
-      IsDisjunctionOf (names_of_pattern p) (are_names_apart p) w (closing ∷ rest) d → IsTermBody table own_mode b t rest → is_quantifiable table own_mode b ≡ allowed →
+      IsDisjunctionOf (names_of_pattern p) (are_names_apart p) w (closing ∷ rest) d → IsTermBody table own_mode b t rest →
+      is_quantifiable table own_mode b ≡ allowed →
       groups_of_body b ≡ groups d → body_has_duplicate b ≡ has_duplicate d → names_of_group kind ≡ [] →
-      BodyIsWithin v b → (BodyHasMinima b → body_has_error names b ≡ false) → IsBodyOf allowed (names_of_item (group kind p)) (are_names_apart_in_item (group kind p)) t rest b
+      BodyIsWithin v b → (BodyHasMinima b → body_has_error names b ≡ false) →
+      IsBodyOf allowed (names_of_item (group kind p)) (are_names_apart_in_item (group kind p)) t rest b
   of_group allowed kind p b d t w rest inside derived quantifiable same_groups same_duplicate unnamed within fine = record {
     derived = derived;
     quantifiable = quantifiable;
@@ -202,17 +204,26 @@ module _ (table : Table) (v : Bool) (names : List (Option Name)) (u : Bool) wher
   group_body : (kind : Group) (p : Pattern) (t w rest : Source) → IsOpenedBy table own_mode kind t w →
       (d : Disjunction) → IsDisjunctionOf (names_of_pattern p) (are_names_apart p) w (closing ∷ rest) d →
       (b : TermBody) × IsBodyOf (allows (context table true true true v names u) (opens kind)) (names_of_item (group kind p)) (are_names_apart_in_item (group kind p)) t rest b
-  group_body grouping p t w rest opened d inside =
-      (modified [] None d, of_group true grouping p (modified [] None d) d t w rest inside (w, opened, inside.derived) refl refl refl refl inside.within inside.fine)
+  group_body grouping p t w rest opened d inside = (
+    modified [] None d,
+    of_group true grouping p (modified [] None d) d t w rest inside
+        (w, opened, inside.derived) refl refl refl refl inside.within inside.fine,
+  )
   group_body (modified_group change) p t w rest (on, off, opened, fine) d inside = (
     modified on off d,
     of_group true (modified_group change) p (modified on off d) d t w rest inside (w, opened, inside.derived) refl refl refl refl inside.within
         (λ minima. either_fine _ (has_error names d) fine (inside.fine minima)),
   )
-  group_body (look negated forwards) p t w rest opened d inside =
-      (lookahead negated d, of_group (not u) (look negated forwards) p (lookahead negated d) d t w rest inside (w, opened, inside.derived) refl refl refl refl inside.within inside.fine)
-  group_body (look negated backwards) p t w rest opened d inside =
-      (lookbehind negated d, of_group false (look negated backwards) p (lookbehind negated d) d t w rest inside (w, opened, inside.derived) refl refl refl refl inside.within inside.fine)
+  group_body (look negated forwards) p t w rest opened d inside = (
+    lookahead negated d,
+    of_group (not u) (look negated forwards) p (lookahead negated d) d t w rest inside
+        (w, opened, inside.derived) refl refl refl refl inside.within inside.fine,
+  )
+  group_body (look negated backwards) p t w rest opened d inside = (
+    lookbehind negated d,
+    of_group false (look negated backwards) p (lookbehind negated d) d t w rest inside
+        (w, opened, inside.derived) refl refl refl refl inside.within inside.fine,
+  )
   group_body (capture_group name) p t w rest opened d inside = (
     capture name d,
     record {
@@ -305,9 +316,12 @@ module _ (table : Table) (v : Bool) (names : List (Option Name)) (u : Bool) wher
           pattern_derived i' m' s' p mid (closing ∷ w) points_mid h) inside in
           let b = group_body kind p t mid w (opening_node table i m s v names u all implied kind t mid opened) d.0 d.1 in
           let points_w = All-tail IsCodePoint closing w d.1.points in
-          let points_z = after_all w z ((optional_quantifier_at-ends (context table i m s v names u) (allows (context table i m s v names u) (opens kind)) w).each (q, z) quantifier) points_w in
+          let points_z = after_all w z ((optional_quantifier_at-ends (context table i m s v names u)
+          (allows (context table i m s v names u) (opens kind)) w).each (q, z) quantifier) points_w in
           let others = terms_derived i m s xs z rest points_z more in
-          let x = with_quantifier i m s (allows (context table i m s v names u) (opens kind)) (names_of_item (group kind p)) (are_names_apart_in_item (group kind p)) t w z b.0 q b.1 quantifier in (
+          let x = with_quantifier i m s (allows (context table i m s v names u) (opens kind)) (names_of_item (group kind p))
+          (are_names_apart_in_item (group kind p)) t w z b.0 q b.1 quantifier in (
             term_then x.0 others.0,
-            joined (names_of_item (group kind p)) (names_of_terms xs) (are_names_apart_in_item (group kind p)) (are_names_apart_in_terms xs) t z rest x.0 others.0 x.1 others.1,
+            joined (names_of_item (group kind p)) (names_of_terms xs) (are_names_apart_in_item (group kind p))
+                (are_names_apart_in_terms xs) t z rest x.0 others.0 x.1 others.1,
           )

@@ -112,7 +112,8 @@ module _ (table : Table) where
 
   -- `(?i-s:a)`
   modifiers : IsDerivedPattern table true false
-      (alone (term_then (unquantified (modified (codes "i") (Some (codes "s")) (alone (term_then (unquantified letter_a) nothing)))) nothing)) (codes "(?i-s:a)")
+      (alone (term_then (unquantified (modified (codes "i") (Some (codes "s")) (alone (term_then (unquantified letter_a) nothing)))) nothing))
+      (codes "(?i-s:a)")
   unfolding letter_a
   modifiers = ([], (codes "a)", (refl, refl, refl), (codes ")", (refl, no_braces_elsewhere table without_group (codes "a)") refl), refl)), refl)
 

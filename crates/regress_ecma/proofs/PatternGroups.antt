@@ -119,7 +119,8 @@ module _ (t : Source) where
       no_repeat : (repeats on_letters || repeats off || list_any (occurs_in off) on_letters) ≡ false
       no_repeat =
           sym (repeats_both on_letters off)
-          ∙ not_true (repeats (on_letters ++ off)) (sym (different_same (on_letters ++ off)) ∙ ap (λ (w : List ℕ). are_different (on_letters ++ w)) (sym off_is) ∙ different)
+          ∙ not_true (repeats (on_letters ++ off)) (sym (different_same (on_letters ++ off))
+          ∙ ap (λ (w : List ℕ). are_different (on_letters ++ w)) (sym off_is) ∙ different)
 
       no_empty : (a b : List ℕ) → (length (a ++ b) == 0) ≡ false → (is_empty a && is_empty b) ≡ false
       no_empty [] b e = e
@@ -150,7 +151,8 @@ modifiers_derived t =
     by e =
         let closed = and_parts (some && different) (is_at colon (after_letters_off (after is_modifier t))) e in
         let both = and_parts some different closed.0 in
-        by_case (is_at (char "-") (after is_modifier t)) (λ hyphen. with_hyphen t hyphen (not_true t (length (front is_modifier t ++ letters_off (after is_modifier t)) == 0) both.0) both.1 closed.1)
+        by_case (is_at (char "-") (after is_modifier t)) (λ hyphen. with_hyphen t hyphen
+        (not_true t (length (front is_modifier t ++ letters_off (after is_modifier t)) == 0) both.0) both.1 closed.1)
         (λ none. without_hyphen t none both.1 closed.1)
 
 module _ (table : Table) (mode : Mode) where
@@ -284,7 +286,8 @@ module _ (table : Table) (i m s v : Bool) (names : List (Option Name)) (u : Bool
       Finds (look negated forwards) t rest
   lookahead_found negated t rest e = ap (head_at own) e ∙ look_found negated rest
 
-  behind_found : (negated : Bool) (w : Source) → Finds (look negated backwards) (char "(" ∷ char "?" ∷ char "<" ∷ (if negated then char "!" else char "=") ∷ w) w
+  behind_found : (negated : Bool) (w : Source) →
+      Finds (look negated backwards) (char "(" ∷ char "?" ∷ char "<" ∷ (if negated then char "!" else char "=") ∷ w) w
   unfolding head_at
   behind_found true w = refl
   behind_found false w = refl
@@ -333,7 +336,8 @@ module _ (table : Table) (i m s v : Bool) (names : List (Option Name)) (u : Bool
   unfolding head_at
   changes c w change rest a b d e found = rw (a, b, d, e, found) refl
 
-  pub modified_found : (on : List ℕ) (off : Option (List ℕ)) (t rest : Source) → AreModifiers on off t rest → are_wrong_modifiers on off ≡ false → IsUnnamed t rest
+  pub modified_found : (on : List ℕ) (off : Option (List ℕ)) (t rest : Source) → AreModifiers on off t rest → are_wrong_modifiers on off ≡ false →
+      IsUnnamed t rest
   unfolding head_at
   modified_found [] None t rest (e, letters) fine = inr (ap (head_at own) e)
   modified_found (c ∷ on) None t rest (e, letters) fine =

@@ -58,7 +58,8 @@ module _ (table : Table) (i m s v : Bool) (names : List (Option Name)) where
       IsEscapeOf table i m s v names u (atom_escape table (own_mode u) (c ∷ t)) found → Reads u true (char "\\" ∷ c ∷ t) w
   read_escape u c t w node e fine None f (inl none) = absurd (none-some (node, w) (sym none ∙ e))
   read_escape u c t w node e fine None f (inr (n, r, e', many)) =
-      absurd (false≢true (sym fine ∙ ap (λ (x : AtomEscape × Source). is_wrong_escape names x.0) (sym (same_Some (decimal n, r) (node, w) (sym e' ∙ e))) ∙ ap not many))
+      absurd (false≢true (sym fine ∙ ap (λ (x : AtomEscape × Source). is_wrong_escape names x.0)
+      (sym (same_Some (decimal n, r) (node, w) (sym e' ∙ e))) ∙ ap not many))
   read_escape u c t w node e fine (Some (a, rest)) f (allows, inl (node', e', fine')) =
       inl (
         a,
@@ -114,7 +115,8 @@ module _ (table : Table) (i m s v : Bool) (names : List (Option Name)) where
   escape_read proper u implied node (c ∷ t) w no_b (inl e) fine =
       by_case (c == char "k" && (u || has_names names))
       (λ k. let both = and_parts (c == char "k") (u || has_names names) k in
-      absurd (none-some (node, w) (sym (ap (λ (d : ℕ). atom_escape table (own_mode u) (d ∷ t)) (eqb-true c (char "k") both.0) ∙ no_k table i m s v names u t both.1) ∙ e)))
+      absurd (none-some (node, w) (sym (ap (λ (d : ℕ). atom_escape table (own_mode u) (d ∷ t))
+      (eqb-true c (char "k") both.0) ∙ no_k table i m s v names u t both.1) ∙ e)))
       (λ k. by_case (is_lone_backslash u c t)
       (λ lone. let parts = lone_parts table i m s v names u implied c t lone in
       absurd (none-some (node, w) (sym (ap (λ (d : ℕ). atom_escape table (own_mode u) (d ∷ t)) parts.0
@@ -131,7 +133,8 @@ module _ (table : Table) (i m s v : Bool) (names : List (Option Name)) where
     where
       no_letter : (w : Source) → HasNoEscape table (own_mode false) (char "c" ∷ w) → begins_with_letter w ≡ false
       no_letter [] h = refl
-      no_letter (d ∷ w) h = by_case (begins_with_letter (d ∷ w)) (λ letter. absurd (h (character (Rattle.regress_lexer.specs.Digits.control d)) w (inl (rw letter refl)))) (λ e. e)
+      no_letter (d ∷ w) h = by_case (begins_with_letter (d ∷ w)) (λ letter. absurd
+          (h (character (Rattle.regress_lexer.specs.Digits.control d)) w (inl (rw letter refl)))) (λ e. e)
 
       found : (w : Source) → begins_with_letter w ≡ false → head_at (own false) (char "\\" ∷ char "c" ∷ w)
           ≡ Some (single (literal (flags table i m s v names false) (char "\\")), char "c" ∷ w)
@@ -270,7 +273,8 @@ hex_small c e = grind (arith, nat_tests, e)
 no_brace : (x : Source) (y : ℕ × Source) → hex_at 4 x ≡ Some y → is_at (char "{") x ≡ false
 no_brace [] y e = refl
 no_brace (c ∷ x) y e =
-    by_case (c == char "{") (λ hit. absurd (none-some y (sym (no_hex x) ∙ ap (λ (d : ℕ). hex_at 4 (d ∷ x)) (sym (eqb-true c (char "{") hit)) ∙ e))) (λ miss. miss)
+    by_case (c == char "{") (λ hit. absurd (none-some y (sym (no_hex x) ∙ ap (λ (d : ℕ). hex_at 4 (d ∷ x)) (sym (eqb-true c (char "{") hit)) ∙ e)))
+    (λ miss. miss)
 
 points_before : (n : ℕ) (x : Source) → list_all is_hex (take n x) ≡ true → All IsCodePoint (drop n x) → All IsCodePoint x
 points_before zero x hex points = points

@@ -280,7 +280,8 @@ module _ (table : Table) (v : Bool) (names : List (Option Name)) (u : Bool) wher
 
   -- ---- groups
 
-  opening_points : (proper : HasIdentifiers table) → (name : Option Name) (t w : Source) → All IsCodePoint t → IsOpening table own_mode name t w → All IsCodePoint w
+  opening_points : (proper : HasIdentifiers table) → (name : Option Name) (t w : Source) → All IsCodePoint t → IsOpening table own_mode name t w →
+      All IsCodePoint w
   opening_points proper None t w points e = All-tail IsCodePoint (char "(") w (subst (All IsCodePoint) e points)
   opening_points proper (Some name) t w points (x, e, h) =
       after_all x w ((group_name_at-ends table x).each (name, w) (group_name_derived table u proper name x w h))
@@ -401,8 +402,10 @@ module _ (table : Table) (v : Bool) (names : List (Option Name)) (u : Bool) wher
           by fines.1 (modified_found table i m s v names u on off t w h fines.0)
           (λ (i' m' s' : Bool) (points' : All IsCodePoint w). disjunction_read i' m' s' d w (closing ∷ rest) points' refl refl k fines.1 within)
         where
-          by : has_error names d ≡ false → (((change : Change) × (head_at (own i m s) t ≡ Some (opens (modified_group change), w))) ⊎ (head_at (own i m s) t ≡ Some (opens grouping, w))) →
-              ((i' m' s' : Bool) → All IsCodePoint w → (p : Pattern) × IsReadPattern i' m' s' d w (closing ∷ rest) p) → IsReadBody i m s (modified on off d) t rest
+          by : has_error names d ≡ false →
+              (((change : Change) × (head_at (own i m s) t ≡ Some (opens (modified_group change), w))) ⊎ (head_at (own i m s) t ≡ Some (opens grouping, w))) →
+              ((i' m' s' : Bool) → All IsCodePoint w → (p : Pattern) × IsReadPattern i' m' s' d w (closing ∷ rest) p) →
+              IsReadBody i m s (modified on off d) t rest
           by fine (inl (change, found)) read =
               let inside = read (switched change.icase i) (switched change.multiline m) (switched change.dot_all s)
               (after_all t w ((head_at-ends (own i m s) t).each _ found) points) in
