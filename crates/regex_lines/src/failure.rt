@@ -220,7 +220,8 @@ pub fn read_failure(error: io::Error, name: &str) -> Failure<'_>
     }
 }
 
-/// Writes a syntax error with its position, a code-point index of the pattern or its length, and the pattern with a caret.
+/// Writes a syntax error, without a full stop at its end, with its position, a code-point index of the pattern or its length,
+/// and the pattern with a caret.
 ///
 /// # Errors
 /// Returns an error of `err`.
@@ -230,6 +231,7 @@ pub fn write_syntax_error<E: Write>(
     position: usize,
     err: &mut E,
 ) -> io::Result<()> {
+    let text = text.trim_end_matches('.');
     writeln!(err, "regex: {text}, at position {position}")?;
     write_with_caret(pattern, position, err)
 }
