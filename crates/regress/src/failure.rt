@@ -13,7 +13,7 @@ use std::alloc::{AllocError, AllocFailed};
 #[derive(Debug, Drop, thiserror::Error)]
 pub enum Error {
     /// The pattern is rejected: the grammar does not derive it within the limits of the dialect.
-    #[error("{text}, at position {position}")]
+    #[error("{}, at position {position}", .text.trim_end_matches('.'))]
     Syntax {
         /// What is wrong, as a kind for a program.
         kind: FaultKind,
