@@ -11,7 +11,6 @@ mod pattern;
 mod positions;
 mod productions;
 mod recording;
-mod room;
 mod span;
 
 pub use bound::node_bound;

@@ -19,12 +19,14 @@ use crate::parser::{Parser, PartContext};
 use crate::recording::{
     has_node, note_start, push_reversed, record_alternations, record_if, record_nodes, set_apart,
 };
-use crate::room::room_for_terms;
 use regress_base::types::{CaptureGroupID, MAX_NESTING_DEPTH};
 use regress_lexer::quantifier::may_begin;
 use regress_syntax::fault::FaultKind;
 use regress_syntax::{Fault, Group, parse_optional_quantifier};
 use regress_tree::ir::Node;
+
+/// The number of terms for which a list of several terms has room at first.
+const USUAL_LENGTH: usize = 8;
 
 /// Where an item begins.
 #[derive(Clone, Copy)]
@@ -166,8 +168,7 @@ impl Parser<'_> {
             (terms_at (context_in around.now) t) }
         ensures reached { FailsBy result (λ kind. Reaches kind (counted self.old) around.now.depth (text self.old)) }
     {
-        let room = room_for_terms(self.cursor.rest);
-        let mut parts = Vec::with_capacity(self.cursor.alloc, room)?;
+        let mut parts = Vec::with_capacity(self.cursor.alloc, USUAL_LENGTH)?;
         parts.push(first)?;
         while !self.cursor.ends_alternative() {
             let taken = push_simple_term(&mut self.cursor, &around.scope, &mut parts)?;
