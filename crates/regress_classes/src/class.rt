@@ -1,5 +1,5 @@
 //! Parses classes without the flag v.
-ghost use Rattle.std.specs.Prelude.{◌≡◌, ◌+◌, ◌==◌, ◌&&◌, not, true, false, drop, if◌then◌else◌, Some, None, List, [], ◌∷◌, length, OnOk, IfSome, IfNone};
+ghost use Rattle.std.specs.Prelude.{◌≡◌, ◌+◌, ◌==◌, ◌&&◌, not, true, false, drop, if◌then◌else◌, Some, None, List, [], ◌∷◌, length, IfOk, OnOk, IfSome, IfNone};
 ghost use Rattle.regress_base.specs.Intervals.{Bounds};
 ghost use Rattle.regress_classes.specs.ClassProductions.{point, is_pair, splits, complement_if, atom_members, units_between, begins_range, range_of, range_end_at, range_at, class_part_at, class_parts_by, class_at};
 ghost use Rattle.regress_base.specs.Table.{Table};
@@ -78,12 +78,22 @@ fn parse_parts(cursor: &mut Cursor, around: &ClassContext) -> Result<CodePointSe
         ParsesAs (λ set members. HasMembers members set) (source cursor.new) result (class_parts_by (table_of around.now.tables.now) around.now.parameters.now (length t + 1) t) }
     ensures kind { FailsByNoLimit result }
 {
-    let mut gathered = IntervalCollector::with_room(cursor.alloc)?;
+    let mut gathered = collector(cursor)?;
     while !cursor.is_at(']') {
         parse_part(cursor, around, &mut gathered)?;
     }
     cursor.try_consume(']');
     Ok(gathered.into_set()?)
+}
+
+/// Returns an empty collection, with room for the intervals of most classes, unless the class has no part.
+fn collector(cursor: &Cursor) -> Result<IntervalCollector, AllocError>
+    ensures { IfOk result (λ collector. collector ≡ []) }
+{
+    if cursor.is_at(']') {
+        return Ok(IntervalCollector::new(cursor.alloc));
+    }
+    IntervalCollector::with_room(cursor.alloc)
 }
 
 /// Parses an atom or a range, and adds its members.
