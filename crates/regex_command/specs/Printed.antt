@@ -98,12 +98,12 @@ IsDue dialect setting text failure =
 
 -- a job that changes lines
 abbrev pub changes : Job → Bool
-changes (matching s) = false
+changes (matching s colors) = false
 changes (replacing template) = true
 
 -- whether nothing is shown of selected lines
 abbrev pub is_silent : Job → Bool
-is_silent (matching s) = is_nothing s.shown
+is_silent (matching s colors) = is_nothing s.shown
 is_silent (replacing template) = false
 
 -- whether inputs may be left unread: none is, or nothing is shown, and a line is selected

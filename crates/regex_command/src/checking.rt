@@ -48,7 +48,7 @@ fn takes_several(asked: Action<'_>) -> bool
     matches!(
         asked,
         Action::Search(Search {
-            task: Task::Match(_),
+            task: Task::Match(..),
             ..
         },)
     )

@@ -35,8 +35,8 @@ use regex_lines::{
 };
 use regex_options::{
     Action, Arguments, Asked, COMMANDS, OPTIONS, Output, ParseError, Request, Search, Shown, Task,
-    Topic, UsageError, View, allows_color, interpret, parse_arguments, topic_text,
-    write_usage_error,
+    Topic, UsageError, View, allows_color, color_setting, interpret, parse_arguments, parse_colors,
+    topic_text, write_usage_error,
 };
 use regress_arguments::{ArgumentsError, arguments};
 use regress_display::Request as TreeRequest;
@@ -65,22 +65,42 @@ fn run<R: Env + Files + AllocGlobal, I: Read + Drop, W: Write + Drop, E: Write>(
     ensures known { result ≤ 2 }
 {
     match arguments(rt) {
-        Ok(args) => {
-            let arguments = Arguments {
-                commands: &COMMANDS,
-                options: &OPTIONS,
-                words: &args,
-                output: Output {
-                    colors: terminal && allows_color(rt),
-                    at_once: terminal,
-                },
-            };
-            let (status, _) = run_buffered(rt, arguments, input, out, err);
-            status
-        }
+        Ok(args) => run_words(rt, &args, input, out, terminal, err),
         Err(ArgumentsError::NotUtf8) => report(Failure::Argument, err),
         Err(ArgumentsError::OutOfMemory) => report(Failure::Memory, err),
     }
+}
+
+/// Runs the program with these arguments, and the colors of its environment.
+fn run_words<R: Env + Files + AllocGlobal, I: Read + Drop, W: Write + Drop, E: Write>(
+    rt: &R,
+    words: &[String],
+    input: I,
+    out: W,
+    terminal: bool,
+    err: &mut E,
+) -> u8
+    ensures known { result ≤ 2 }
+{
+    let Ok(setting) = color_setting(rt) else {
+        return report(Failure::Memory, err);
+    };
+    let Ok(colors) = parse_colors(rt.alloc(), &setting) else {
+        return report(Failure::Memory, err);
+    };
+    let output = Output {
+        terminal: terminal && allows_color(rt),
+        colors: &colors,
+        at_once: terminal,
+    };
+    let arguments = Arguments {
+        commands: &COMMANDS,
+        options: &OPTIONS,
+        words,
+        output,
+    };
+    let (status, _) = run_buffered(rt, arguments, input, out, err);
+    status
 }
 
 /// Runs `run_arguments` with a buffered output, and returns the exit status, and the output if it has all that was written.
@@ -383,7 +403,7 @@ fn is_silent(task: Task<'_>) -> bool
     ensures { result ≡ is_silent (job task.entry) }
 {
     match task {
-        Task::Match(selection) => matches!(selection.shown, Shown::Nothing),
+        Task::Match(selection, _) => matches!(selection.shown, Shown::Nothing),
         Task::Replace(_) => false,
     }
 }
@@ -392,7 +412,7 @@ fn changes(task: Task<'_>) -> bool
     ensures { result ≡ changes (job task.entry) }
 {
     match task {
-        Task::Match(_) => false,
+        Task::Match(..) => false,
         Task::Replace(_) => true,
     }
 }

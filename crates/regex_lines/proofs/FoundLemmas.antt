@@ -14,7 +14,8 @@ use Rattle.regex_options.specs.declared.task.Shown.{Shown}
 use Rattle.regex_options.specs.declared.task.Shown.TheVariants.{Lines, Matches, Json, Count, Names, Nothing}
 use Rattle.regex_lines.specs.InLine.{AreInLine, AreInText, HasMatch, HasOffsets, needs_matches, shown_by}
 use Rattle.regex_lines.specs.Near.{plain}
-use Rattle.regex_lines.specs.Reply.{MatchesIn, Shows, AreSearched, Run, TextMatches, matches_of, run_of}
+use Rattle.regex_lines.specs.Paint.{LinePaint}
+use Rattle.regex_lines.specs.Reply.{MatchesIn, Shows, ShowsLine, AreSearched, Run, TextMatches, matches_of, run_of}
 use Rattle.regex_lines.specs.declared.runs.Run as code
 use Rattle.regex_lines.specs.declared.runs.TextMatches as code_matches
 
@@ -104,25 +105,24 @@ module _ (r : Regex) where
   all_texts runs i found all sofar = subst (λ (some : List code.Run). SoFar (map run_of some) found) (take_all i runs all) sofar
 
   -- how a line is shown by its matches, or without them
-  pub by_matches : (line : List ℕ) (texts : List Run) (found : List TextMatches) (shown : Shown) (paints : Bool) (prefix bytes : List ℕ) →
-      needs_matches shown paints ≡ true → AreSearched r texts found → bytes ≡ shown_by r line shown paints prefix found → Shows r line texts shown paints prefix bytes
-  by_matches line texts found Lines true prefix bytes needs searched is = (found, searched, is)
-  by_matches line texts found Lines false prefix bytes needs searched is = let bad : ⊥ = cc in absurd bad
-  by_matches line texts found Matches paints prefix bytes needs searched is = (found, searched, is)
-  by_matches line texts found Json paints prefix bytes needs searched is = (found, searched, is)
-  by_matches line texts found Count paints prefix bytes needs searched is = let bad : ⊥ = cc in absurd bad
-  by_matches line texts found Names paints prefix bytes needs searched is = let bad : ⊥ = cc in absurd bad
-  by_matches line texts found Nothing paints prefix bytes needs searched is = let bad : ⊥ = cc in absurd bad
+  pub by_matches : (line : List ℕ) (texts : List Run) (found : List TextMatches) (shown : Shown) (p : LinePaint) (prefix bytes : List ℕ) →
+      needs_matches shown p ≡ true → AreSearched r texts found → bytes ≡ shown_by r line shown p prefix found → Shows r line texts shown p prefix bytes
+  by_matches line texts found Lines p prefix bytes needs searched is =
+      subst (λ matches. ShowsLine r line texts matches p prefix bytes) (sym needs) (found, searched, is)
+  by_matches line texts found Matches p prefix bytes needs searched is = (found, searched, is)
+  by_matches line texts found Json p prefix bytes needs searched is = (found, searched, is)
+  by_matches line texts found Count p prefix bytes needs searched is = let bad : ⊥ = cc in absurd bad
+  by_matches line texts found Names p prefix bytes needs searched is = let bad : ⊥ = cc in absurd bad
+  by_matches line texts found Nothing p prefix bytes needs searched is = let bad : ⊥ = cc in absurd bad
 
-  pub without : (line : List ℕ) (texts : List Run) (shown : Shown) (paints : Bool) (prefix bytes : List ℕ) →
-      needs_matches shown paints ≡ false → bytes ≡ plain line shown prefix → Shows r line texts shown paints prefix bytes
-  without line texts Lines true prefix bytes needs is = let bad : ⊥ = cc in absurd bad
-  without line texts Lines false prefix bytes needs is = is
-  without line texts Matches paints prefix bytes needs is = let bad : ⊥ = cc in absurd bad
-  without line texts Json paints prefix bytes needs is = let bad : ⊥ = cc in absurd bad
-  without line texts Count paints prefix bytes needs is = is
-  without line texts Names paints prefix bytes needs is = is
-  without line texts Nothing paints prefix bytes needs is = is
+  pub without : (line : List ℕ) (texts : List Run) (shown : Shown) (p : LinePaint) (prefix bytes : List ℕ) →
+      needs_matches shown p ≡ false → bytes ≡ plain line shown p.rest prefix → Shows r line texts shown p prefix bytes
+  without line texts Lines p prefix bytes needs is = subst (λ matches. ShowsLine r line texts matches p prefix bytes) (sym needs) is
+  without line texts Matches p prefix bytes needs is = let bad : ⊥ = cc in absurd bad
+  without line texts Json p prefix bytes needs is = let bad : ⊥ = cc in absurd bad
+  without line texts Count p prefix bytes needs is = is
+  without line texts Names p prefix bytes needs is = is
+  without line texts Nothing p prefix bytes needs is = is
 
 -- offsets in texts that are in a line
 pub have_offsets : (len from : ℕ) (found : List code_matches.TextMatches) → len < 2 ^ 64 → AreInLine len from (map (λ f. f.run) (map matches_of found)) →

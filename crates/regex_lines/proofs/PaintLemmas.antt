@@ -1,102 +1,96 @@
--- Loops over texts and matches that are added in color.
-use Rattle.std.proofs.Common.{◌≡◌, ◌∙◌, ℕ, suc, ◌+◌, ◌≤◌, ◌<◌, All, List, [], ◌∷◌, ◌++◌, add-one, drop, drop-cons, get_or, length, map, slice_range, sym, ap, subst, append_assoc, arith}
-use Rattle.std.proofs.lemmas.List.Elements.{All-map}
-use Rattle.std.proofs.lemmas.List.{drop_all, get_or-map, length-map}
+-- Spans of matches in order, and loops that add a line with these in color.
+use Rattle.std.proofs.Common.{◌≡◌, ◌∙◌, ℕ, suc, ◌+◌, ◌≤◌, ◌<◌, All, Bool, true, false, cond, eqb, List, [], ◌∷◌, ◌++◌, add-one, drop, drop-cons, flat_map, get_or, length, map, slice_range, sym, ap, subst, append_assoc, arith}
+use Rattle.std.proofs.lemmas.List.Elements.{All-head, All-map, All-tail}
+use Rattle.std.proofs.lemmas.List.{drop_all}
 use Rattle.regress_found.specs.Found.{IsInside, start_of}
-use Rattle.regress_replace.specs.Expansion.{end_of, matched_text}
-use Rattle.regress_replace.specs.Replaced.{replaced}
-use Rattle.regress_replace.proofs.lemmas.Order.{IsBefore, before_first, before_next, next_match}
+use Rattle.regress_found.specs.declared.found.Match.{Match}
+use Rattle.regress_replace.specs.Expansion.{end_of}
+use Rattle.regress_replace.specs.Order.{AreInOrder}
 use Rattle.regress.specs.Compiled.{match_of}
-use Rattle.regress.specs.declared.found.Match.{Match}
-use Rattle.regex_lines.specs.InLine.{AreInLine}
-use Rattle.regex_lines.specs.Reply.{painted, painted_line, painted_text, Run, matches_of}
+use Rattle.regex_lines.specs.InLine.{AreInLine, AreInText}
+use Rattle.regex_lines.specs.Paint.{AreSpansIn, LinePaint, begun, painted, painted_spans, span_in}
+use Rattle.regex_lines.specs.Reply.{matches_of, spans_in}
 use Rattle.regex_lines.specs.declared.runs.TextMatches as code
+use Rattle.regex_lines.specs.declared.spans.Span.{Span}
 
--- the text from an offset on, with these matches in color
-abbrev pub painted_from : (text : List ℕ) → ℕ → List Match → ℕ → List ℕ
-painted_from text from ms i = replaced text (λ m. painted (matched_text text m)) from (drop i (map match_of ms))
+ends : (len from : ℕ) (spans : List Span) → AreSpansIn len from spans → from ≤ len
+ends len from [] within = within
+ends len from (span ∷ spans) within = omega (arith, within.0, within.1, ends len span.end spans within.2)
 
-module _ (text : List ℕ) (ms : List Match) (from i : ℕ) (m : Match) (below : i < length ms) (is : m ≡ get_or ms i m) where
-  here : match_of m ≡ get_or (map match_of ms) i (match_of m)
-  here = ap match_of is ∙ sym (get_or-map match_of ms i m (match_of m) below)
+sooner : (len from to : ℕ) (spans : List Span) → from ≤ to → AreSpansIn len to spans → AreSpansIn len from spans
+sooner len from to [] before within = omega (arith, before, within)
+sooner len from to (span ∷ spans) before within = (omega (arith, before, within.0), within.1, within.2)
 
-  below_all : i < length (map match_of ms)
-  below_all = subst (λ n. i < n) (sym (length-map ms match_of)) below
+-- the spans in one text, and later ones
+module _ (len start : ℕ) (text : List ℕ) (later : List Span) (after : AreSpansIn len (start + length text) later) where
+  one : (from : ℕ) (m : Match) (more : List Span) → from ≤ start_of m → start_of m ≤ end_of m → AreSpansIn len (start + end_of m) (more ++ later) →
+      (empty : Bool) → AreSpansIn len (start + from) ((cond empty [] (record { start = start + start_of m; end = start + end_of m } ∷ []) ++ more) ++ later)
+  one from m more before ordered rest true = sooner len (start + from) (start + end_of m) (more ++ later) (omega (arith, before, ordered)) rest
+  one from m more before ordered rest false = (omega (arith, before), omega (arith, ordered), rest)
 
-  -- one match further
-  pub one_painted : (done all : List ℕ) → done ++ painted_from text from ms i ≡ all →
-      ((done ++ slice_range text from (start_of (match_of m))) ++ painted (matched_text text (match_of m)))
-      ++ painted_from text (end_of (match_of m)) ms (i + 1) ≡ all
-  one_painted done all so_far =
-      let piece = slice_range text from (start_of (match_of m)) in
-      let color = painted (matched_text text (match_of m)) in
-      let rest = painted_from text (end_of (match_of m)) ms (i + 1) in
-      append_assoc (done ++ piece) color rest
-      ∙ append_assoc done piece (color ++ rest)
-      ∙ ap (λ zs. done ++ replaced text (λ m. painted (matched_text text m)) from zs) (sym (next_match (map match_of ms) i (match_of m) below_all here))
-      ∙ so_far
+  in_text : (from : ℕ) (ms : List Match) → All (IsInside text) ms → AreInOrder from ms → from ≤ length text →
+      AreSpansIn len (start + from) (flat_map (span_in start) ms ++ later)
+  in_text from [] inside order within = sooner len (start + from) (start + length text) later (omega (arith, within)) after
+  in_text from (m ∷ ms) inside order within =
+      let first : IsInside text m = All-head (IsInside text) m ms inside in
+      one from m (flat_map (span_in start) ms) order.0 first.span.ordered
+      (in_text (end_of m) ms (All-tail (IsInside text) m ms inside) order.1 first.span.end.0) (eqb (start_of m) (end_of m))
 
-  pub next_start : IsBefore text from (drop i (map match_of ms)) → from ≤ start_of (match_of m)
-  next_start before = (before_first text from (map match_of ms) i (match_of m) below_all here before).0
+-- the spans of the matches in all texts of a line
+pub in_line : (len from : ℕ) (found : List code.TextMatches) → AreInLine len from (map (λ f. f.run) (map matches_of found)) → All AreInText found →
+    AreSpansIn len from (flat_map spans_in (map matches_of found))
+in_line len from [] within inside = within
+in_line len from (f ∷ fs) within inside =
+    let first : AreInText f = All-head AreInText f fs inside in
+    sooner len from (f.run.start + 0) (flat_map spans_in (map matches_of (f ∷ fs))) (omega (arith, within.0))
+    (in_text len f.run.start f.run.text.now (flat_map spans_in (map matches_of fs))
+    (in_line len (f.run.start + length f.run.text.now) fs within.1 (All-tail AreInText f fs inside))
+    0 (map match_of f.matches.items) (All-map (IsInside f.run.text.now) match_of f.matches.items first.inside) first.order (omega arith))
 
-  pub next_end : All (λ m. IsInside text (match_of m)) ms → IsBefore text from (drop i (map match_of ms)) →
-      IsBefore text (end_of (match_of m)) (drop (i + 1) (map match_of ms))
-  next_end inside before = before_next text from (map match_of ms) i (match_of m) below_all here (All-map (IsInside text) match_of ms inside) before
+-- a line with spans in color
+module _ (p : LinePaint) (line all : List ℕ) where
+  -- What was added, and the line from an offset on with the spans that are left, are together what is wanted.
+  pub record Painting (from : ℕ) (left : List Span) (done : List ℕ) : Type 0 where
+    pub so_far : done ++ painted_spans p line from left ≡ all
+    pub order : AreSpansIn (length line) from left
 
--- No match is left.
-pub none_left : (text : List ℕ) (ms : List Match) (from i : ℕ) (done all : List ℕ) → length ms ≤ i → done ++ painted_from text from ms i ≡ all →
-    done ++ drop from text ≡ all
-none_left text ms from i done all over so_far =
-    ap (λ zs. done ++ replaced text (λ m. painted (matched_text text m)) from zs)
-    (sym (drop_all i (map match_of ms) (subst (λ n. n ≤ i) (sym (length-map ms match_of)) over)))
-    ∙ so_far
+  module _ (spans : List Span) (i : ℕ) (span : Span) (below : i < length spans) (is : span ≡ get_or spans i span) (from : ℕ) (done : List ℕ)
+      (painting : Painting from (drop i spans) done) where
+    first : drop i spans ≡ span ∷ drop (i + 1) spans
+    first = rw add-one (drop-cons spans i span below ∙ ap (λ (x : Span). x ∷ drop (suc i) spans) (sym is))
 
--- the texts of a line, with their matches in color
-module _ (line all : List ℕ) where
-  -- What was added, and the line from an offset on with the matches of these texts in color, are together what is wanted.
-  pub record Painting (from : ℕ) (left : List code.TextMatches) (done : List ℕ) : Type 0 where
-    pub so_far : done ++ painted_line line from (map matches_of left) ≡ all
-    pub order : AreInLine (length line) from (map (λ f. f.run) (map matches_of left))
+    order : AreSpansIn (length line) from (span ∷ drop (i + 1) spans)
+    order = subst (AreSpansIn (length line) from) first painting.order
 
-  ends : (from : ℕ) (runs : List Run) → AreInLine (length line) from runs → from ≤ length line
-  ends from [] within = within
-  ends from (run ∷ runs) within = omega (arith, within.0, ends (run.start + length run.text) runs within.1)
+    pub within : (span.start ≤ length line) × (span.end ≤ length line)
+    within =
+        let before : span.end ≤ length line = ends (length line) span.end (drop (i + 1) spans) order.2 in
+        (omega (arith, order.1, before), before)
 
-  module _ (found : List code.TextMatches) (i : ℕ) (f : code.TextMatches) (below : i < length found) (is : f ≡ get_or found i f) (from : ℕ) (done : List ℕ)
-      (painting : Painting from (drop i found) done) where
-    first : drop i found ≡ f ∷ drop (i + 1) found
-    first = rw add-one (drop-cons found i f below ∙ ap (λ (x : code.TextMatches). x ∷ drop (suc i) found) (sym is))
-
-    order : AreInLine (length line) from (map (λ f. f.run) (map matches_of (f ∷ drop (i + 1) found)))
-    order = subst (λ (left : List code.TextMatches). AreInLine (length line) from (map (λ f. f.run) (map matches_of left))) first painting.order
-
-    pub starts_after : from ≤ f.run.start
-    starts_after = order.0
-
-    pub ends_before : f.run.start + length f.run.text.now ≤ length line
-    ends_before = ends (f.run.start + length f.run.text.now) (map (λ f. f.run) (map matches_of (drop (i + 1) found))) order.1
-
-    pub next_painted : (after : List ℕ) → after ≡ (done ++ slice_range line from f.run.start) ++ painted_text (matches_of f) →
-        Painting (f.run.start + length f.run.text.now) (drop (i + 1) found) after
+    pub next_painted : (after : List ℕ) →
+        after ≡ ((done ++ begun p.rest) ++ slice_range line from span.start) ++ painted p.matched (slice_range line span.start span.end) →
+        Painting span.end (drop (i + 1) spans) after
     next_painted after is =
-        let piece = slice_range line from f.run.start in
-        let color = painted_text (matches_of f) in
-        let rest = painted_line line (f.run.start + length f.run.text.now) (map matches_of (drop (i + 1) found)) in
+        let start = begun p.rest in
+        let piece = slice_range line from span.start in
+        let color = painted p.matched (slice_range line span.start span.end) in
+        let rest = painted_spans p line span.end (drop (i + 1) spans) in
         record {
           so_far = ap (λ zs. zs ++ rest) is
-              ∙ append_assoc (done ++ piece) color rest
-              ∙ append_assoc done piece (color ++ rest)
-              ∙ ap (λ (left : List code.TextMatches). done ++ painted_line line from (map matches_of left)) (sym first)
+              ∙ append_assoc ((done ++ start) ++ piece) color rest
+              ∙ append_assoc (done ++ start) piece (color ++ rest)
+              ∙ append_assoc done start (piece ++ (color ++ rest))
+              ∙ ap (λ left. done ++ painted_spans p line from left) (sym first)
               ∙ painting.so_far;
-          order = order.1;
+          order = order.2;
         }
 
-  module _ (found : List code.TextMatches) (i : ℕ) (over : length found ≤ i) (from : ℕ) (done : List ℕ) (painting : Painting from (drop i found) done) where
-    nothing : drop i found ≡ []
-    nothing = drop_all i found over
+  module _ (spans : List Span) (i : ℕ) (over : length spans ≤ i) (from : ℕ) (done : List ℕ) (painting : Painting from (drop i spans) done) where
+    nothing : drop i spans ≡ []
+    nothing = drop_all i spans over
 
-    pub last_painted : done ++ drop from line ≡ all
-    last_painted = ap (λ (left : List code.TextMatches). done ++ painted_line line from (map matches_of left)) (sym nothing) ∙ painting.so_far
+    pub last_painted : done ++ painted_spans p line from [] ≡ all
+    last_painted = ap (λ left. done ++ painted_spans p line from left) (sym nothing) ∙ painting.so_far
 
     pub last_within : from ≤ length line
-    last_within = subst (λ (left : List code.TextMatches). AreInLine (length line) from (map (λ f. f.run) (map matches_of left))) nothing painting.order
+    last_within = subst (AreSpansIn (length line) from) nothing painting.order

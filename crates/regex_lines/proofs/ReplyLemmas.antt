@@ -8,14 +8,15 @@ use Rattle.regress.specs.declared.found.Match.{Match}
 use Rattle.regress.specs.declared.pattern.Regex.{Regex}
 use Rattle.regress_replace.specs.Expansion.{expansion}
 use Rattle.regex_lines.specs.InLine.{AreInLine}
+use Rattle.regex_lines.specs.Paint.{Paint}
 use Rattle.regex_lines.specs.Reply.{IsReplacedFrom, IsReply, IsReplyIn, Run, run_of, shown_match, texts_of}
 use Rattle.regex_lines.specs.declared.reply.Reply.{Reply}
 use Rattle.regex_options.specs.Plain.{Job}
 use Rattle.regex_lines.specs.declared.runs.Run as code
 
 -- what was shown of the first i matches
-abbrev pub shown_so_far : (paints : Bool) → (prefix text : List ℕ) → List Match → ℕ → List ℕ
-shown_so_far paints prefix text ms i = flat_map (shown_match paints prefix text) (map match_of (take i ms))
+abbrev pub shown_so_far : Paint → (prefix text : List ℕ) → List Match → ℕ → List ℕ
+shown_so_far p prefix text ms i = flat_map (shown_match p prefix text) (map match_of (take i ms))
 
 pub both : {X E : Type 0} (P Q : X → Type 0) (result : Result X E) → IfOk result P → IfOk result Q → IfOk result (λ x. P x × Q x)
 both P Q (Ok x) p q = (p, q)

@@ -7,9 +7,9 @@ use Rattle.std.specs.declared.alloc.Global.{Global}
 use Rattle.std.proofs.lemmas.List.{drop-append-le, drop-drop, length-map, take_all}
 use Rattle.regex_options.specs.Plain.{Job}
 use Rattle.regress.specs.declared.pattern.Regex.{Regex}
-use Rattle.regex_lines.specs.Searched.{AreNear, IsFound, IsNear, IsNearStep, IsSearchedLine, Line, Named, Progress, at_start, context_of, is_apart, is_enough, last_of, lines_after, lines_before, separator}
+use Rattle.regex_lines.specs.Searched.{AreNear, IsFound, IsNear, IsNearStep, IsSearchedLine, Line, Named, Progress, at_start, colors_of, context_of, is_apart, is_enough, last_of, lines_after, lines_before, separator}
 use Rattle.regex_lines.proofs.FoldLemmas.{one_further}
-use Rattle.regex_lines.specs.Window.{IsCounted, IsNextLine, IsOther, IsShown, Window, first_window, separator_of}
+use Rattle.regex_lines.specs.Window.{IsCounted, IsInFront, IsNextLine, IsOther, IsShown, Window, first_window, separator_of}
 
 -- the last lines of those after the first ones
 last_after : (n k : ℕ) (lines : List (List ℕ)) → k ≤ length lines - n → last_of n (drop k lines) ≡ last_of n lines
@@ -75,7 +75,7 @@ module _ (r : Regex) (job : Job) (place : Named) where
     pub short : length w.hidden ≤ lines_before (context_of job)
     short = omega (arith, ap length is.hidden, last_short (lines_before (context_of job)) p.hidden)
 
-    apart_same : cond (is_apart job place p) (separator (context_of job)) [] ≡ separator_of job place w
+    apart_same : cond (is_apart job place p) (separator (colors_of job) (context_of job)) [] ≡ separator_of job place w
     apart_same = by _ _ _ _ _ _ is.selected (sym is.left_out)
       where
         by : (m n : ℕ) (follows left out : Bool) (bytes : List ℕ) → m ≡ n → left ≡ out →
@@ -184,6 +184,17 @@ module _ (r : Regex) (job : Job) (place : Named) where
 
       pub next_line : IsNextLine r job place w line new added → Further p line new added
       next_line next = either next.selected next.bytes next.found next.shown
+
+-- Nothing is written in front of a selected line where no separator is, and no line is in the window.
+pub nothing_in_front : (r : Regex) (job : Job) (place : Named) (w : Window) (apart : Bool) →
+    separator_of job place w ≡ cond apart (separator (colors_of job) (context_of job)) [] → apart ≡ false → w.hidden ≡ [] → IsInFront r job place w []
+nothing_in_front r job place w apart is none_apart none =
+    let n = w.number + 1 - 0 in
+    let same : n ≡ n + 0 = omega arith in (
+      [],
+      subst (λ lines. AreNear r job place (w.number + 1 - length lines) lines []) (sym none) (ap (λ k. (k, [])) same),
+      sym (ap (λ bytes. bytes ++ []) (is ∙ ap (λ apart. cond apart (separator (colors_of job) (context_of job)) []) none_apart)),
+    )
 
 -- what is written for the lines in the window, one after another
 module _ (r : Regex) (job : Job) (place : Named) {B : Type 0} (f : B → List ℕ) (lines : List B) (base : ℕ) (old : List ℕ) where

@@ -7,7 +7,8 @@ use Rattle.regress.specs.Compiled.{groups_of, match_of}
 use Rattle.regress.specs.declared.pattern.Regex.{Regex}
 use Rattle.regex_options.specs.declared.task.Shown.{Shown}
 use Rattle.regex_options.specs.declared.task.Shown.TheVariants.{Lines, Matches, Json, Count, Names, Nothing}
-use Rattle.regex_lines.specs.Reply.{matches_json, painted_line, ended, matches_shown, Run, TextMatches}
+use Rattle.regex_lines.specs.Paint.{LinePaint, is_colored, painted_spans}
+use Rattle.regex_lines.specs.Reply.{matches_json, ended, matches_shown, spans_in, Run, TextMatches}
 use Rattle.regex_lines.specs.declared.runs.TextMatches as code
 
 -- The texts are in order in the part of a line of this length from an offset on.
@@ -29,19 +30,19 @@ abbrev pub HasMatch : List TextMatches → Type 0
 HasMatch found = Any (λ f. 0 < length f.matches) found
 
 -- All matches of a selected line are needed to show it.
-abbrev pub needs_matches : Shown → (paints : Bool) → Bool
-needs_matches Lines paints = paints
-needs_matches Matches paints = true
-needs_matches Json paints = true
-needs_matches Count paints = false
-needs_matches Names paints = false
-needs_matches Nothing paints = false
+abbrev pub needs_matches : Shown → LinePaint → Bool
+needs_matches Lines p = is_colored p.matched
+needs_matches Matches p = true
+needs_matches Json p = true
+needs_matches Count p = false
+needs_matches Names p = false
+needs_matches Nothing p = false
 
 -- what is written for a selected line for which all its matches are needed
-abbrev pub shown_by : Regex → (line : List ℕ) → Shown → (paints : Bool) → (prefix : List ℕ) → List TextMatches → List ℕ
-shown_by r line Lines paints prefix found = prefix ++ ended (painted_line line 0 found)
-shown_by r line Matches paints prefix found = flat_map (matches_shown paints prefix) found
-shown_by r line Json paints prefix found = flat_map (matches_json (groups_of r) prefix) found
-shown_by r line Count paints prefix found = []
-shown_by r line Names paints prefix found = []
-shown_by r line Nothing paints prefix found = []
+abbrev pub shown_by : Regex → (line : List ℕ) → Shown → LinePaint → (prefix : List ℕ) → List TextMatches → List ℕ
+shown_by r line Lines p prefix found = prefix ++ ended (painted_spans p line 0 (flat_map spans_in found))
+shown_by r line Matches p prefix found = flat_map (matches_shown p.matched prefix) found
+shown_by r line Json p prefix found = flat_map (matches_json (groups_of r) prefix) found
+shown_by r line Count p prefix found = []
+shown_by r line Names p prefix found = []
+shown_by r line Nothing p prefix found = []

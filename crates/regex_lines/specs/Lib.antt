@@ -2,6 +2,7 @@ pub mod Ending
 pub mod InLine
 pub mod Left
 pub mod Near
+pub mod Paint
 pub mod Prefix
 pub mod Reading
 pub mod Reply

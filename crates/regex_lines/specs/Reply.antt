@@ -1,11 +1,10 @@
--- What is written for a line: the texts in which a pattern is searched, matches in color, and matches as JSON (RFC 8259).
+-- What is written for a line: the texts in which a pattern is searched, lines, matches, and matches as JSON (RFC 8259).
 use Rattle.std.specs.Prelude.{◌≡◌, ℕ, zero, suc, ◌+◌, Bool, not, List, [], ◌∷◌, ◌++◌, All, drop, if◌then◌else◌, length, map, take, ◌==◌, codes, slice_range, flat_map, Option, Some, None, ◌↔◌, true, false, IsTrue}
 use Rattle.std.specs.Str.{is_utf8}
 use Rattle.std.specs.Str.Lossy.{utf8_invalid_len, utf8_valid_len}
 use Rattle.std.specs.Fmt.{decimal}
 use Rattle.std.specs.List.{Any}
 use Rattle.regex_options.specs.Plain.{Job, matching, replacing}
-use Rattle.regex_options.specs.declared.task.Selection.{Selection}
 use Rattle.regex_options.specs.declared.task.Shown.TheVariants.{Lines, Matches, Json, Count, Names, Nothing}
 use Rattle.regex_options.specs.declared.task.Shown.{Shown}
 use Rattle.regress.specs.Compiled.{outcomes_of, groups_of, match_of}
@@ -18,11 +17,12 @@ use Rattle.regress_found.specs.Found.{start_of, state_of}
 use Rattle.regress_found.specs.Repeated.{AreAllMatches}
 use Rattle.regress_found.specs.declared.found.Match.{Match}
 use Rattle.regress_replace.specs.Expansion.{matched_text, expansion}
-use Rattle.regress_replace.specs.Replaced.{replaced}
 use Rattle.regress_tree.specs.Steps.{CaptureSpan}
 use Rattle.regress_tree.specs.WellFormed.{Capture}
+use Rattle.regex_lines.specs.Paint.{LinePaint, Paint, is_colored, line_paint_in, painted, painted_rest, painted_spans, span_in}
 use Rattle.regex_lines.specs.declared.runs.Run as code
 use Rattle.regex_lines.specs.declared.runs.TextMatches as code_matches
+use Rattle.regex_lines.specs.declared.spans.Span.{Span}
 
 -- a text in a line, and the byte offset at which it starts
 pub record Run : Type 0 where
@@ -76,23 +76,9 @@ pub record AreSearched (r : Regex) (texts : List Run) (found : List TextMatches)
   pub texts_are : map (λ f. f.run) found ≡ texts
   pub all : All (λ f. AreAllMatches f.run.text (outcomes_of r f.run.text) f.matches) found
 
--- a text between the codes of a terminal for bold red and for its defaults (ECMA-48, SGR), unless it is empty
-abbrev pub painted : (text : List ℕ) → List ℕ
-painted text = if length text == 0 then [] else (27 ∷ codes "[1;31m") ++ (text ++ (27 ∷ codes "[0m"))
-
--- the text, with `paints` in color
-abbrev pub painted_if : (paints : Bool) → (text : List ℕ) → List ℕ
-painted_if paints text = if paints then painted text else text
-
--- the text with each match that is not empty in color
-abbrev pub painted_text : TextMatches → List ℕ
-painted_text f = replaced f.run.text (λ m. painted (matched_text f.run.text m)) 0 f.matches
-
--- the line from an offset on, with the matches in its texts in color
-abbrev pub painted_line : (line : List ℕ) → (from : ℕ) → List TextMatches → List ℕ
-painted_line line from [] = drop from line
-painted_line line from (f ∷ fs) =
-    slice_range line from f.run.start ++ (painted_text f ++ painted_line line (f.run.start + length f.run.text) fs)
+-- the spans in the line of the matches in a text that are not empty
+abbrev pub spans_in : TextMatches → List Span
+spans_in f = flat_map (span_in f.run.start) f.matches
 
 -- what is in front of the matches of a line: the name of the input, and the number of the line
 abbrev pub json_prefix : (name : List ℕ) → (number : ℕ) → List ℕ
@@ -138,14 +124,13 @@ matches_json groups prefix f = flat_map (λ m. prefix ++ match_json f.run groups
 abbrev pub ended : List ℕ → List ℕ
 ended bytes = bytes ++ codes "\n"
 
--- a match that is not empty on a line of its own, with `paints` in color
-abbrev pub shown_match : (paints : Bool) → (prefix text : List ℕ) → Match → List ℕ
-shown_match paints prefix text m =
-    if length (matched_text text m) == 0 then [] else prefix ++ ended (painted_if paints (matched_text text m))
+-- a match that is not empty on a line of its own
+abbrev pub shown_match : Paint → (prefix text : List ℕ) → Match → List ℕ
+shown_match p prefix text m = if length (matched_text text m) == 0 then [] else prefix ++ ended (painted p (matched_text text m))
 
 -- a line for each match in a text that is not empty
-abbrev pub matches_shown : (paints : Bool) → (prefix : List ℕ) → TextMatches → List ℕ
-matches_shown paints prefix f = flat_map (shown_match paints prefix f.run.text) f.matches
+abbrev pub matches_shown : Paint → (prefix : List ℕ) → TextMatches → List ℕ
+matches_shown p prefix f = flat_map (shown_match p prefix f.run.text) f.matches
 
 -- The pattern matches somewhere in one of the texts.
 abbrev pub MatchesIn : Regex → List Run → Type 0
@@ -160,24 +145,24 @@ module _ (r : Regex) (line : List ℕ) (texts : List Run) where
   abbrev pub ShowsMatches : (List TextMatches → List ℕ) → (bytes : List ℕ) → Type 0
   ShowsMatches written bytes = (found : List TextMatches) × AreSearched r texts found × (bytes ≡ written found)
 
-  -- the line with what is in front, with `paints` its matches in color
-  abbrev pub ShowsLine : (paints : Bool) → (prefix bytes : List ℕ) → Type 0
-  ShowsLine true prefix bytes = ShowsMatches (λ found. prefix ++ ended (painted_line line 0 found)) bytes
-  ShowsLine false prefix bytes = bytes ≡ prefix ++ ended line
+  -- the line with what is in front: its matches are looked for if they are in color
+  abbrev pub ShowsLine : (matches : Bool) → LinePaint → (prefix bytes : List ℕ) → Type 0
+  ShowsLine true p prefix bytes = ShowsMatches (λ found. prefix ++ ended (painted_spans p line 0 (flat_map spans_in found))) bytes
+  ShowsLine false p prefix bytes = bytes ≡ prefix ++ ended (painted_rest p.rest line)
 
   -- what is written for a selected line with these texts, after what is in front
-  abbrev pub Shows : Shown → (paints : Bool) → (prefix bytes : List ℕ) → Type 0
-  Shows Lines paints prefix bytes = ShowsLine paints prefix bytes
-  Shows Matches paints prefix bytes = ShowsMatches (flat_map (matches_shown paints prefix)) bytes
-  Shows Json paints prefix bytes = ShowsMatches (flat_map (matches_json (groups_of r) prefix)) bytes
-  Shows Count paints prefix bytes = bytes ≡ []
-  Shows Names paints prefix bytes = bytes ≡ []
-  Shows Nothing paints prefix bytes = bytes ≡ []
+  abbrev pub Shows : Shown → LinePaint → (prefix bytes : List ℕ) → Type 0
+  Shows Lines p prefix bytes = ShowsLine (is_colored p.matched) p prefix bytes
+  Shows Matches p prefix bytes = ShowsMatches (flat_map (matches_shown p.matched prefix)) bytes
+  Shows Json p prefix bytes = ShowsMatches (flat_map (matches_json (groups_of r) prefix)) bytes
+  Shows Count p prefix bytes = bytes ≡ []
+  Shows Names p prefix bytes = bytes ≡ []
+  Shows Nothing p prefix bytes = bytes ≡ []
 
   -- nothing is written for a line that is not selected
-  abbrev pub ShowsIf : (selected : Bool) → Selection → (prefix bytes : List ℕ) → Type 0
-  ShowsIf true s prefix bytes = Shows s.shown s.paints prefix bytes
-  ShowsIf false s prefix bytes = bytes ≡ []
+  abbrev pub ShowsIf : (selected : Bool) → Shown → LinePaint → (prefix bytes : List ℕ) → Type 0
+  ShowsIf true shown p prefix bytes = Shows shown p prefix bytes
+  ShowsIf false shown p prefix bytes = bytes ≡ []
 
 -- a line feed, if there is to be one
 abbrev pub feed_if : Bool → List ℕ
@@ -197,8 +182,8 @@ module _ (r : Regex) (line : List ℕ) where
 
   -- Whether the line is selected by these texts, and what is written for it.
   abbrev pub IsReplyIn : (texts : List Run) → (ended : Bool) → Job → (prefix : List ℕ) → (selected : Bool) → (bytes : List ℕ) → Type 0
-  IsReplyIn texts ended (matching s) prefix selected bytes =
-      IsSelected r texts s.invert selected × ShowsIf r line texts selected s prefix bytes
+  IsReplyIn texts ended (matching s colors) prefix selected bytes =
+      IsSelected r texts s.invert selected × ShowsIf r line texts selected s.shown (line_paint_in colors false s.invert) prefix bytes
   IsReplyIn texts ended (replacing template) prefix selected bytes = (selected ≡ true) × ShowsReplaced texts ended template bytes
 
   -- the same for the texts of the line

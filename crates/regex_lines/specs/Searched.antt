@@ -3,6 +3,7 @@ use Rattle.std.specs.Prelude.{ℕ, Bool, List, ◌≡◌, ◌-◌, true, false, 
 use Rattle.std.specs.List.{FoldsTo}
 use Rattle.std.specs.Fmt.{decimal}
 use Rattle.std.specs.Io.KnownBytes.{Appends}
+use Rattle.regex_options.specs.Colors.{Colors}
 use Rattle.regex_options.specs.Plain.{Job, matching, replacing}
 use Rattle.regex_options.specs.declared.task.Context.{Context}
 use Rattle.regex_options.specs.declared.task.FileNames.TheVariants.{IfSeveral, Always, Never}
@@ -12,8 +13,10 @@ use Rattle.regex_options.specs.declared.task.Shown.{Shown}
 use Rattle.regress.specs.declared.pattern.Regex.{Regex}
 use Rattle.regress_arguments.specs.Output.{Took}
 use Rattle.regex_lines.specs.Near.{ShowsNear}
+use Rattle.regex_lines.specs.Paint.{paint_in, painted}
 use Rattle.regex_lines.specs.Reply.{IsReply, ended, json_prefix}
 use Rattle.regex_lines.specs.Unread.{IsAdded, Unread}
+use Rattle.regex_lines.specs.declared.paint.Part.TheVariants.{Name, Number, Separator}
 use Rattle.regex_lines.specs.declared.place.Place.{Place}
 
 -- the name of an input, whether it is shown in front of each line, whether a zero byte is after it, whether the input is one
@@ -103,20 +106,25 @@ reaches (Some limit) n = nat_le limit n
 
 -- whether lines are numbered
 abbrev pub has_numbers : Job → Bool
-has_numbers (matching s) = s.numbers
+has_numbers (matching s colors) = s.numbers
 has_numbers (replacing template) = false
 
+-- the colors, if there are any
+abbrev pub colors_of : Job → Option Colors
+colors_of (matching s colors) = colors
+colors_of (replacing template) = None
+
 -- the name of an input and what is after it: this, or a zero byte in place of it
-abbrev pub name_with : Named → (after : List ℕ) → List ℕ
-name_with place after = place.name ++ (if place.null then 0 ∷ [] else after)
+abbrev pub name_with : Option Colors → Named → (after : List ℕ) → List ℕ
+name_with colors place after = painted (paint_in colors Name) place.name ++ (if place.null then 0 ∷ [] else after)
 
 -- the name of the input and what is after it, if it is shown in front
-abbrev pub name_of : (mark : List ℕ) → Named → List ℕ
-name_of mark place = if place.in_front then name_with place mark else []
+abbrev pub name_of : Option Colors → Named → (mark : List ℕ) → List ℕ
+name_of colors place mark = if place.in_front then name_with colors place mark else []
 
 -- what is after the name of an input and the number of a line, which may be near a selected one
-abbrev pub mark_of : (near : Bool) → List ℕ
-mark_of near = if near then codes "-" else codes ":"
+abbrev pub mark_of : Option Colors → (near : Bool) → List ℕ
+mark_of colors near = painted (paint_in colors Separator) (if near then codes "-" else codes ":")
 
 -- what is shown does not depend on lines after the first selected one
 abbrev pub needs_one : Shown → Bool
@@ -129,7 +137,7 @@ needs_one Nothing = true
 
 -- this many lines of an input are enough
 abbrev pub is_enough : Job → (selected : ℕ) → Bool
-is_enough (matching s) selected = reaches s.max_count selected || (needs_one s.shown && nat_lt 0 selected)
+is_enough (matching s colors) selected = reaches s.max_count selected || (needs_one s.shown && nat_lt 0 selected)
 is_enough (replacing template) selected = false
 
 -- whether matches are shown as JSON
@@ -142,34 +150,41 @@ is_json Names = false
 is_json Nothing = false
 
 abbrev pub shows_json : Job → Bool
-shows_json (matching s) = is_json s.shown
+shows_json (matching s colors) = is_json s.shown
 shows_json (replacing template) = false
 
+-- the number of a line and what is after it
+abbrev pub number_with : Option Colors → (number : ℕ) → (mark : List ℕ) → List ℕ
+number_with colors number mark = painted (paint_in colors Number) (decimal number) ++ mark
+
 -- what is in front of a line as text: the name of the input and the number of the line, if they are shown
-abbrev pub text_prefix : (mark : List ℕ) → Job → Named → (number : ℕ) → List ℕ
-text_prefix mark job place number = name_of mark place ++ (if has_numbers job then decimal number ++ mark else [])
+abbrev pub text_prefix : (near : Bool) → Job → Named → (number : ℕ) → List ℕ
+text_prefix near job place number =
+    let colors = colors_of job in
+    let mark = mark_of colors near in
+    name_of colors place mark ++ (if has_numbers job then number_with colors number mark else [])
 
 -- what is in front of what is shown of the line with this number, which may be near a selected one
 abbrev pub prefix_of : (near : Bool) → Job → Named → (number : ℕ) → List ℕ
-prefix_of near job place number = if shows_json job then json_prefix place.name number else text_prefix (mark_of near) job place number
+prefix_of near job place number = if shows_json job then json_prefix place.name number else text_prefix near job place number
 
 -- what is written at the end of an input for the number of selected lines
-abbrev pub shown_at_end : Shown → Named → (selected : ℕ) → List ℕ
-shown_at_end Lines place selected = []
-shown_at_end Matches place selected = []
-shown_at_end Json place selected = []
-shown_at_end Count place selected = name_of (codes ":") place ++ ended (decimal selected)
-shown_at_end Names place selected = if nat_lt 0 selected then name_with place (codes "\n") else []
-shown_at_end Nothing place selected = []
+abbrev pub shown_at_end : Shown → Option Colors → Named → (selected : ℕ) → List ℕ
+shown_at_end Lines colors place selected = []
+shown_at_end Matches colors place selected = []
+shown_at_end Json colors place selected = []
+shown_at_end Count colors place selected = name_of colors place (mark_of colors false) ++ ended (decimal selected)
+shown_at_end Names colors place selected = if nat_lt 0 selected then name_with colors place (codes "\n") else []
+shown_at_end Nothing colors place selected = []
 
 -- the same, where only lines that match are counted
 abbrev pub written_at_end : Job → Named → (selected : ℕ) → List ℕ
-written_at_end (matching s) place selected = shown_at_end s.shown place selected
+written_at_end (matching s colors) place selected = shown_at_end s.shown colors place selected
 written_at_end (replacing template) place selected = []
 
 -- how many lines around selected ones are shown
 abbrev pub context_of : Job → Option Context
-context_of (matching s) = s.context
+context_of (matching s colors) = s.context
 context_of (replacing template) = None
 
 abbrev pub lines_before : Option Context → ℕ
@@ -185,9 +200,9 @@ abbrev pub last_of : (count : ℕ) → List (List ℕ) → List (List ℕ)
 last_of count lines = drop (length lines - count) lines
 
 -- the line between lines that are not adjacent, if lines around selected ones are shown
-abbrev pub separator : Option Context → List ℕ
-separator None = []
-separator (Some context) = codes "--\n"
+abbrev pub separator : Option Colors → Option Context → List ℕ
+separator colors None = []
+separator colors (Some context) = ended (painted (paint_in colors Separator) (codes "--"))
 
 -- Lines are left out between those that are shown so far, also of earlier inputs, and those before the next selected one.
 abbrev pub is_apart : Job → Named → Progress → Bool
@@ -215,7 +230,7 @@ module _ (r : Regex) (job : Job) (place : Named) where
     pub before : List ℕ
     pub near : let lines = last_of (lines_before (context_of job)) p.hidden in AreNear (p.lines + 1 - length lines) lines before
     pub apart : List ℕ
-    pub apart_is : apart ≡ (if is_apart job place p then separator (context_of job) else [])
+    pub apart_is : apart ≡ (if is_apart job place p then separator (colors_of job) (context_of job) else [])
     pub next : q ≡ record {
       lines = p.lines + 1;
       selected = p.selected + 1;
@@ -295,12 +310,12 @@ are_in_front Never several = false
 
 -- the same, where only lines that match have something in front
 abbrev pub shows_names : Job → (several : Bool) → Bool
-shows_names (matching s) several = are_in_front s.file_names several
+shows_names (matching s colors) several = are_in_front s.file_names several
 shows_names (replacing template) several = false
 
 -- whether zero bytes are after names
 abbrev pub has_nulls : Job → Bool
-has_nulls (matching s) = s.null
+has_nulls (matching s colors) = s.null
 has_nulls (replacing template) = false
 
 -- how an input is shown
@@ -340,7 +355,7 @@ is_nothing Nothing = true
 
 -- No line is to be selected; or one is, and nothing is shown.
 abbrev pub has_ended : Job → (any : Bool) → Bool
-has_ended (matching s) any = reaches s.max_count 0 || (any && is_nothing s.shown)
+has_ended (matching s colors) any = reaches s.max_count 0 || (any && is_nothing s.shown)
 has_ended (replacing template) any = false
 
 module _ (r : Regex) (job : Job) where

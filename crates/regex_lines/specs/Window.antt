@@ -2,7 +2,7 @@
 use Rattle.std.specs.Prelude.{◌≡◌, ◌⊎◌, ℕ, ◌+◌, ◌-◌, ◌<◌, ◌≤◌, Bool, true, false, List, [], ◌∷◌, ◌++◌, length, map, nat_lt, if◌then◌else◌, ◌==◌}
 use Rattle.regex_options.specs.Plain.{Job}
 use Rattle.regress.specs.declared.pattern.Regex.{Regex}
-use Rattle.regex_lines.specs.Searched.{AreNear, IsFound, IsNear, Line, Named, context_of, is_enough, last_of, lines_after, lines_before, separator}
+use Rattle.regex_lines.specs.Searched.{AreNear, IsFound, IsNear, Line, Named, colors_of, context_of, is_enough, last_of, lines_after, lines_before, separator}
 use Rattle.regex_lines.specs.declared.window.Window as code
 
 -- The numbers of lines and of selected lines, how many lines are shown after the last selected one, the last lines since
@@ -55,7 +55,7 @@ is_left_out place w = if w.selected == 0 then place.follows else w.left_out
 
 -- the separator, if lines are left out
 abbrev pub separator_of : Job → Named → Window → List ℕ
-separator_of job place w = if is_left_out place w then separator (context_of job) else []
+separator_of job place w = if is_left_out place w then separator (colors_of job) (context_of job) else []
 
 module _ (r : Regex) (job : Job) (place : Named) where
   -- what is written in front of a selected line: a separator, and the lines in the window

@@ -118,7 +118,7 @@ fn has_nulls(task: Task<'_>) -> bool
     ensures { result ≡ has_nulls (job task.entry) }
 {
     match task {
-        Task::Match(selection) => selection.null,
+        Task::Match(selection, _) => selection.null,
         Task::Replace(_) => false,
     }
 }
@@ -128,7 +128,7 @@ fn shows_names(task: Task<'_>, several: bool) -> bool
     ensures { result ≡ shows_names (job task.entry) several }
 {
     match task {
-        Task::Match(selection) => match selection.file_names {
+        Task::Match(selection, _) => match selection.file_names {
             FileNames::IfSeveral => several,
             FileNames::Always => true,
             FileNames::Never => false,
@@ -142,7 +142,7 @@ fn has_ended(task: Task<'_>, any: bool) -> bool
     ensures { result ≡ has_ended (job task.entry) any }
 {
     match task {
-        Task::Match(selection) => {
+        Task::Match(selection, _) => {
             reaches(selection.max_count, 0) || (any && matches!(selection.shown, Shown::Nothing))
         }
         Task::Replace(_) => false,

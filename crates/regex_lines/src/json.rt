@@ -17,7 +17,7 @@ use std::ops::Range;
 pub(crate) fn all_json(
     alloc: Global,
     regex: &Regex,
-    prefix: &str,
+    prefix: &[u8],
     found: &[TextMatches<'_>],
 ) -> Result<Vec<u8>, AllocError>
     requires offsets { All (λ f. HasOffsets (run_of f.run)) found.now }
@@ -35,7 +35,7 @@ pub(crate) fn all_json(
 fn add_json(
     alloc: Global,
     regex: &Regex,
-    prefix: &str,
+    prefix: &[u8],
     text: &TextMatches<'_>,
     to: &mut Vec<u8>,
 ) -> Result<(), AllocError>
@@ -44,7 +44,7 @@ fn add_json(
     ensures { OnOk result (to.new.items ≡ to.old.items ++ matches_json (groups_of regex.now) prefix.now (matches_of text.now)) }
 {
     for found in &text.matches {
-        to.extend_from_slice(prefix.as_bytes())?;
+        to.extend_from_slice(prefix)?;
         to.extend_from_slice(match_json(alloc, regex, text.run, found)?.as_bytes())?;
     }
     Ok(())

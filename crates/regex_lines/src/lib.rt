@@ -4,6 +4,7 @@
 mod failure;
 mod inputs;
 mod json;
+mod paint;
 mod painting;
 mod place;
 mod prefix;
@@ -13,6 +14,7 @@ mod reply;
 mod runs;
 mod searcher;
 mod searching;
+mod spans;
 mod unread;
 mod walk;
 mod window;

@@ -1,12 +1,16 @@
 //! What is in front of what is shown of a line.
-ghost use Rattle.std.specs.Prelude.{◌≡◌, IfOk, string_bytes};
+ghost use Rattle.std.specs.Prelude.{◌≡◌, ◌++◌, codes, IfOk, OnOk, option_map, string_bytes};
+ghost use Rattle.regex_options.specs.Colors.{plain_colors};
 ghost use Rattle.regex_options.specs.Plain.{job};
+ghost use Rattle.regex_lines.specs.Paint.{paint_in, painted};
+ghost use Rattle.regex_lines.specs.declared.paint.Part.TheVariants.{Name};
 ghost use Rattle.regex_lines.specs.Reply.{json_prefix};
-ghost use Rattle.regex_lines.specs.Searched.{named, has_numbers, mark_of, name_of, name_with, shows_json, text_prefix};
+ghost use Rattle.regex_lines.specs.Searched.{colors_of, named, has_numbers, mark_of, name_of, name_with, number_with, shows_json, text_prefix};
 ghost use Rattle.regex_lines.specs.Prefix.{text_of};
 
+use crate::paint::{Part, add_painted, paint_in};
 use crate::place::Place;
-use regex_options::{Shown, Task};
+use regex_options::{Colors, Shown, Task};
 use regress_display::JsonText;
 use std::alloc::{AllocError, Global};
 
@@ -21,11 +25,12 @@ pub(crate) struct Prefix<'a> {
 }
 
 /// Returns the text of a prefix.
-pub(crate) fn prefix_text(alloc: Global, prefix: Prefix<'_>) -> Result<String, AllocError>
-    ensures { IfOk result (λ text. string_bytes text ≡ text_of prefix.entry) }
+pub(crate) fn prefix_text(alloc: Global, prefix: Prefix<'_>) -> Result<Vec<u8>, AllocError>
+    ensures { IfOk result (λ text. text.items ≡ text_of prefix.entry) }
 {
     if shows_json(prefix.task) {
-        json_prefix(alloc, prefix.place.name(), prefix.number)
+        let text = json_prefix(alloc, prefix.place.name(), prefix.number)?;
+        Ok(text.into_bytes())
     } else {
         text_prefix(alloc, prefix)
     }
@@ -35,7 +40,7 @@ fn shows_json(task: Task<'_>) -> bool
     ensures { result ≡ shows_json (job task.entry) }
 {
     match task {
-        Task::Match(selection) => matches!(selection.shown, Shown::Json),
+        Task::Match(selection, _) => matches!(selection.shown, Shown::Json),
         Task::Replace(_) => false,
     }
 }
@@ -49,54 +54,101 @@ fn json_prefix(alloc: Global, name: &str, number: u64) -> Result<String, AllocEr
 }
 
 /// Returns the name of an input and the number of a line, if they are shown in front.
-fn text_prefix(alloc: Global, prefix: Prefix<'_>) -> Result<String, AllocError>
-    ensures { IfOk result (λ text. string_bytes text ≡ text_prefix (mark_of prefix.entry.near) (job prefix.entry.task) (named prefix.entry.place) prefix.entry.number) }
+fn text_prefix(alloc: Global, prefix: Prefix<'_>) -> Result<Vec<u8>, AllocError>
+    ensures { IfOk result (λ text. text.items ≡ text_prefix prefix.entry.near (job prefix.entry.task) (named prefix.entry.place) prefix.entry.number) }
 {
-    let mark = mark_of(prefix.near);
-    let mut text = name_in_front(alloc, prefix.place, mark)?;
+    let colors = colors_of(prefix.task);
+    let mut text = Vec::new(alloc);
+    add_name_in_front(colors, prefix.place, prefix.near, &mut text)?;
     if has_numbers(prefix.task) {
-        let number = prefix.number;
-        text.push_str(&format!(in alloc; "{number}{mark}")?)?;
+        add_number(alloc, colors, prefix, &mut text)?;
     }
     Ok(text)
 }
 
-/// Returns what is after the name of an input and the number of a line.
-fn mark_of(near: bool) -> &'static str
-    ensures { result.now ≡ mark_of near }
+/// Returns the colors of what a task shows, if there are any.
+pub(crate) fn colors_of(task: Task<'_>) -> Option<&Colors<'_>>
+    ensures { option_map (λ colors. plain_colors colors.now) result ≡ colors_of (job task.entry) }
 {
-    if near { "-" } else { ":" }
+    match task {
+        Task::Match(_, colors) => colors,
+        Task::Replace(_) => None,
+    }
 }
 
-/// Returns the name of an input and `mark` after it, if it is shown in front.
-pub(crate) fn name_in_front(
-    alloc: Global,
+/// Adds the name of an input and what is after it, if it is shown in front.
+pub(crate) fn add_name_in_front(
+    colors: Option<&Colors<'_>>,
     place: Place<'_>,
-    mark: &str,
-) -> Result<String, AllocError>
-    ensures { IfOk result (λ text. string_bytes text ≡ name_of mark.now (named place.entry)) }
+    near: bool,
+    to: &mut Vec<u8>,
+) -> Result<(), AllocError>
+    ensures { let colors = option_map (λ colors. plain_colors colors.now) colors.entry in
+        OnOk result (to.new.items ≡ to.old.items ++ name_of colors (named place.entry) (mark_of colors near)) }
 {
-    if place.in_front {
-        name_with(alloc, place, mark)
+    if !place.in_front {
+        return Ok(());
+    }
+    add_name(colors, place, to)?;
+    if place.null {
+        Ok(to.push(0)?)
     } else {
-        Ok(String::new(alloc))
+        add_mark(colors, near, to)
     }
 }
 
-/// Returns the name of an input and what is after it: `after`, or a zero byte in place of it.
-pub(crate) fn name_with(alloc: Global, place: Place<'_>, after: &str) -> Result<String, AllocError>
-    ensures { IfOk result (λ text. string_bytes text ≡ name_with (named place.entry) after.now) }
+/// Adds the name of an input and a line feed, or a zero byte in place of it.
+pub(crate) fn add_name_line(
+    colors: Option<&Colors<'_>>,
+    place: Place<'_>,
+    to: &mut Vec<u8>,
+) -> Result<(), AllocError>
+    ensures { OnOk result (to.new.items ≡ to.old.items ++ name_with (option_map (λ colors. plain_colors colors.now) colors.entry) (named place.entry) (codes "\n")) }
 {
-    let mut text = String::from_str(alloc, place.name())?;
-    text.push_str(if place.null { "\0" } else { after })?;
-    Ok(text)
+    add_name(colors, place, to)?;
+    to.push(if place.null { 0 } else { b'\n' })?;
+    Ok(())
+}
+
+/// Adds the name of an input.
+fn add_name(
+    colors: Option<&Colors<'_>>,
+    place: Place<'_>,
+    to: &mut Vec<u8>,
+) -> Result<(), AllocError>
+    ensures { OnOk result (to.new.items ≡ to.old.items ++ painted (paint_in (option_map (λ colors. plain_colors colors.now) colors.entry) Name) (named place.entry).name) }
+{
+    add_painted(paint_in(colors, Part::Name), place.name().as_bytes(), to)
+}
+
+/// Adds the number of a line and what is after it.
+fn add_number(
+    alloc: Global,
+    colors: Option<&Colors<'_>>,
+    prefix: Prefix<'_>,
+    to: &mut Vec<u8>,
+) -> Result<(), AllocError>
+    ensures { let colors = option_map (λ colors. plain_colors colors.now) colors.entry in
+        OnOk result (to.new.items ≡ to.old.items ++ number_with colors prefix.entry.number (mark_of colors prefix.entry.near)) }
+{
+    let number = format!(in alloc; "{}", prefix.number)?;
+    add_painted(paint_in(colors, Part::Number), number.as_bytes(), to)?;
+    add_mark(colors, prefix.near, to)
+}
+
+/// Adds what is after the name of an input and the number of a line.
+fn add_mark(colors: Option<&Colors<'_>>, near: bool, to: &mut Vec<u8>) -> Result<(), AllocError>
+    ensures { OnOk result (to.new.items ≡ to.old.items ++ mark_of (option_map (λ colors. plain_colors colors.now) colors.entry) near) }
+{
+    let mark = if near { "-" } else { ":" };
+    add_painted(paint_in(colors, Part::Separator), mark.as_bytes(), to)
 }
 
 fn has_numbers(task: Task<'_>) -> bool
     ensures { result ≡ has_numbers (job task.entry) }
 {
     match task {
-        Task::Match(selection) => selection.numbers,
+        Task::Match(selection, _) => selection.numbers,
         Task::Replace(_) => false,
     }
 }

@@ -1,21 +1,33 @@
 //! What is written for a line.
-ghost use Rattle.std.specs.Prelude.{◌≡◌, ◌↔◌, ◌++◌, ℕ, List, All, IfErr, IfOk, IsTrue, OnOk, false, flat_map, if◌then◌else◌, length, map, not, true};
+ghost use Rattle.std.specs.Prelude.{◌≡◌, ◌↔◌, ◌++◌, ℕ, List, All, IfErr, IfOk, IsTrue, OnOk, false, flat_map, if◌then◌else◌, length, map, not, option_map, true};
+ghost use Rattle.regex_options.specs.Colors.{plain_colors};
 ghost use Rattle.regex_options.specs.Plain.{job};
 ghost use Rattle.regex_lines.specs.Ending.{IsCostly, IsSearchError};
 ghost use Rattle.regex_lines.specs.InLine.{AreInLine, AreInText, HasMatch, needs_matches, shown_by};
 ghost use Rattle.regex_lines.specs.Near.{ShowsNear, ShowsNearBy, plain};
-ghost use Rattle.regex_lines.specs.Reply.{painted_if, IsReplacedFrom, IsReply, IsReplyIn, IsSelected, MatchesIn, Shows, ShowsIf, ShowsReplaced, ended, feed_if, matches_shown, AreSearched, matches_of, run_of, texts_of, utf8_runs, whole};
+ghost use Rattle.regex_lines.specs.Reply.{IsReplacedFrom, IsReply, IsReplyIn, IsSelected, MatchesIn, Shows, ShowsIf, ShowsReplaced, ended, feed_if, matches_shown, AreSearched, matches_of, run_of, texts_of, utf8_runs, whole};
+ghost use Rattle.regex_lines.specs.Paint.{line_paint_in, line_paint_of, paint_of, painted, painted_rest};
 ghost use Rattle.regex_lines.specs.Prefix.{text_of};
 
 use crate::json::all_json;
-use crate::painting::{add_painted_if, painted_line};
+use crate::paint::{LinePaint, Paint, add_painted, is_colored, line_paint_in};
+use crate::painting::{add_rest, painted_line};
 use crate::prefix::{Prefix, prefix_text};
 use crate::runs::{Run, TextMatches, texts_of, utf8_runs};
 use crate::searcher::Searcher;
-use regex_options::{Selection, Shown, Task};
+use regex_options::{Colors, Selection, Shown, Task};
 use regress::SearchError;
 use std::alloc::{AllocError, Global};
 use std::str;
+
+/// What is shown of which lines, and how it is painted.
+#[derive(Clone, Copy)]
+struct Show<'a> {
+    shown: Shown,
+    /// Whether the lines without a match are selected.
+    invert: bool,
+    paint: LinePaint<'a>,
+}
 
 /// Whether a line is selected, and what is written for it.
 #[derive(Drop)]
@@ -49,6 +61,19 @@ pub(crate) fn reply_to(
     }
 }
 
+/// Returns what is shown of lines that are selected, or near selected ones.
+fn show_of<'a>(selection: Selection, colors: Option<&'a Colors<'a>>, near: bool) -> Show<'a>
+    ensures shown { result.shown ≡ selection.shown }
+    ensures invert { result.invert ≡ selection.invert }
+    ensures paint { line_paint_of result.paint ≡ line_paint_in (option_map (λ colors. plain_colors colors.now) colors.entry) near selection.invert }
+{
+    Show {
+        shown: selection.shown,
+        invert: selection.invert,
+        paint: line_paint_in(colors, near, selection.invert),
+    }
+}
+
 /// Returns what is written for a line near a selected one.
 pub(crate) fn near(
     searcher: &Searcher<'_>,
@@ -59,7 +84,9 @@ pub(crate) fn near(
     ensures failed { IfErr result (IsSearchError (IsCostly searcher.now.regex.now)) }
 {
     match prefix.task {
-        Task::Match(selection) => near_by(searcher, selection, prefix, line),
+        Task::Match(selection, colors) => {
+            near_by(searcher, show_of(selection, colors, true), prefix, line)
+        }
         Task::Replace(_) => Ok(Vec::new(searcher.alloc)),
     }
 }
@@ -67,34 +94,34 @@ pub(crate) fn near(
 /// Returns the line, with its matches if those lines are selected that have none.
 fn near_by(
     searcher: &Searcher<'_>,
-    selection: Selection,
+    show: Show<'_>,
     prefix: Prefix<'_>,
     line: &[u8],
 ) -> Result<Vec<u8>, SearchError>
-    ensures near { IfOk result (λ bytes. ShowsNearBy searcher.now.regex.now line.now selection.invert selection (text_of prefix.entry) bytes.items) }
+    ensures near { IfOk result (λ bytes. ShowsNearBy searcher.now.regex.now line.now show.entry.invert show.entry.shown (line_paint_of show.entry.paint) (text_of prefix.entry) bytes.items) }
     ensures failed { IfErr result (IsSearchError (IsCostly searcher.now.regex.now)) }
 {
-    if selection.invert && needs_matches(selection) {
-        near_by_matches(searcher, selection, prefix, line)
+    if show.invert && needs_matches(show) {
+        near_by_matches(searcher, show, prefix, line)
     } else {
-        Ok(plain(searcher.alloc, selection.shown, prefix, line)?)
+        Ok(plain(searcher.alloc, show, prefix, line)?)
     }
 }
 
 /// Returns the line with its matches.
 fn near_by_matches(
     searcher: &Searcher<'_>,
-    selection: Selection,
+    show: Show<'_>,
     prefix: Prefix<'_>,
     line: &[u8],
 ) -> Result<Vec<u8>, SearchError>
-    requires { needs_matches selection.shown selection.paints ≡ true }
-    ensures near { IfOk result (λ bytes. Shows searcher.now.regex.now line.now (texts_of line.now) selection.shown selection.paints (text_of prefix.entry) bytes.items) }
+    requires { needs_matches show.shown (line_paint_of show.paint) ≡ true }
+    ensures near { IfOk result (λ bytes. Shows searcher.now.regex.now line.now (texts_of line.now) show.entry.shown (line_paint_of show.entry.paint) (text_of prefix.entry) bytes.items) }
     ensures failed { IfErr result (IsSearchError (IsCostly searcher.now.regex.now)) }
 {
     let texts = texts_of(searcher.alloc, line)?;
     let found = search_texts(searcher, &texts)?;
-    Ok(shown(searcher, selection, prefix, line, &found)?)
+    Ok(shown(searcher, show, prefix, line, &found)?)
 }
 
 /// Returns what a task writes for a line that is UTF-8.
@@ -147,7 +174,9 @@ fn reply_in(
     ensures failed { IfErr result (IsSearchError (IsCostly searcher.now.regex.now)) }
 {
     match prefix.task {
-        Task::Match(selection) => selected(searcher, selection, prefix, line),
+        Task::Match(selection, colors) => {
+            selected(searcher, show_of(selection, colors, false), prefix, line)
+        }
         Task::Replace(template) => Ok(Reply {
             selected: true,
             bytes: replaced(searcher, template, line)?,
@@ -158,28 +187,28 @@ fn reply_in(
 /// Searches a line once: for all matches only if they are shown.
 fn selected(
     searcher: &Searcher<'_>,
-    selection: Selection,
+    show: Show<'_>,
     prefix: Prefix<'_>,
     line: Line<'_>,
 ) -> Result<Reply, SearchError>
     requires { AreInLine (length line.bytes.now) 0 (map run_of line.texts.now) }
-    ensures selected { IfOk result (λ reply. IsSelected searcher.now.regex.now (map run_of line.entry.texts.now) selection.invert reply.selected) }
-    ensures shows { IfOk result (λ reply. ShowsIf searcher.now.regex.now line.entry.bytes.now (map run_of line.entry.texts.now) reply.selected selection (text_of prefix.entry) reply.bytes.items) }
+    ensures selected { IfOk result (λ reply. IsSelected searcher.now.regex.now (map run_of line.entry.texts.now) show.entry.invert reply.selected) }
+    ensures shows { IfOk result (λ reply. ShowsIf searcher.now.regex.now line.entry.bytes.now (map run_of line.entry.texts.now) reply.selected show.entry.shown (line_paint_of show.entry.paint) (text_of prefix.entry) reply.bytes.items) }
     ensures failed { IfErr result (IsSearchError (IsCostly searcher.now.regex.now)) }
 {
-    if needs_matches(selection) {
-        selected_by_matches(searcher, selection, prefix, line)
+    if needs_matches(show) {
+        selected_by_matches(searcher, show, prefix, line)
     } else {
-        selected_by_test(searcher, selection, prefix, line)
+        selected_by_test(searcher, show, prefix, line)
     }
 }
 
 /// Returns whether all matches of a selected line are needed to show it.
-fn needs_matches(selection: Selection) -> bool
-    ensures { result ≡ needs_matches selection.shown selection.paints }
+fn needs_matches(show: Show<'_>) -> bool
+    ensures { result ≡ needs_matches show.entry.shown (line_paint_of show.entry.paint) }
 {
-    match selection.shown {
-        Shown::Lines => selection.paints,
+    match show.shown {
+        Shown::Lines => is_colored(show.paint.matched),
         Shown::Matches | Shown::Json => true,
         Shown::Count | Shown::Names | Shown::Nothing => false,
     }
@@ -188,18 +217,18 @@ fn needs_matches(selection: Selection) -> bool
 /// Searches a line, of which no matches are shown.
 fn selected_by_test(
     searcher: &Searcher<'_>,
-    selection: Selection,
+    show: Show<'_>,
     prefix: Prefix<'_>,
     line: Line<'_>,
 ) -> Result<Reply, SearchError>
-    requires { needs_matches selection.shown selection.paints ≡ false }
-    ensures selected { IfOk result (λ reply. IsSelected searcher.now.regex.now (map run_of line.entry.texts.now) selection.invert reply.selected) }
-    ensures shows { IfOk result (λ reply. ShowsIf searcher.now.regex.now line.entry.bytes.now (map run_of line.entry.texts.now) reply.selected selection (text_of prefix.entry) reply.bytes.items) }
+    requires { needs_matches show.shown (line_paint_of show.paint) ≡ false }
+    ensures selected { IfOk result (λ reply. IsSelected searcher.now.regex.now (map run_of line.entry.texts.now) show.entry.invert reply.selected) }
+    ensures shows { IfOk result (λ reply. ShowsIf searcher.now.regex.now line.entry.bytes.now (map run_of line.entry.texts.now) reply.selected show.entry.shown (line_paint_of show.entry.paint) (text_of prefix.entry) reply.bytes.items) }
     ensures failed { IfErr result (IsSearchError (IsCostly searcher.now.regex.now)) }
 {
-    let selected = is_selected(selection.invert, match_in(searcher, line.texts)?);
+    let selected = is_selected(show.invert, match_in(searcher, line.texts)?);
     if selected {
-        let bytes = plain(searcher.alloc, selection.shown, prefix, line.bytes)?;
+        let bytes = plain(searcher.alloc, show, prefix, line.bytes)?;
         Ok(Reply { selected, bytes })
     } else {
         let bytes = Vec::new(searcher.alloc);
@@ -210,20 +239,20 @@ fn selected_by_test(
 /// Searches a line, of which the matches are shown.
 fn selected_by_matches(
     searcher: &Searcher<'_>,
-    selection: Selection,
+    show: Show<'_>,
     prefix: Prefix<'_>,
     line: Line<'_>,
 ) -> Result<Reply, SearchError>
     requires order { AreInLine (length line.bytes.now) 0 (map run_of line.texts.now) }
-    requires shows { needs_matches selection.shown selection.paints ≡ true }
-    ensures selected { IfOk result (λ reply. IsSelected searcher.now.regex.now (map run_of line.entry.texts.now) selection.invert reply.selected) }
-    ensures shows { IfOk result (λ reply. ShowsIf searcher.now.regex.now line.entry.bytes.now (map run_of line.entry.texts.now) reply.selected selection (text_of prefix.entry) reply.bytes.items) }
+    requires shows { needs_matches show.shown (line_paint_of show.paint) ≡ true }
+    ensures selected { IfOk result (λ reply. IsSelected searcher.now.regex.now (map run_of line.entry.texts.now) show.entry.invert reply.selected) }
+    ensures shows { IfOk result (λ reply. ShowsIf searcher.now.regex.now line.entry.bytes.now (map run_of line.entry.texts.now) reply.selected show.entry.shown (line_paint_of show.entry.paint) (text_of prefix.entry) reply.bytes.items) }
     ensures failed { IfErr result (IsSearchError (IsCostly searcher.now.regex.now)) }
 {
     let found = search_texts(searcher, line.texts)?;
-    let selected = is_selected(selection.invert, has_match(&found));
+    let selected = is_selected(show.invert, has_match(&found));
     if selected {
-        let bytes = shown(searcher, selection, prefix, line.bytes, &found)?;
+        let bytes = shown(searcher, show, prefix, line.bytes, &found)?;
         Ok(Reply { selected, bytes })
     } else {
         let bytes = Vec::new(searcher.alloc);
@@ -283,20 +312,20 @@ fn has_match(found: &[TextMatches<'_>]) -> bool
 /// Returns what is written for a selected line with these matches.
 fn shown(
     searcher: &Searcher<'_>,
-    selection: Selection,
+    show: Show<'_>,
     prefix: Prefix<'_>,
     line: &[u8],
     found: &[TextMatches<'_>],
 ) -> Result<Vec<u8>, AllocError>
     requires order { AreInLine (length line.now) 0 (map (λ f. f.run) (map matches_of found.now)) }
     requires inside { All AreInText found.now }
-    requires shows { needs_matches selection.shown selection.paints ≡ true }
-    ensures { IfOk result (λ bytes. bytes.items ≡ shown_by searcher.now.regex.now line.now selection.shown selection.paints (text_of prefix.entry) (map matches_of found.now)) }
+    requires shows { needs_matches show.shown (line_paint_of show.paint) ≡ true }
+    ensures { IfOk result (λ bytes. bytes.items ≡ shown_by searcher.now.regex.now line.now show.entry.shown (line_paint_of show.entry.paint) (text_of prefix.entry) (map matches_of found.now)) }
 {
     let prefix = prefix_text(searcher.alloc, prefix)?;
-    match selection.shown {
-        Shown::Lines => painted_line(searcher.alloc, &prefix, line, found),
-        Shown::Matches => all_matches(searcher.alloc, selection.paints, &prefix, found),
+    match show.shown {
+        Shown::Lines => painted_line(searcher.alloc, show.paint, &prefix, line, found),
+        Shown::Matches => all_matches(searcher.alloc, show.paint.matched, &prefix, found),
         Shown::Json => all_json(searcher.alloc, searcher.regex, &prefix, found),
         Shown::Count | Shown::Names | Shown::Nothing => Ok(Vec::new(searcher.alloc)),
     }
@@ -305,14 +334,14 @@ fn shown(
 /// Returns what is written for a selected line without its matches.
 fn plain(
     alloc: Global,
-    shown: Shown,
+    show: Show<'_>,
     prefix: Prefix<'_>,
     line: &[u8],
 ) -> Result<Vec<u8>, AllocError>
-    ensures { IfOk result (λ bytes. bytes.items ≡ plain line.now shown (text_of prefix.entry)) }
+    ensures { IfOk result (λ bytes. bytes.items ≡ plain line.now show.entry.shown (paint_of show.entry.paint.rest) (text_of prefix.entry)) }
 {
-    match shown {
-        Shown::Lines => whole_line(alloc, prefix, line),
+    match show.shown {
+        Shown::Lines => whole_line(alloc, show.paint.rest, prefix, line),
         Shown::Matches | Shown::Json | Shown::Count | Shown::Names | Shown::Nothing => {
             Ok(Vec::new(alloc))
         }
@@ -320,67 +349,67 @@ fn plain(
 }
 
 /// Returns the line, with `prefix` in front.
-fn whole_line(alloc: Global, prefix: Prefix<'_>, line: &[u8]) -> Result<Vec<u8>, AllocError>
-    ensures { IfOk result (λ bytes. bytes.items ≡ text_of prefix.entry ++ ended line.now) }
+fn whole_line(
+    alloc: Global,
+    paint: Paint<'_>,
+    prefix: Prefix<'_>,
+    line: &[u8],
+) -> Result<Vec<u8>, AllocError>
+    ensures { IfOk result (λ bytes. bytes.items ≡ text_of prefix.entry ++ ended (painted_rest (paint_of paint.entry) line.now)) }
 {
-    let prefix = prefix_text(alloc, prefix)?;
-    let mut bytes = Vec::new(alloc);
-    add_line(&prefix, line, &mut bytes)?;
+    let mut bytes = prefix_text(alloc, prefix)?;
+    add_rest(paint, line, &mut bytes)?;
+    bytes.push(b'\n')?;
     Ok(bytes)
-}
-
-/// Adds a line, with `prefix` in front.
-fn add_line(prefix: &str, line: &[u8], to: &mut Vec<u8>) -> Result<(), AllocError>
-    ensures { OnOk result (to.new.items ≡ to.old.items ++ (prefix.now ++ ended line.now)) }
-{
-    to.extend_from_slice(prefix.as_bytes())?;
-    to.extend_from_slice(line)?;
-    to.push(b'\n')?;
-    Ok(())
 }
 
 /// Returns a line for each match that is not empty.
 fn all_matches(
     alloc: Global,
-    paints: bool,
-    prefix: &str,
+    paint: Paint<'_>,
+    prefix: &[u8],
     found: &[TextMatches<'_>],
 ) -> Result<Vec<u8>, AllocError>
     requires { All AreInText found.now }
-    ensures { IfOk result (λ bytes. bytes.items ≡ flat_map (matches_shown paints prefix.now) (map matches_of found.now)) }
+    ensures { IfOk result (λ bytes. bytes.items ≡ flat_map (matches_shown (paint_of paint.entry) prefix.now) (map matches_of found.now)) }
 {
     let mut bytes = Vec::new(alloc);
     for text in found {
-        add_matches(paints, prefix, text, &mut bytes)?;
+        add_matches(paint, prefix, text, &mut bytes)?;
     }
     Ok(bytes)
 }
 
 /// Adds a line for each match in a text that is not empty.
 fn add_matches(
-    paints: bool,
-    prefix: &str,
+    paint: Paint<'_>,
+    prefix: &[u8],
     text: &TextMatches<'_>,
     to: &mut Vec<u8>,
 ) -> Result<(), AllocError>
     requires { AreInText text.now }
-    ensures { OnOk result (to.new.items ≡ to.old.items ++ matches_shown paints prefix.now (matches_of text.now)) }
+    ensures { OnOk result (to.new.items ≡ to.old.items ++ matches_shown (paint_of paint.entry) prefix.now (matches_of text.now)) }
 {
     for found in &text.matches {
         let matched = &text.run.text[found.start()..found.end()];
         if !matched.is_empty() {
-            add_match(paints, prefix, matched, to)?;
+            add_match(paint, prefix, matched, to)?;
         }
     }
     Ok(())
 }
 
 /// Adds a line with a match, with `prefix` in front.
-fn add_match(paints: bool, prefix: &str, text: &str, to: &mut Vec<u8>) -> Result<(), AllocError>
-    ensures { OnOk result (to.new.items ≡ to.old.items ++ (prefix.now ++ ended (painted_if paints text.now))) }
+fn add_match(
+    paint: Paint<'_>,
+    prefix: &[u8],
+    text: &str,
+    to: &mut Vec<u8>,
+) -> Result<(), AllocError>
+    ensures { OnOk result (to.new.items ≡ to.old.items ++ (prefix.now ++ ended (painted (paint_of paint.entry) text.now))) }
 {
-    to.extend_from_slice(prefix.as_bytes())?;
-    add_painted_if(paints, text, to)?;
+    to.extend_from_slice(prefix)?;
+    add_painted(paint, text.as_bytes(), to)?;
     to.push(b'\n')?;
     Ok(())
 }

@@ -1,17 +1,18 @@
 //! Searches the lines of an input.
-ghost use Rattle.std.specs.Prelude.{◌≡◌, ℕ, ◌+◌, ◌-◌, ◌<◌, ◌≤◌, List, [], ◌++◌, IfOk, IfErr, OnOk, false, length, map, string_bytes, true};
+ghost use Rattle.std.specs.Prelude.{◌≡◌, ℕ, ◌+◌, ◌-◌, ◌<◌, ◌≤◌, List, [], ◌++◌, IfOk, IfErr, OnOk, false, if◌then◌else◌, length, map, true};
 ghost use Rattle.std.specs.Io.KnownBytes.{Appends};
 ghost use Rattle.regex_lines.specs.Reply.{IsReply};
 ghost use Rattle.regex_lines.specs.Reading.{IsRead};
 ghost use Rattle.regress_arguments.specs.Output.{Took};
 ghost use Rattle.regex_lines.specs.Ending.{IsCostly, IsInputFailure, OrOutput};
 ghost use Rattle.regex_options.specs.Plain.{job};
-ghost use Rattle.regex_lines.specs.Searched.{AreNear, IsFound, IsNear, named, SearchesAll, SearchesFirst, context_of, lines_after, lines_before, prefix_of, is_enough, is_over, needs_one, reaches, written_at_end};
+ghost use Rattle.regex_lines.specs.Searched.{AreNear, IsFound, IsNear, colors_of, named, SearchesAll, SearchesFirst, context_of, lines_after, lines_before, prefix_of, is_enough, is_over, needs_one, reaches, separator, written_at_end};
 ghost use Rattle.regex_lines.specs.Window.{IsCounted, IsInFront, IsNextLine, IsOther, IsShown, separator_of, window_of};
 
 use crate::failure::{Failure, read_failure};
+use crate::paint::{Part, add_painted, paint_in};
 use crate::place::Place;
-use crate::prefix::{Prefix, name_in_front, name_with};
+use crate::prefix::{Prefix, add_name_in_front, add_name_line, colors_of};
 use crate::printing::{write_at, write_bytes};
 use crate::reading::{Next, is_ended, is_last, read_next};
 use crate::reply::{Reply, near, reply_to};
@@ -100,7 +101,7 @@ fn is_enough(task: Task<'_>, selected: u64) -> bool
     ensures { result ≡ is_enough (job task.entry) selected }
 {
     match task {
-        Task::Match(selection) => {
+        Task::Match(selection, _) => {
             reaches(selection.max_count, selected) || (needs_one(selection.shown) && selected > 0)
         }
         Task::Replace(_) => false,
@@ -218,31 +219,41 @@ fn with_front<'a>(
         × (shown.items ≡ front ++ bytes.items)) }
     ensures failed { IfErr result (IsInputFailure (IsCostly search.entry.searcher.now.regex.now)) }
 {
-    let separator = separator_of(search, window);
-    if separator.is_empty() && window.hidden.is_empty() {
+    let is_apart = is_apart(search, window);
+    if !is_apart && window.hidden.is_empty() {
         return Ok(bytes);
     }
     let mut shown = Vec::new(search.searcher.alloc);
-    shown.extend_from_slice(separator.as_bytes())?;
+    if is_apart {
+        add_separator(search.task, &mut shown)?;
+    }
     add_hidden(search, window, &mut shown)?;
     shown.extend_from_slice(&bytes)?;
     Ok(shown)
 }
 
-/// Returns the separator, if lines are left out before those in the window.
-fn separator_of(search: InputSearch<'_, '_>, window: &Window) -> &'static str
-    ensures { result.now ≡ separator_of (job search.entry.task) (named search.entry.place) (window_of window.now) }
+/// Returns whether a separator is in front of the lines in the window, since lines are left out before them.
+fn is_apart(search: InputSearch<'_, '_>, window: &Window) -> bool
+    ensures { separator_of (job search.entry.task) (named search.entry.place) (window_of window.now)
+        ≡ (if result then separator (colors_of (job search.entry.task)) (context_of (job search.entry.task)) else []) }
 {
     let is_left_out = if window.selected == 0 {
         search.place.follows
     } else {
         window.left_out
     };
-    if is_left_out && context_of(search.task).is_some() {
-        "--\n"
-    } else {
-        ""
+    is_left_out && context_of(search.task).is_some()
+}
+
+/// Adds the line between lines that are not adjacent.
+fn add_separator(task: Task<'_>, to: &mut Vec<u8>) -> Result<(), AllocError>
+    ensures { OnOk result (to.new.items ≡ to.old.items ++ separator (colors_of (job task.entry)) (context_of (job task.entry))) }
+{
+    if context_of(task).is_some() {
+        add_painted(paint_in(colors_of(task), Part::Separator), b"--", to)?;
+        to.push(b'\n')?;
     }
+    Ok(())
 }
 
 /// Adds what is shown of the lines in the window.
@@ -307,7 +318,7 @@ fn context_of(task: Task<'_>) -> Option<Context>
     ensures { result ≡ context_of (job task.entry) }
 {
     match task {
-        Task::Match(selection) => selection.context,
+        Task::Match(selection, _) => selection.context,
         Task::Replace(_) => None,
     }
 }
@@ -355,24 +366,28 @@ pub(crate) fn write_end<'a, W: Write>(
     ensures untouched { IfErr result (OrOutput (out.new ≡ out.old)) }
 {
     let end = end(search.searcher.alloc, search.task, search.place, selected)?;
-    write_bytes(end.as_bytes(), out)
+    write_bytes(&end, out)
 }
 
-fn end(alloc: Global, task: Task<'_>, place: Place<'_>, selected: u64) -> Result<String, AllocError>
-    ensures { IfOk result (λ end. string_bytes end ≡ written_at_end (job task.entry) (named place.entry) selected) }
+fn end(
+    alloc: Global,
+    task: Task<'_>,
+    place: Place<'_>,
+    selected: u64,
+) -> Result<Vec<u8>, AllocError>
+    ensures { IfOk result (λ end. end.items ≡ written_at_end (job task.entry) (named place.entry) selected) }
 {
-    let Task::Match(selection) = task else {
-        return Ok(String::new(alloc));
+    let mut end = Vec::new(alloc);
+    let Task::Match(selection, colors) = task else {
+        return Ok(end);
     };
     match selection.shown {
         Shown::Count => {
-            let mut end = name_in_front(alloc, place, ":")?;
-            end.push_str(&format!(in alloc; "{selected}\n")?)?;
-            Ok(end)
+            add_name_in_front(colors, place, false, &mut end)?;
+            end.extend_from_slice(format!(in alloc; "{selected}\n")?.as_bytes())?;
         }
-        Shown::Names if selected > 0 => name_with(alloc, place, "\n"),
-        Shown::Lines | Shown::Matches | Shown::Json | Shown::Names | Shown::Nothing => {
-            Ok(String::new(alloc))
-        }
+        Shown::Names if selected > 0 => add_name_line(colors, place, &mut end)?,
+        Shown::Lines | Shown::Matches | Shown::Json | Shown::Names | Shown::Nothing => {}
     }
+    Ok(end)
 }

@@ -36,7 +36,7 @@ no_options = record {
   flags = no_flags;
   dialect = Ecma;
   form = record { fixed = false; lines = false; words = false };
-  selection = record { invert = false; file_names = IfSeveral; null = false; numbers = false; shown = Lines; max_count = None; context = None; paints = false };
+  selection = record { invert = false; file_names = IfSeveral; null = false; numbers = false; shown = Lines; max_count = None; context = None };
   around = record { before = None; after = None; both = None };
   multiline = false;
   recursive = false;
@@ -120,7 +120,7 @@ around_with Both count around = record around { both = Some count }
 abbrev pub with_context : Side → (text : List ℕ) → Options → Option Options
 with_context side text o = option_map (λ count. record o { around = around_with side count o.around }) (count_of text)
 
--- when matches are in color, by its name
+-- when the output is in color, by its name
 abbrev pub color_of : List ℕ → Option Color
 color_of when =
     if bytes_eq when (codes "always") then Some Always

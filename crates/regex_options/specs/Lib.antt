@@ -1,3 +1,5 @@
+pub mod Assignment
+pub mod Colors
 pub mod Given
 pub mod Plain
 pub mod Reading

@@ -1,5 +1,6 @@
 -- Plain data: what is done with each line, where the pattern is, and why arguments are invalid.
-use Rattle.std.specs.Prelude.{◌≡◌, ⊤, ℕ, Bool, List, [], ◌∷◌, map, Option, Some, None, Result, Ok, Err, string_bytes}
+use Rattle.std.specs.Prelude.{◌≡◌, ⊤, ℕ, Bool, List, [], ◌∷◌, map, Option, Some, None, option_map, Result, Ok, Err, string_bytes}
+use Rattle.regex_options.specs.Colors.{Colors, plain_colors}
 use Rattle.regex_options.specs.declared.error.ParseError.{ParseError}
 use Rattle.regex_options.specs.declared.error.ParseError.TheVariants.{Usage, Memory}
 use Rattle.regex_options.specs.declared.error.UsageError as code
@@ -14,14 +15,14 @@ use Rattle.regex_options.specs.declared.task.Selection.{Selection}
 use Rattle.regex_options.specs.declared.task.Task.TheVariants.{Match, Replace}
 use Rattle.regex_options.specs.declared.task.Task.{Task}
 
--- selected lines are shown, or matches are replaced by the expansion of a template
+-- selected lines are shown, in these colors if there are any, or matches are replaced by the expansion of a template
 pub data Job : Type 0 where
-  matching : Selection → Job
+  matching : Selection → (colors : Option Colors) → Job
   replacing : (template : List ℕ) → Job
 
 -- the job as the code represents it
 abbrev pub job : Task → Job
-job (Match s) = matching s
+job (Match s colors) = matching s (option_map (λ c. plain_colors c.now) colors)
 job (Replace template) = replacing template.now
 
 -- a pattern, or the name of the file that has patterns

@@ -1,8 +1,9 @@
 -- The options, by the table.
 use Rattle.std.specs.Borrow.{Bor}
 use Rattle.std.specs.Prelude.{ℕ, Bool, not, ◌&&◌, List, [], ◌∷◌, Option, Some, None, ◌++◌, map, option_map, if◌then◌else◌, ◌==◌, bytes_eq, codes, drop, find, is_none, length, nat_lt, slice_index, Result, Ok, Err, String, string_bytes}
-use Rattle.std.specs.List.{after_first, before_first, position_or_len, starts_with}
+use Rattle.std.specs.List.{starts_with}
 use Rattle.std.specs.declared.alloc.Global.{Global}
+use Rattle.regex_options.specs.Assignment.{name_and_value}
 use Rattle.regex_options.specs.Given.{Given, given_by, nothing_given, switched, valued}
 use Rattle.regex_options.specs.Table.{has, has_letter, has_long, is_of_match_only, is_valued}
 use Rattle.regex_options.specs.Plain.{NameGlob, Source, UsageError, first_error, invalid, missing, name_glob, on_ok, only_of_match, or_error, source, unknown_option, usage_error}
@@ -98,15 +99,6 @@ used word (sets.Switch switch) (Some text) r = Err (unknown_option word)
 used word (sets.Value argument) None r = without_value argument argument.default word r
 used word (sets.Value argument) (Some text) r = with_value argument text word r
 
--- the name in front of the first `=`, and the text after it
-abbrev pub long_parts : (long : List ℕ) → List ℕ × Option (List ℕ)
-long_parts long =
-    if nat_lt (position_or_len (λ b. b == 61) long) (length long) then (before_first (λ b. b == 61) long, Some (after_first (λ b. b == 61) long))
-    else (long, None)
-
-abbrev pub parts_of : Bor (List ℕ) × Option (Bor (List ℕ)) → List ℕ × Option (List ℕ)
-parts_of parts = (parts.0.now, option_map (λ text. text.now) parts.1)
-
 -- the text, unless it is empty
 abbrev pub unless_empty : List ℕ → Option (List ℕ)
 unless_empty text = if length text == 0 then None else Some text
@@ -127,7 +119,7 @@ module _ (options : List OptionEntry) (command : Command) (word : List ℕ) wher
 
   -- `--NAME` or `--NAME=VALUE`
   abbrev pub with_long : (long : List ℕ) → Reading → Result Reading UsageError
-  with_long long r = with_found (long_parts long).1 r (find (has_long (long_parts long).0) options)
+  with_long long r = with_found (name_and_value long).1 r (find (has_long (name_and_value long).0) options)
 
   -- The options with these letters, which are of ASCII. What follows the letter of an option with an argument is that
   -- argument, if it is not empty.

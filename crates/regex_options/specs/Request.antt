@@ -9,6 +9,7 @@ use Rattle.regress_display.specs.declared.request.Stage.{Stage}
 use Rattle.regress_display.specs.declared.request.Stage.TheVariants as stages
 use Rattle.regress_lexer.specs.declared.dialect.Dialect.{Dialect}
 use Rattle.regex_options.specs.Table.{command_help, is_named, program_help, topic_text}
+use Rattle.regex_options.specs.Colors.{Colors, plain_colors}
 use Rattle.regex_options.specs.Given.{Given}
 use Rattle.regex_options.specs.Plain.{FileList, Job, file_list, job, matching, replacing, Source, in_argument, sources, UsageError, excluded_by_json, missing, on_ok, or_error, text_without_page, unexpected, unknown_command, unknown_option, unless_error}
 use Rattle.regex_options.specs.Reading.{Words, options_of, start, words_of}
@@ -29,6 +30,7 @@ use Rattle.regex_options.specs.declared.request.Asked.TheVariants.{Help, Escape,
 use Rattle.regex_options.specs.declared.request.Form as code_form
 use Rattle.regex_options.specs.declared.request.Form.TheVariants.{Lines, Page}
 use Rattle.regex_options.specs.declared.help.TheConstants.{VERSION}
+use Rattle.regex_options.specs.declared.request.Output.{Output}
 use Rattle.regex_options.specs.declared.request.Parsed as code_parsed
 use Rattle.regex_options.specs.declared.request.Parsed.TheVariants.{Topic, Line}
 use Rattle.regex_options.specs.declared.request.Request as code
@@ -115,12 +117,25 @@ stage_of None Svg = stages.Parsed
 abbrev pub view_in : Options → Format → View
 view_in options format = record { format = format; stage = stage_of options.stage format; small = options.small }
 
--- whether matches are in color: by default if the output is a terminal
+-- whether the output is a terminal with colors, and which colors
+pub record Screen : Type 0 where
+  pub terminal : Bool
+  pub colors : Colors
+
+-- the same, as the code represents it
+abbrev pub screen : Output → Screen
+screen output = record { terminal = output.terminal; colors = plain_colors output.colors.now }
+
+-- whether the output is in color: by default if it is a terminal
 abbrev pub paints : (terminal : Bool) → Option Color → Bool
 paints terminal None = terminal
 paints terminal (Some colors.Always) = true
 paints terminal (Some colors.Never) = false
 paints terminal (Some colors.Auto) = terminal
+
+-- the colors, if the output is in color
+abbrev pub colors_in : Screen → Option Color → Option Colors
+colors_in screen color = if paints screen.terminal color then Some screen.colors else None
 
 -- the number, or this one if there is none
 abbrev pub number_or : (default : ℕ) → Option ℕ → ℕ
@@ -150,10 +165,10 @@ abbrev pub context_of : Options → Option Context
 context_of options = if has_context options.selection.shown then context_by options.around else None
 
 -- what to show of which lines
-abbrev pub selection_of : (terminal : Bool) → Options → Selection
-selection_of terminal options =
-    if options.json then record options.selection { context = context_of options; paints = paints terminal options.color; shown = shows.Json }
-    else record options.selection { context = context_of options; paints = paints terminal options.color }
+abbrev pub selection_of : Options → Selection
+selection_of options =
+    if options.json then record options.selection { context = context_of options; shown = shows.Json }
+    else record options.selection { context = context_of options }
 
 -- how to explain a pattern
 abbrev pub form_of : Given → Form
@@ -182,14 +197,15 @@ alone action args = on_ok (λ _. Ok action) (no_more args)
 
 -- What is done with a pattern, with the operands after the pattern, which may be files: `split` replaces each match by a line
 -- feed.
-abbrev pub action_of : (terminal : Bool) → Operation → Given → (rest : FileList) → Result Action UsageError
-action_of terminal operations.Match given rest = Ok (search (matching (selection_of terminal given.options)) given.options.multiline rest)
-action_of terminal operations.Replace given rest = replace_of given.options.multiline rest
-action_of terminal operations.Split given rest = Ok (search (replacing (codes "\n")) given.options.multiline rest)
-action_of terminal operations.Parse given rest = alone (show (view_in given.options (printed_format given.options.json))) rest.names
-action_of terminal operations.Draw given rest = alone (show (view_in given.options Svg)) rest.names
-action_of terminal operations.Lint given rest = alone lint rest.names
-action_of terminal operations.Explain given rest = alone (explain (form_of given)) rest.names
+abbrev pub action_of : Screen → Operation → Given → (rest : FileList) → Result Action UsageError
+action_of screen operations.Match given rest =
+    Ok (search (matching (selection_of given.options) (colors_in screen given.options.color)) given.options.multiline rest)
+action_of screen operations.Replace given rest = replace_of given.options.multiline rest
+action_of screen operations.Split given rest = Ok (search (replacing (codes "\n")) given.options.multiline rest)
+action_of screen operations.Parse given rest = alone (show (view_in given.options (printed_format given.options.json))) rest.names
+action_of screen operations.Draw given rest = alone (show (view_in given.options Svg)) rest.names
+action_of screen operations.Lint given rest = alone lint rest.names
+action_of screen operations.Explain given rest = alone (explain (form_of given)) rest.names
 
 -- the patterns, and the operands after them, as the code represents them
 abbrev pub after_patterns : Patterns × Bor (List (String Global)) → List Source × List (List ℕ)
@@ -212,10 +228,10 @@ request_for options patterns action = apply (record {
 })
 
 -- the request of an operation, with its arguments
-abbrev pub request_of : (terminal : Bool) → Operation → Words → Result Ask UsageError
-request_of terminal operation w =
+abbrev pub request_of : Screen → Operation → Words → Result Ask UsageError
+request_of screen operation w =
     on_ok (λ taken. on_ok (λ action. Ok (request_for w.reading.given.options taken.0 action))
-    (action_of terminal operation w.reading.given (files_of w taken.1))) (or_error (missing (codes "PATTERN")) (taken_patterns w.patterns w.operands))
+    (action_of screen operation w.reading.given (files_of w taken.1))) (or_error (missing (codes "PATTERN")) (taken_patterns w.patterns w.operands))
 
 abbrev pub is_lines : Shown → Bool
 is_lines shows.Lines = true
@@ -243,21 +259,21 @@ escape_of (text ∷ []) = Ok (escape text)
 escape_of (text ∷ (more ∷ others)) = Err (unexpected more)
 
 -- what a command asks for with its arguments
-abbrev pub command_of : (terminal : Bool) → Command → Words → Result Ask UsageError
-command_of terminal commands.Escape w = escape_of w.operands
-command_of terminal (commands.Pattern operation) w = request_of terminal operation w
+abbrev pub command_of : Screen → Command → Words → Result Ask UsageError
+command_of screen commands.Escape w = escape_of w.operands
+command_of screen (commands.Pattern operation) w = request_of screen operation w
 
 -- the error of a word that is no command
 abbrev pub unknown : (word : List ℕ) → UsageError
 unknown word = if slice_index word 0 == 45 then unknown_option word else unknown_command word
 
-module _ (options : List OptionEntry) (terminal : Bool) where
+module _ (options : List OptionEntry) (screen : Screen) where
   -- The help, the version, or what the command asks for, if it has all options and they go together.
   abbrev pub line_interpreted : CommandEntry → Words → Result Ask UsageError
   line_interpreted entry w =
       if w.reading.given.options.help then Ok (help (command_help entry options))
       else if w.reading.given.options.version then Ok (help VERSION.now)
-      else unless_error w.reading.denied (unless_error (conflict w.reading.given) (command_of terminal entry.command w))
+      else unless_error w.reading.denied (unless_error (conflict w.reading.given) (command_of screen entry.command w))
 
   -- what parsed arguments ask for
   abbrev pub interpreted : Parsed → Result Ask UsageError
@@ -304,4 +320,4 @@ parsed_by arguments = parsed_of arguments.commands.now arguments.options.now arg
 -- What the arguments of the program ask for. The first of their errors by themselves comes before any that they have
 -- together.
 abbrev pub asked_by : Arguments → Result Ask UsageError
-asked_by arguments = on_ok (interpreted arguments.options.now arguments.output.colors) (parsed_by arguments)
+asked_by arguments = on_ok (interpreted arguments.options.now (screen arguments.output)) (parsed_by arguments)

@@ -1,11 +1,24 @@
 //! What the environment says of colors.
 
-use std::env::{Env, FillError};
+use std::alloc::AllocError;
+use std::env::{self, Env, FillError, VarError};
 
 /// Returns whether the environment allows colors on a terminal: `TERM` is set, and not to `dumb`, and `NO_COLOR` is not
 /// set, or empty.
 pub fn allows_color<R: Env>(rt: &R) -> bool {
     is_of_colors(rt) && !is_set(rt, "NO_COLOR")
+}
+
+/// Returns the value of `GREP_COLORS`, or an empty text if it is not set or not UTF-8.
+///
+/// # Errors
+/// Returns an error if an allocation fails.
+pub fn color_setting<R: Env + AllocGlobal>(rt: &R) -> Result<String, AllocError> {
+    match env::var(rt, "GREP_COLORS") {
+        Ok(text) => Ok(text),
+        Err(VarError::NotPresent | VarError::NotUnicode) => Ok(String::new(rt.alloc())),
+        Err(VarError::OutOfMemory) => Err(AllocError),
+    }
 }
 
 /// Returns whether `TERM` is set, and not to `dumb`.

@@ -9,7 +9,7 @@ use regress_base::types::Flags;
 use regress_display::Stage;
 use regress_lexer::Dialect;
 
-/// When matches are in color.
+/// When the output is in color.
 #[derive(Clone, Copy)]
 pub(crate) enum Color {
     Always,
@@ -88,7 +88,6 @@ pub(crate) fn nothing_given() -> Given<'static>
                 shown: Shown::Lines,
                 max_count: None,
                 context: None,
-                paints: false,
             },
             around: Around {
                 before: None,

@@ -2,6 +2,8 @@
 //! help is written.
 #![tactic(auto)]
 
+mod assignment;
+mod colors;
 mod command;
 mod environment;
 mod error;
@@ -16,8 +18,9 @@ mod table;
 mod task;
 mod values;
 
+pub use colors::{Colors, parse_colors};
 pub use command::{COMMANDS, Command, CommandEntry, Operation};
-pub use environment::allows_color;
+pub use environment::{allows_color, color_setting};
 pub use error::{ParseError, UsageError, write_usage_error};
 pub use files::{FileList, NameGlob};
 pub use help::{HELP_AFTER, HELP_BEFORE, OPTIONS_END, Topic, VERSION, topic_text};

@@ -1,10 +1,11 @@
 //! Parses options.
 ghost use Rattle.std.specs.Prelude.{◌≡◌, ◌<◌, ◌++◌, ◌∷◌, [], OnOk, drop, find, length, map, option_map, slice_index, string_bytes};
 ghost use Rattle.regex_options.specs.Given.{given_by};
-ghost use Rattle.regex_options.specs.Reading.{is_option, lacked, listed, letters_of, long_parts, noted, options_of, parts_of, reading_of, start, unless_empty, without_lists, words_of, used, with_letters, with_long, with_switch, with_value, with_word, without_value};
+ghost use Rattle.regex_options.specs.Reading.{is_option, lacked, listed, letters_of, noted, options_of, reading_of, start, unless_empty, without_lists, words_of, used, with_letters, with_long, with_switch, with_value, with_word, without_value};
 ghost use Rattle.regex_options.specs.Table.{has_letter, has_long};
 ghost use Rattle.regex_options.specs.Plain.{IsParsed, first_error, name_glob, plain_result, source, usage_error};
 
+use crate::assignment::name_and_value;
 use crate::command::Command;
 use crate::error::{ParseError, UsageError};
 use crate::files::NameGlob;
@@ -207,20 +208,10 @@ fn with_long<'a>(
 ) -> Result<Reading<'a>, UsageError<'a>>
     ensures { plain_result reading_of result ≡ with_long options.now command word.now long.now (reading_of reading.entry) }
 {
-    let (name, value) = long_parts(long);
+    let (name, value) = name_and_value(long);
     match find_long(options, name) {
         Some(option) => used(command, option, word, value, reading),
         None => Err(UsageError::UnknownOption(word)),
-    }
-}
-
-/// Returns the name in front of `=`, and what is after it.
-fn long_parts(long: &str) -> (&str, Option<&str>)
-    ensures { parts_of result ≡ long_parts long.now }
-{
-    match long.split_once('=') {
-        Some((name, value)) => (name, Some(value)),
-        None => (long, None),
     }
 }
 

@@ -1,11 +1,13 @@
 //! What the arguments ask for.
 ghost use Rattle.std.specs.Prelude.{◌≡◌, map, option_map, string_bytes};
+ghost use Rattle.regex_options.specs.Colors.{plain_colors};
 ghost use Rattle.regex_options.specs.Given.{given_by};
 ghost use Rattle.regex_options.specs.Plain.{IsParsed, file_list, job, name_glob, source, plain_result, usage_error};
 ghost use Rattle.regex_options.specs.Reading.{words_of};
-ghost use Rattle.regex_options.specs.Request.{action, action_of, after_patterns, alone, ask, asked_form, conflict, context_by, context_of, escape_of, excludes_json, files_of, form_of, has_context, help_of, interpreted, is_lines, line_interpreted, line_of, no_more, paints, parsed_as, parsed_by, printed_format, replace_of, request_of, search, selection_of, stage_of, taken_patterns, topic_of, unknown, view_in};
+ghost use Rattle.regex_options.specs.Request.{action, action_of, after_patterns, alone, ask, asked_form, colors_in, conflict, context_by, context_of, escape_of, excludes_json, files_of, form_of, has_context, help_of, interpreted, is_lines, line_interpreted, line_of, no_more, paints, parsed_as, parsed_by, printed_format, replace_of, request_of, screen, search, selection_of, stage_of, taken_patterns, topic_of, unknown, view_in};
 ghost use Rattle.regex_options.specs.Table.{topic_text};
 
+use crate::colors::Colors;
 use crate::command::{Command, CommandEntry, Operation, find_command};
 use crate::error::{ParseError, UsageError};
 use crate::files::{FileList, NameGlob};
@@ -102,14 +104,16 @@ pub struct Arguments<'a> {
     /// The arguments, without the program's own name.
     pub words: &'a [String],
     /// The output.
-    pub output: Output,
+    pub output: Output<'a>,
 }
 
 /// What is known of the output.
 #[derive(Clone, Copy)]
-pub struct Output {
-    /// Whether it is a terminal with colors, where matches are in color by default.
-    pub colors: bool,
+pub struct Output<'a> {
+    /// Whether it is a terminal with colors, where it is in color by default.
+    pub terminal: bool,
+    /// Its colors.
+    pub colors: &'a Colors<'a>,
     /// Whether it is a terminal, where each line is written at once.
     pub at_once: bool,
 }
@@ -230,7 +234,7 @@ pub fn interpret<'p, 'a: 'p>(
     arguments: Arguments<'p>,
     parsed: &'p Parsed<'a>,
 ) -> Result<Asked<'p>, UsageError<'p>>
-    ensures { plain_result ask result ≡ interpreted arguments.entry.options.now arguments.entry.output.colors (parsed_as parsed.now) }
+    ensures { plain_result ask result ≡ interpreted arguments.entry.options.now (screen arguments.entry.output) (parsed_as parsed.now) }
 {
     match parsed {
         Parsed::Topic(topic) => Ok(Asked::Help(*topic)),
@@ -243,7 +247,7 @@ fn interpret_line<'p, 'a: 'p>(
     arguments: Arguments<'p>,
     line: &'p CommandLine<'a>,
 ) -> Result<Asked<'p>, UsageError<'p>>
-    ensures { plain_result ask result ≡ line_interpreted arguments.entry.options.now arguments.entry.output.colors
+    ensures { plain_result ask result ≡ line_interpreted arguments.entry.options.now (screen arguments.entry.output)
         line.now.entry (words_of line.now.words) }
 {
     let words = &line.words;
@@ -306,9 +310,9 @@ fn is_lines(shown: Shown) -> bool
 fn read_request<'p, 'a: 'p>(
     operation: Operation,
     words: &'p Words<'a>,
-    output: Output,
+    output: Output<'p>,
 ) -> Result<Asked<'p>, UsageError<'p>>
-    ensures { plain_result ask result ≡ request_of output.colors operation (words_of words.now) }
+    ensures { plain_result ask result ≡ request_of (screen output.entry) operation (words_of words.now) }
 {
     let given = words.reading.given;
     let Some((patterns, rest)) = take_patterns(&words.patterns, &words.operands) else {
@@ -353,9 +357,9 @@ fn read_action<'a>(
     operation: Operation,
     given: Given<'a>,
     rest: FileList<'a>,
-    output: Output,
+    output: Output<'a>,
 ) -> Result<Action<'a>, UsageError<'a>>
-    ensures { plain_result action result ≡ action_of output.colors operation (given_by given.entry) (file_list rest.entry) }
+    ensures { plain_result action result ≡ action_of (screen output.entry) operation (given_by given.entry) (file_list rest.entry) }
 {
     let options = given.options;
     let args = rest.names;
@@ -366,7 +370,7 @@ fn read_action<'a>(
     match operation {
         Operation::Match => Ok(search_for(
             form,
-            Task::Match(selection_of(options, output.colors)),
+            Task::Match(selection_of(options), colors_in(options.color, output)),
             rest,
         )),
         Operation::Replace => replace_of(form, rest),
@@ -414,12 +418,11 @@ fn form_of(given: Given<'_>) -> Form<'_>
 }
 
 /// Returns what to show of which lines.
-fn selection_of(options: Options, terminal: bool) -> Selection
-    ensures { result ≡ selection_of terminal options }
+fn selection_of(options: Options) -> Selection
+    ensures { result ≡ selection_of options }
 {
     let selection = Selection {
         context: context_of(options),
-        paints: paints(options.color, terminal),
         ..options.selection
     };
     if options.json {
@@ -471,7 +474,18 @@ fn context_by(around: Around) -> Option<Context>
     })
 }
 
-/// Returns whether matches are in color.
+/// Returns the colors, if the output is in color.
+fn colors_in<'a>(color: Option<Color>, output: Output<'a>) -> Option<&'a Colors<'a>>
+    ensures { option_map (λ colors. plain_colors colors.now) result ≡ colors_in (screen output.entry) color }
+{
+    if paints(color, output.terminal) {
+        Some(output.colors)
+    } else {
+        None
+    }
+}
+
+/// Returns whether the output is in color.
 fn paints(color: Option<Color>, terminal: bool) -> bool
     ensures { result ≡ paints terminal color }
 {

@@ -99,7 +99,7 @@ pub enum Value {
     Count,
     /// How many lines around selected ones are shown.
     Context(Side),
-    /// When matches are in color.
+    /// When the output is in color.
     Color,
     /// The text of a page.
     Text,
@@ -524,7 +524,7 @@ pub const OPTIONS: [OptionEntry; 38] = [
             kind: "WHEN (always, never or auto)",
         }),
         scope: OF_MATCH,
-        line: "      --color[=WHEN]        matches in color: always, never, or auto, if the\n                            output is a terminal; auto by default\n",
+        line: "      --color[=WHEN]        in color, by GREP_COLORS: always, never, or auto, if\n                            the output is a terminal; auto by default\n",
     },
     OptionEntry {
         short: None,

@@ -1,10 +1,12 @@
 //! What to do with each line.
 
+use crate::colors::Colors;
+
 /// A task for the lines of a text.
 #[derive(Clone, Copy)]
 pub enum Task<'a> {
-    /// Show the lines that match, or what the options select.
-    Match(Selection),
+    /// Show the lines that match, or what the options select, in these colors if there are any.
+    Match(Selection, Option<&'a Colors<'a>>),
     /// Replace each match by the expansion of this template.
     Replace(&'a str),
 }
@@ -26,8 +28,6 @@ pub struct Selection {
     pub max_count: Option<u64>,
     /// Which other lines are shown: none by default.
     pub context: Option<Context>,
-    /// Whether matches are in color.
-    pub paints: bool,
 }
 
 /// How many lines around selected ones are shown. There is a separator between lines that are not adjacent.

@@ -158,7 +158,7 @@ fn read_count(text: &str) -> Option<u64>
     text.parse::<u64>().ok()
 }
 
-/// Sets when matches are in color.
+/// Sets when the output is in color.
 fn with_color(options: Options, when: &str) -> Option<Options>
     ensures { result ≡ with_color when.now options }
 {

@@ -1,5 +1,6 @@
 use Rattle.std.proofs.Common.{◌≡◌, ◌∙◌, List, ap, length, map, subst, sym}
 use Rattle.regex_lines.specs.InLine.{AreInLine, shown_by}
+use Rattle.regex_lines.specs.Paint.{line_paint_of}
 use Rattle.regex_lines.specs.Prefix.{text_of}
 use Rattle.regex_lines.specs.Reply.{ShowsIf, TextMatches, matches_of, run_of}
 use Rattle.regex_lines.specs.declared.runs.TextMatches as code
@@ -31,11 +32,12 @@ returns-clause-selected c = (
 pub returns-then-selected-clause-shows : goal.returns-then-selected-clause-shows
 returns-then-selected-clause-shows c =
     let r = c.args.searcher.now.regex.now in
-    let s = c.args.selection in
+    let shown = c.args.show.shown in
+    let p = line_paint_of c.args.show.paint in
     let line = c.args.line.bytes.now in
     let texts = map run_of c.args.line.texts.now in
     let prefix = text_of c.args.prefix in
     let bytes = c.in_ok-bytes.bytes.items in
-    subst (λ selected. ShowsIf r line texts selected s prefix bytes) (sym c.if-selected.true)
-    (by_matches r line texts (map matches_of c.in_ok-found.found.items) s.shown s.paints prefix bytes c.requires.shows c.in_ok-found.ensures.searched
-    (subst (λ (fs : List code.TextMatches). bytes ≡ shown_by r line s.shown s.paints prefix (map matches_of fs)) c.deref-then-selected.ensures.value c.in_ok-bytes.ensures))
+    subst (λ selected. ShowsIf r line texts selected shown p prefix bytes) (sym c.if-selected.true)
+    (by_matches r line texts (map matches_of c.in_ok-found.found.items) shown p prefix bytes c.requires.shows c.in_ok-found.ensures.searched
+    (subst (λ (fs : List code.TextMatches). bytes ≡ shown_by r line shown p prefix (map matches_of fs)) c.deref-then-selected.ensures.value c.in_ok-bytes.ensures))
