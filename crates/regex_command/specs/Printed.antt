@@ -99,12 +99,12 @@ IsDue dialect setting text failure =
 -- a job that changes lines
 abbrev pub changes : Job → Bool
 changes (matching s colors) = false
-changes (replacing template) = true
+changes (replacing p) = true
 
 -- whether nothing is shown of selected lines
 abbrev pub is_silent : Job → Bool
 is_silent (matching s colors) = is_nothing s.shown
-is_silent (replacing template) = false
+is_silent (replacing p) = false
 
 -- whether inputs may be left unread: none is, or nothing is shown, and a line is selected
 abbrev pub is_complete : Job → (any : Bool) → (all_read : Bool) → Bool

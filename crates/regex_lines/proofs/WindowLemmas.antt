@@ -44,7 +44,6 @@ module _ (r : Regex) (job : Job) (place : Named) where
     pub due : p.due ≡ w.due
     pub hidden : w.hidden ≡ last_of (lines_before (context_of job)) p.hidden
     pub left_out : w.left_out ≡ ltb (lines_before (context_of job)) (length p.hidden)
-    pub few : p.selected ≤ p.lines
     pub kept : length p.hidden ≤ p.lines
 
   pub starts : IsAt first_window at_start
@@ -54,7 +53,6 @@ module _ (r : Regex) (job : Job) (place : Named) where
     due = refl;
     hidden = sym (none_of (lines_before (context_of job)));
     left_out = grind (arith, nat_tests);
-    few = omega arith;
     kept = omega arith;
   }
 
@@ -67,10 +65,7 @@ module _ (r : Regex) (job : Job) (place : Named) where
 
   module _ (w : Window) (p : Progress) (is : IsAt w p) where
     pub counted : IsCounted w
-    counted = record {
-      few = omega (arith, is.few, is.number, is.selected);
-      kept = omega (arith, is.kept, is.number, ap length is.hidden, length-drop (length p.hidden - lines_before (context_of job)) p.hidden);
-    }
+    counted = omega (arith, is.kept, is.number, ap length is.hidden, length-drop (length p.hidden - lines_before (context_of job)) p.hidden)
 
     pub short : length w.hidden ≤ lines_before (context_of job)
     short = omega (arith, ap length is.hidden, last_short (lines_before (context_of job)) p.hidden)
@@ -83,19 +78,20 @@ module _ (r : Regex) (job : Job) (place : Named) where
         by m n follows left out bytes same left_same i = cond (cond (eqb (same i) 0) follows (left_same i)) bytes []
 
     module _ (line : Line) (new : Window) (added : List ℕ) where
-      found_at : (selected : Bool) (bytes : List ℕ) → IsFound r job place (is_enough job w.selected) (w.number + 1) line selected bytes →
-          IsFound r job place (is_enough job p.selected) (p.lines + 1) line selected bytes
-      found_at selected bytes found =
-          subst (λ n. IsFound r job place (is_enough job n) (p.lines + 1) line selected bytes) (sym is.selected)
-          (subst (λ n. IsFound r job place (is_enough job w.selected) (n + 1) line selected bytes) (sym is.number) found)
+      found_at : (selected : Bool) (count : ℕ) (bytes : List ℕ) → IsFound r job place (is_enough job w.selected) (w.number + 1) line selected count bytes →
+          IsFound r job place (is_enough job p.selected) (p.lines + 1) line selected count bytes
+      found_at selected count bytes found =
+          subst (λ n. IsFound r job place (is_enough job n) (p.lines + 1) line selected count bytes) (sym is.selected)
+          (subst (λ n. IsFound r job place (is_enough job w.selected) (n + 1) line selected count bytes) (sym is.number) found)
 
-      if_selected : (bytes : List ℕ) → IsFound r job place (is_enough job w.selected) (w.number + 1) line true bytes → IsShown r job place true w line.bytes bytes new added →
+      if_selected : (count : ℕ) (bytes : List ℕ) → IsFound r job place (is_enough job w.selected) (w.number + 1) line true count bytes →
+          IsShown r job place true w line.bytes count bytes new added →
           Further p line new added
-      if_selected bytes found ((front, (before, near, front_is), added_is), new_is) =
+      if_selected count bytes found ((front, (before, near, front_is), added_is), new_is) =
           let apart = separator_of job place w in
           let q : Progress = record {
             lines = p.lines + 1;
-            selected = p.selected + 1;
+            selected = p.selected + count;
             due = lines_after (context_of job);
             hidden = [];
             written = p.written ++ (apart ++ (before ++ bytes));
@@ -104,8 +100,9 @@ module _ (r : Regex) (job : Job) (place : Named) where
             next = q;
             searched = record {
               selected = true;
+              count = count;
               bytes = bytes;
-              found = found_at true bytes found;
+              found = found_at true count bytes found;
               shown = record {
                 before = before;
                 near = subst (λ lines. AreNear r job place (p.lines + 1 - length lines) lines before) is.hidden
@@ -117,26 +114,27 @@ module _ (r : Regex) (job : Job) (place : Named) where
             };
             at = subst (λ w. IsAt w q) (sym new_is) (record {
               number = ap (λ n. n + 1) is.number;
-              selected = ap (λ n. n + 1) is.selected;
+              selected = ap (λ n. n + count) is.selected;
               due = refl;
               hidden = sym (none_of (lines_before (context_of job)));
               left_out = grind (arith, nat_tests);
-              few = omega (arith, is.few);
               kept = omega arith;
             });
             written = ap (λ bytes. p.written ++ bytes) (sym (added_is ∙ ap (λ front. front ++ bytes) front_is ∙ append_assoc apart before bytes));
           }
 
-      if_other : (bytes : List ℕ) → IsFound r job place (is_enough job w.selected) (w.number + 1) line false bytes → IsOther r job place w line.bytes new added →
+      if_other : (count : ℕ) (bytes : List ℕ) → IsFound r job place (is_enough job w.selected) (w.number + 1) line false count bytes →
+          IsOther r job place w line.bytes new added →
           Further p line new added
-      if_other bytes found (inl (due, near, new_is)) =
+      if_other count bytes found (inl (due, near, new_is)) =
           let q : Progress = record p { lines = p.lines + 1; due = p.due - 1; written = p.written ++ added } in
           record {
             next = q;
             searched = record {
               selected = false;
+              count = count;
               bytes = bytes;
-              found = found_at false bytes found;
+              found = found_at false count bytes found;
               shown = inl (omega (arith, due, is.due), (added, subst (λ n. IsNear r job place (n + 1) line.bytes added) (sym is.number) near, refl));
             };
             at = subst (λ w. IsAt w q) (sym new_is) (record {
@@ -145,19 +143,19 @@ module _ (r : Regex) (job : Job) (place : Named) where
               due = ap (λ n. n - 1) is.due;
               hidden = is.hidden;
               left_out = is.left_out;
-              few = omega (arith, is.few);
               kept = omega (arith, is.kept);
             });
             written = refl;
           }
-      if_other bytes found (inr (due, none, new_is)) =
+      if_other count bytes found (inr (due, none, new_is)) =
           let q : Progress = record p { lines = p.lines + 1; hidden = p.hidden ++ line.bytes ∷ [] } in
           record {
             next = q;
             searched = record {
               selected = false;
+              count = count;
               bytes = bytes;
-              found = found_at false bytes found;
+              found = found_at false count bytes found;
               shown = inr (is.due ∙ due, refl);
             };
             at = subst (λ w. IsAt w q) (sym new_is) (record {
@@ -168,7 +166,6 @@ module _ (r : Regex) (job : Job) (place : Named) where
                   ∙ last_one_more (lines_before (context_of job)) p.hidden line.bytes;
               left_out = more_left_out (lines_before (context_of job)) (length w.hidden) (length p.hidden) (length (p.hidden ++ line.bytes ∷ []))
                   (ap length is.hidden ∙ length-drop (length p.hidden - lines_before (context_of job)) p.hidden) (length-append p.hidden (line.bytes ∷ []));
-              few = omega (arith, is.few);
               kept = omega (arith, is.kept, length-append p.hidden (line.bytes ∷ []));
             });
             written = sym (ap (λ added. p.written ++ added) none ∙ append-nil p.written);
@@ -177,13 +174,13 @@ module _ (r : Regex) (job : Job) (place : Named) where
           more_left_out : (n few all more : ℕ) → few ≡ all - (all - n) → more ≡ all + 1 → ltb n (few + 1) ≡ ltb n more
           more_left_out n few all more few_is more_is = grind (arith, nat_tests)
 
-      either : (selected : Bool) (bytes : List ℕ) → IsFound r job place (is_enough job w.selected) (w.number + 1) line selected bytes →
-          IsShown r job place selected w line.bytes bytes new added → Further p line new added
-      either true bytes found shown = if_selected bytes found shown
-      either false bytes found shown = if_other bytes found shown
+      either : (selected : Bool) (count : ℕ) (bytes : List ℕ) → IsFound r job place (is_enough job w.selected) (w.number + 1) line selected count bytes →
+          IsShown r job place selected w line.bytes count bytes new added → Further p line new added
+      either true count bytes found shown = if_selected count bytes found shown
+      either false count bytes found shown = if_other count bytes found shown
 
       pub next_line : IsNextLine r job place w line new added → Further p line new added
-      next_line next = either next.selected next.bytes next.found next.shown
+      next_line next = either next.selected next.count next.bytes next.found next.shown
 
 -- Nothing is written in front of a selected line where no separator is, and no line is in the window.
 pub nothing_in_front : (r : Regex) (job : Job) (place : Named) (w : Window) (apart : Bool) →

@@ -25,4 +25,4 @@ module _ (r : Regex) (line : List ℕ) where
   -- Its matches are shown if those lines are selected that have none.
   abbrev pub ShowsNear : Job → (prefix bytes : List ℕ) → Type 0
   ShowsNear (matching s colors) prefix bytes = ShowsNearBy s.invert s.shown (line_paint_in colors true s.invert) prefix bytes
-  ShowsNear (replacing template) prefix bytes = bytes ≡ []
+  ShowsNear (replacing p) prefix bytes = bytes ≡ []

@@ -1,15 +1,15 @@
 -- What is written for a line: the texts in which a pattern is searched, lines, matches, and matches as JSON (RFC 8259).
-use Rattle.std.specs.Prelude.{◌≡◌, ℕ, zero, suc, ◌+◌, Bool, not, List, [], ◌∷◌, ◌++◌, All, drop, if◌then◌else◌, length, map, take, ◌==◌, codes, slice_range, flat_map, Option, Some, None, ◌↔◌, true, false, IsTrue}
+use Rattle.std.specs.Prelude.{◌≡◌, ℕ, zero, suc, ◌+◌, ◌-◌, Bool, not, List, [], ◌∷◌, ◌++◌, All, drop, if◌then◌else◌, length, map, nat_lt, take, ◌==◌, codes, slice_range, flat_map, Option, Some, None, ◌↔◌, true, false, IsTrue}
 use Rattle.std.specs.Str.{is_utf8}
 use Rattle.std.specs.Str.Lossy.{utf8_invalid_len, utf8_valid_len}
 use Rattle.std.specs.Fmt.{decimal}
 use Rattle.std.specs.List.{Any}
-use Rattle.regex_options.specs.Plain.{Job, matching, replacing}
+use Rattle.regex_options.specs.Plain.{Job, Replacement, matching, replacing}
 use Rattle.regex_options.specs.declared.task.Shown.TheVariants.{Lines, Matches, Json, Count, Names, Nothing}
 use Rattle.regex_options.specs.declared.task.Shown.{Shown}
 use Rattle.regress.specs.Compiled.{outcomes_of, groups_of, match_of}
 use Rattle.regress.specs.Groups.{group_span}
-use Rattle.regress.specs.Replaced.{ReplacesAll}
+use Rattle.regress.specs.Replaced.{ReplacesAll, ReplacesFirstN}
 use Rattle.regress.specs.Searched.{MatchesSomewhere}
 use Rattle.regress.specs.declared.pattern.Regex.{Regex}
 use Rattle.regress_display.specs.Fault.{json_text}
@@ -168,24 +168,50 @@ module _ (r : Regex) (line : List ℕ) (texts : List Run) where
 abbrev pub feed_if : Bool → List ℕ
 feed_if ended = if ended then codes "\n" else []
 
+-- the number, or the limit if that is less
+abbrev pub at_most : (limit : Option ℕ) → ℕ → ℕ
+at_most None n = n
+at_most (Some limit) n = if nat_lt limit n then limit else n
+
+-- how many matches are in texts
+abbrev pub match_count : List TextMatches → ℕ
+match_count [] = 0
+match_count (f ∷ fs) = length f.matches + match_count fs
+
+-- how many matches in the texts are replaced: all, or those up to a limit
+abbrev pub IsReplacedCount : Regex → (texts : List Run) → (limit : Option ℕ) → (count : ℕ) → Type 0
+IsReplacedCount r texts limit count = (found : List TextMatches) × AreSearched r texts found × (count ≡ at_most limit (match_count found))
+
+module _ (r : Regex) (template : List ℕ) where
+  -- The text with its matches replaced, or with the first ones up to a limit, and how many more may be replaced after it.
+  abbrev pub ReplacesUpTo : (limit : Option ℕ) → (text out : List ℕ) → (left : Option ℕ) → Type 0
+  ReplacesUpTo None text out left = ReplacesAll text (outcomes_of r text) (λ m. expansion text m (groups_of r) template) out × (left ≡ None)
+  ReplacesUpTo (Some n) text out left = (count : ℕ)
+      × ReplacesFirstN text (outcomes_of r text) n (λ m. expansion text m (groups_of r) template) out count × (left ≡ Some (n - count))
+
 module _ (r : Regex) (line : List ℕ) where
-  -- the line from an offset on, with the matches in these texts replaced
-  abbrev pub IsReplacedFrom : (template : List ℕ) → (from : ℕ) → List Run → (out : List ℕ) → Type 0
-  IsReplacedFrom template from [] out = out ≡ drop from line
-  IsReplacedFrom template from (run ∷ runs) out = (text : List ℕ) × (rest : List ℕ)
-      × ReplacesAll run.text (outcomes_of r run.text) (λ m. expansion run.text m (groups_of r) template) text
-      × IsReplacedFrom template (run.start + length run.text) runs rest × (out ≡ slice_range line from run.start ++ (text ++ rest))
+  -- the line from an offset on, with the matches in these texts replaced, or the first ones up to a limit
+  abbrev pub IsReplacedFrom : (template : List ℕ) → (limit : Option ℕ) → (from : ℕ) → List Run → (out : List ℕ) → Type 0
+  IsReplacedFrom template limit from [] out = out ≡ drop from line
+  IsReplacedFrom template limit from (run ∷ runs) out = (text : List ℕ) × (rest : List ℕ) × (left : Option ℕ)
+      × ReplacesUpTo r template limit run.text text left
+      × IsReplacedFrom template left (run.start + length run.text) runs rest × (out ≡ slice_range line from run.start ++ (text ++ rest))
 
   -- the line with the matches in its texts replaced, and a line feed if it has one
-  abbrev pub ShowsReplaced : (texts : List Run) → (ended : Bool) → (template bytes : List ℕ) → Type 0
-  ShowsReplaced texts ended template bytes = (out : List ℕ) × IsReplacedFrom template 0 texts out × (bytes ≡ out ++ feed_if ended)
+  abbrev pub ShowsReplaced : (texts : List Run) → (ended : Bool) → Replacement → (bytes : List ℕ) → Type 0
+  ShowsReplaced texts ended p bytes = (out : List ℕ) × IsReplacedFrom p.template p.limit 0 texts out × (bytes ≡ out ++ feed_if ended)
 
-  -- Whether the line is selected by these texts, and what is written for it.
-  abbrev pub IsReplyIn : (texts : List Run) → (ended : Bool) → Job → (prefix : List ℕ) → (selected : Bool) → (bytes : List ℕ) → Type 0
-  IsReplyIn texts ended (matching s colors) prefix selected bytes =
-      IsSelected r texts s.invert selected × ShowsIf r line texts selected s.shown (line_paint_in colors false s.invert) prefix bytes
-  IsReplyIn texts ended (replacing template) prefix selected bytes = (selected ≡ true) × ShowsReplaced texts ended template bytes
+  -- The line is replaced, or only the matches are counted that would be.
+  abbrev pub Replaces : (counts : Bool) → (texts : List Run) → (ended : Bool) → Replacement → (count : ℕ) → (bytes : List ℕ) → Type 0
+  Replaces false texts ended p count bytes = (count ≡ 1) × ShowsReplaced texts ended p bytes
+  Replaces true texts ended p count bytes = IsReplacedCount r texts p.limit count × (bytes ≡ [])
+
+  -- Whether the line is selected by these texts, for how many it counts then, and what is written for it.
+  abbrev pub IsReplyIn : (texts : List Run) → (ended : Bool) → Job → (prefix : List ℕ) → (selected : Bool) → (count : ℕ) → (bytes : List ℕ) → Type 0
+  IsReplyIn texts ended (matching s colors) prefix selected count bytes =
+      IsSelected r texts s.invert selected × (count ≡ 1) × ShowsIf r line texts selected s.shown (line_paint_in colors false s.invert) prefix bytes
+  IsReplyIn texts ended (replacing p) prefix selected count bytes = (selected ≡ true) × Replaces p.counts texts ended p count bytes
 
   -- the same for the texts of the line
-  abbrev pub IsReply : (ended : Bool) → Job → (prefix : List ℕ) → (selected : Bool) → (bytes : List ℕ) → Type 0
-  IsReply ended job prefix selected bytes = IsReplyIn (texts_of line) ended job prefix selected bytes
+  abbrev pub IsReply : (ended : Bool) → Job → (prefix : List ℕ) → (selected : Bool) → (count : ℕ) → (bytes : List ℕ) → Type 0
+  IsReply ended job prefix selected count bytes = IsReplyIn (texts_of line) ended job prefix selected count bytes

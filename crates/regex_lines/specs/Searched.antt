@@ -87,8 +87,9 @@ pub record AreLinesOf (multiline : Bool) (input : Option (List ℕ)) (ended : Bo
   pub whole : split_text multiline text ≡ lines ++ others
   pub all : ended ≡ true → others ≡ []
 
--- how far an input is searched: the number of lines, the number of selected lines, how many of the next lines are shown after
--- the last selected one, the lines since the last one that is shown, and what was written
+-- how far an input is searched: the number of lines, the number of selected lines, or of matches if these are counted, how
+-- many of the next lines are shown after the last selected one, the lines since the last one that is shown, and what was
+-- written
 pub record Progress : Type 0 where
   pub lines : ℕ
   pub selected : ℕ
@@ -107,12 +108,12 @@ reaches (Some limit) n = nat_le limit n
 -- whether lines are numbered
 abbrev pub has_numbers : Job → Bool
 has_numbers (matching s colors) = s.numbers
-has_numbers (replacing template) = false
+has_numbers (replacing p) = false
 
 -- the colors, if there are any
 abbrev pub colors_of : Job → Option Colors
 colors_of (matching s colors) = colors
-colors_of (replacing template) = None
+colors_of (replacing p) = None
 
 -- the name of an input and what is after it: this, or a zero byte in place of it
 abbrev pub name_with : Option Colors → Named → (after : List ℕ) → List ℕ
@@ -138,7 +139,7 @@ needs_one Nothing = true
 -- this many lines of an input are enough
 abbrev pub is_enough : Job → (selected : ℕ) → Bool
 is_enough (matching s colors) selected = reaches s.max_count selected || (needs_one s.shown && nat_lt 0 selected)
-is_enough (replacing template) selected = false
+is_enough (replacing p) selected = false
 
 -- whether matches are shown as JSON
 abbrev pub is_json : Shown → Bool
@@ -151,7 +152,7 @@ is_json Nothing = false
 
 abbrev pub shows_json : Job → Bool
 shows_json (matching s colors) = is_json s.shown
-shows_json (replacing template) = false
+shows_json (replacing p) = false
 
 -- the number of a line and what is after it
 abbrev pub number_with : Option Colors → (number : ℕ) → (mark : List ℕ) → List ℕ
@@ -177,15 +178,15 @@ shown_at_end Count colors place selected = name_of colors place (mark_of colors 
 shown_at_end Names colors place selected = if nat_lt 0 selected then name_with colors place (codes "\n") else []
 shown_at_end Nothing colors place selected = []
 
--- the same, where only lines that match are counted
+-- what is written at the end of an input; for `replace` the number of matches, if they are counted
 abbrev pub written_at_end : Job → Named → (selected : ℕ) → List ℕ
 written_at_end (matching s colors) place selected = shown_at_end s.shown colors place selected
-written_at_end (replacing template) place selected = []
+written_at_end (replacing p) place selected = if p.counts then shown_at_end Count None place selected else []
 
 -- how many lines around selected ones are shown
 abbrev pub context_of : Job → Option Context
 context_of (matching s colors) = s.context
-context_of (replacing template) = None
+context_of (replacing p) = None
 
 abbrev pub lines_before : Option Context → ℕ
 lines_before None = 0
@@ -226,14 +227,14 @@ module _ (r : Regex) (job : Job) (place : Named) where
   AreNear number lines bytes = FoldsTo IsNearStep (number, []) lines (number + length lines, bytes)
 
   -- A line that is selected is shown after the last lines before it that are hidden so far.
-  pub record IsSelectedLine (p : Progress) (bytes : List ℕ) (q : Progress) : Type 0 where
+  pub record IsSelectedLine (p : Progress) (count : ℕ) (bytes : List ℕ) (q : Progress) : Type 0 where
     pub before : List ℕ
     pub near : let lines = last_of (lines_before (context_of job)) p.hidden in AreNear (p.lines + 1 - length lines) lines before
     pub apart : List ℕ
     pub apart_is : apart ≡ (if is_apart job place p then separator (colors_of job) (context_of job) else [])
     pub next : q ≡ record {
       lines = p.lines + 1;
-      selected = p.selected + 1;
+      selected = p.selected + count;
       due = lines_after (context_of job);
       hidden = [];
       written = p.written ++ (apart ++ (before ++ bytes));
@@ -246,22 +247,24 @@ module _ (r : Regex) (job : Job) (place : Named) where
       × (q ≡ record p { lines = p.lines + 1; due = p.due - 1; written = p.written ++ bytes })))
       ⊎ ((p.due ≡ 0) × (q ≡ record p { lines = p.lines + 1; hidden = p.hidden ++ line ∷ [] }))
 
-  -- Whether a line is selected, and what is written for it then: it is not once enough lines are.
-  abbrev pub IsFound : (enough : Bool) → (number : ℕ) → Line → (selected : Bool) → (bytes : List ℕ) → Type 0
-  IsFound true number line selected bytes = selected ≡ false
-  IsFound false number line selected bytes = IsReply r line.bytes line.ended job (prefix_of false job place number) selected bytes
+  -- Whether a line is selected, for how many it counts, and what is written for it then: it is not once enough lines are.
+  abbrev pub IsFound : (enough : Bool) → (number : ℕ) → Line → (selected : Bool) → (count : ℕ) → (bytes : List ℕ) → Type 0
+  IsFound true number line selected count bytes = selected ≡ false
+  IsFound false number line selected count bytes =
+      IsReply r line.bytes line.ended job (prefix_of false job place number) selected count bytes
 
   -- One line further.
-  abbrev pub IsShownLine : (selected : Bool) → Progress → (line : List ℕ) → (bytes : List ℕ) → Progress → Type 0
-  IsShownLine true p line bytes q = IsSelectedLine p bytes q
-  IsShownLine false p line bytes q = IsOtherLine p line q
+  abbrev pub IsShownLine : (selected : Bool) → Progress → (line : List ℕ) → (count : ℕ) → (bytes : List ℕ) → Progress → Type 0
+  IsShownLine true p line count bytes q = IsSelectedLine p count bytes q
+  IsShownLine false p line count bytes q = IsOtherLine p line q
 
   -- One line further, and it is searched unless enough lines are selected.
   pub record IsSearchedLine (p : Progress) (line : Line) (q : Progress) : Type 0 where
     pub selected : Bool
+    pub count : ℕ
     pub bytes : List ℕ
-    pub found : IsFound (is_enough job p.selected) (p.lines + 1) line selected bytes
-    pub shown : IsShownLine selected p line.bytes bytes q
+    pub found : IsFound (is_enough job p.selected) (p.lines + 1) line selected count bytes
+    pub shown : IsShownLine selected p line.bytes count bytes q
 
 module _ (r : Regex) (job : Job) where
   -- One line further: the line is passed over if enough lines are selected before it, and those after them are shown.
@@ -308,15 +311,15 @@ are_in_front IfSeveral several = several
 are_in_front Always several = true
 are_in_front Never several = false
 
--- the same, where only lines that match have something in front
+-- The same, where lines that are replaced have nothing in front.
 abbrev pub shows_names : Job → (several : Bool) → Bool
 shows_names (matching s colors) several = are_in_front s.file_names several
-shows_names (replacing template) several = false
+shows_names (replacing p) several = p.counts && several
 
 -- whether zero bytes are after names
 abbrev pub has_nulls : Job → Bool
 has_nulls (matching s colors) = s.null
-has_nulls (replacing template) = false
+has_nulls (replacing p) = false
 
 -- how an input is shown
 abbrev pub place_of : Job → (multiline several : Bool) → (file : List ℕ) → Named
@@ -356,7 +359,7 @@ is_nothing Nothing = true
 -- No line is to be selected; or one is, and nothing is shown.
 abbrev pub has_ended : Job → (any : Bool) → Bool
 has_ended (matching s colors) any = reaches s.max_count 0 || (any && is_nothing s.shown)
-has_ended (replacing template) any = false
+has_ended (replacing p) any = false
 
 module _ (r : Regex) (job : Job) where
   -- what is written for an input: what its lines yield, and what is shown at its end

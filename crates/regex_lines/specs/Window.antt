@@ -5,7 +5,7 @@ use Rattle.regress.specs.declared.pattern.Regex.{Regex}
 use Rattle.regex_lines.specs.Searched.{AreNear, IsFound, IsNear, Line, Named, colors_of, context_of, is_enough, last_of, lines_after, lines_before, separator}
 use Rattle.regex_lines.specs.declared.window.Window as code
 
--- The numbers of lines and of selected lines, how many lines are shown after the last selected one, the last lines since
+-- The numbers of lines and of selected lines or matches, how many lines are shown after the last selected one, the last lines since
 -- then that are hidden, as many as are shown before a selected one, and whether more are hidden.
 pub record Window : Type 0 where
   pub number : ℕ
@@ -24,10 +24,9 @@ window_of w = record {
   left_out = w.left_out;
 }
 
--- No line is selected or hidden twice.
-pub record IsCounted (w : Window) : Type 0 where
-  pub few : w.selected ≤ w.number
-  pub kept : length w.hidden ≤ w.number
+-- No line is hidden twice.
+abbrev pub IsCounted : Window → Type 0
+IsCounted w = length w.hidden ≤ w.number
 
 -- before the first line
 abbrev pub first_window : Window
@@ -45,9 +44,9 @@ with_hidden before line w = record w {
 abbrev pub with_after : Window → Window
 with_after w = record w { number = w.number + 1; due = w.due - 1 }
 
--- the next window where the line is selected
-abbrev pub with_selected : (after : ℕ) → Window → Window
-with_selected after w = record { number = w.number + 1; selected = w.selected + 1; due = after; hidden = []; left_out = false }
+-- the next window where the line is selected, which makes this many
+abbrev pub with_selected : (selected after : ℕ) → Window → Window
+with_selected selected after w = record { number = w.number + 1; selected = selected; due = after; hidden = []; left_out = false }
 
 -- whether lines are left out before those in the window
 abbrev pub is_left_out : Named → Window → Bool
@@ -69,14 +68,16 @@ module _ (r : Regex) (job : Job) (place : Named) where
       ⊎ ((old.due ≡ 0) × (added ≡ []) × (new ≡ with_hidden (lines_before (context_of job)) line old))
 
   -- what is written for a line
-  abbrev pub IsShown : (selected : Bool) → Window → (line bytes : List ℕ) → Window → (added : List ℕ) → Type 0
-  IsShown true old line bytes new added =
-      ((front : List ℕ) × IsInFront old front × (added ≡ front ++ bytes)) × (new ≡ with_selected (lines_after (context_of job)) old)
-  IsShown false old line bytes new added = IsOther old line new added
+  abbrev pub IsShown : (selected : Bool) → Window → (line : List ℕ) → (count : ℕ) → (bytes : List ℕ) → Window → (added : List ℕ) → Type 0
+  IsShown true old line count bytes new added =
+      ((front : List ℕ) × IsInFront old front × (added ≡ front ++ bytes))
+      × (new ≡ with_selected (old.selected + count) (lines_after (context_of job)) old)
+  IsShown false old line count bytes new added = IsOther old line new added
 
   -- The next line was searched, and this was written.
   pub record IsNextLine (old : Window) (line : Line) (new : Window) (added : List ℕ) : Type 0 where
     pub selected : Bool
+    pub count : ℕ
     pub bytes : List ℕ
-    pub found : IsFound r job place (is_enough job old.selected) (old.number + 1) line selected bytes
-    pub shown : IsShown selected old line.bytes bytes new added
+    pub found : IsFound r job place (is_enough job old.selected) (old.number + 1) line selected count bytes
+    pub shown : IsShown selected old line.bytes count bytes new added

@@ -42,7 +42,7 @@ pub enum Failure<'a> {
         name: &'a str,
         offset: usize,
     },
-    /// The input with this name has 2^64 lines.
+    /// The input with this name has 2^64 lines, or matches to count.
     TooLong(String),
 }
 
@@ -112,7 +112,7 @@ fn write_message<E: Write>(failure: Failure<'_>, err: &mut E) -> io::Result<()> 
         }
         Failure::TooLong(name) => {
             write_name(&name, err)?;
-            writeln!(err, "too many lines")
+            writeln!(err, "too many lines or matches")
         }
     }
 }

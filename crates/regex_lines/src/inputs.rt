@@ -133,7 +133,7 @@ fn shows_names(task: Task<'_>, several: bool) -> bool
             FileNames::Always => true,
             FileNames::Never => false,
         },
-        Task::Replace(_) => false,
+        Task::Replace(replacement) => replacement.counts && several,
     }
 }
 

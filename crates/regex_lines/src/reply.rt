@@ -1,11 +1,11 @@
 //! What is written for a line.
-ghost use Rattle.std.specs.Prelude.{◌≡◌, ◌↔◌, ◌++◌, ℕ, List, All, IfErr, IfOk, IsTrue, OnOk, false, flat_map, if◌then◌else◌, length, map, not, option_map, true};
+ghost use Rattle.std.specs.Prelude.{◌≡◌, ◌↔◌, ◌++◌, ℕ, List, All, IfErr, IfOk, IfSome, IsTrue, OnOk, false, flat_map, if◌then◌else◌, length, map, not, option_map, string_bytes, true};
 ghost use Rattle.regex_options.specs.Colors.{plain_colors};
-ghost use Rattle.regex_options.specs.Plain.{job};
+ghost use Rattle.regex_options.specs.Plain.{job, replacement as replacement_of};
 ghost use Rattle.regex_lines.specs.Ending.{IsCostly, IsSearchError};
 ghost use Rattle.regex_lines.specs.InLine.{AreInLine, AreInText, HasMatch, needs_matches, shown_by};
 ghost use Rattle.regex_lines.specs.Near.{ShowsNear, ShowsNearBy, plain};
-ghost use Rattle.regex_lines.specs.Reply.{IsReplacedFrom, IsReply, IsReplyIn, IsSelected, MatchesIn, Shows, ShowsIf, ShowsReplaced, ended, feed_if, matches_shown, AreSearched, matches_of, run_of, texts_of, utf8_runs, whole};
+ghost use Rattle.regex_lines.specs.Reply.{IsReplacedCount, IsReplacedFrom, IsReply, IsReplyIn, IsSelected, MatchesIn, ReplacesUpTo, Shows, ShowsIf, ShowsReplaced, at_most, ended, feed_if, match_count, matches_shown, AreSearched, matches_of, run_of, texts_of, utf8_runs, whole};
 ghost use Rattle.regex_lines.specs.Paint.{line_paint_in, line_paint_of, paint_of, painted, painted_rest};
 ghost use Rattle.regex_lines.specs.Prefix.{text_of};
 
@@ -15,7 +15,7 @@ use crate::painting::{add_rest, painted_line};
 use crate::prefix::{Prefix, prefix_text};
 use crate::runs::{Run, TextMatches, texts_of, utf8_runs};
 use crate::searcher::Searcher;
-use regex_options::{Colors, Selection, Shown, Task};
+use regex_options::{Colors, Replacement, Selection, Shown, Task};
 use regress::SearchError;
 use std::alloc::{AllocError, Global};
 use std::str;
@@ -29,10 +29,12 @@ struct Show<'a> {
     paint: LinePaint<'a>,
 }
 
-/// Whether a line is selected, and what is written for it.
+/// Whether a line is selected, for how many it counts then, and what is written for it.
 #[derive(Drop)]
 pub(crate) struct Reply {
     pub(crate) selected: bool,
+    /// 1, or the number of its matches that are replaced if these are counted.
+    pub(crate) count: u64,
     pub(crate) bytes: Vec<u8>,
 }
 
@@ -52,7 +54,7 @@ pub(crate) fn reply_to(
     line: &[u8],
     ended: bool,
 ) -> Result<Reply, SearchError>
-    ensures reply { IfOk result (λ reply. IsReply searcher.now.regex.now line.now ended (job prefix.entry.task) (text_of prefix.entry) reply.selected reply.bytes.items) }
+    ensures reply { IfOk result (λ reply. IsReply searcher.now.regex.now line.now ended (job prefix.entry.task) (text_of prefix.entry) reply.selected reply.count reply.bytes.items) }
     ensures failed { IfErr result (IsSearchError (IsCostly searcher.now.regex.now)) }
 {
     match str::from_utf8(line) {
@@ -131,7 +133,7 @@ fn reply_to_text(
     text: &str,
     ended: bool,
 ) -> Result<Reply, SearchError>
-    ensures reply { IfOk result (λ reply. IsReplyIn searcher.now.regex.now text.now (whole text.now) ended (job prefix.entry.task) (text_of prefix.entry) reply.selected reply.bytes.items) }
+    ensures reply { IfOk result (λ reply. IsReplyIn searcher.now.regex.now text.now (whole text.now) ended (job prefix.entry.task) (text_of prefix.entry) reply.selected reply.count reply.bytes.items) }
     ensures failed { IfErr result (IsSearchError (IsCostly searcher.now.regex.now)) }
 {
     let texts = [Run { start: 0, text }];
@@ -150,7 +152,7 @@ fn reply_to_runs(
     line: &[u8],
     ended: bool,
 ) -> Result<Reply, SearchError>
-    ensures reply { IfOk result (λ reply. IsReplyIn searcher.now.regex.now line.now (utf8_runs line.now) ended (job prefix.entry.task) (text_of prefix.entry) reply.selected reply.bytes.items) }
+    ensures reply { IfOk result (λ reply. IsReplyIn searcher.now.regex.now line.now (utf8_runs line.now) ended (job prefix.entry.task) (text_of prefix.entry) reply.selected reply.count reply.bytes.items) }
     ensures failed { IfErr result (IsSearchError (IsCostly searcher.now.regex.now)) }
 {
     let texts = utf8_runs(searcher.alloc, line)?;
@@ -170,16 +172,22 @@ fn reply_in(
 ) -> Result<Reply, SearchError>
     requires { AreInLine (length line.bytes.now) 0 (map run_of line.texts.now) }
     ensures reply { IfOk result (λ reply. IsReplyIn searcher.now.regex.now line.entry.bytes.now (map run_of line.entry.texts.now) line.entry.ended (job prefix.entry.task)
-        (text_of prefix.entry) reply.selected reply.bytes.items) }
+        (text_of prefix.entry) reply.selected reply.count reply.bytes.items) }
     ensures failed { IfErr result (IsSearchError (IsCostly searcher.now.regex.now)) }
 {
     match prefix.task {
         Task::Match(selection, colors) => {
             selected(searcher, show_of(selection, colors, false), prefix, line)
         }
-        Task::Replace(template) => Ok(Reply {
+        Task::Replace(replacement) if replacement.counts => Ok(Reply {
             selected: true,
-            bytes: replaced(searcher, template, line)?,
+            count: replaced_count(searcher, replacement.limit, line.texts)?,
+            bytes: Vec::new(searcher.alloc),
+        }),
+        Task::Replace(replacement) => Ok(Reply {
+            selected: true,
+            count: 1,
+            bytes: replaced(searcher, replacement, line)?,
         }),
     }
 }
@@ -193,6 +201,7 @@ fn selected(
 ) -> Result<Reply, SearchError>
     requires { AreInLine (length line.bytes.now) 0 (map run_of line.texts.now) }
     ensures selected { IfOk result (λ reply. IsSelected searcher.now.regex.now (map run_of line.entry.texts.now) show.entry.invert reply.selected) }
+    ensures count { IfOk result (λ reply. reply.count ≡ 1) }
     ensures shows { IfOk result (λ reply. ShowsIf searcher.now.regex.now line.entry.bytes.now (map run_of line.entry.texts.now) reply.selected show.entry.shown (line_paint_of show.entry.paint) (text_of prefix.entry) reply.bytes.items) }
     ensures failed { IfErr result (IsSearchError (IsCostly searcher.now.regex.now)) }
 {
@@ -223,16 +232,25 @@ fn selected_by_test(
 ) -> Result<Reply, SearchError>
     requires { needs_matches show.shown (line_paint_of show.paint) ≡ false }
     ensures selected { IfOk result (λ reply. IsSelected searcher.now.regex.now (map run_of line.entry.texts.now) show.entry.invert reply.selected) }
+    ensures count { IfOk result (λ reply. reply.count ≡ 1) }
     ensures shows { IfOk result (λ reply. ShowsIf searcher.now.regex.now line.entry.bytes.now (map run_of line.entry.texts.now) reply.selected show.entry.shown (line_paint_of show.entry.paint) (text_of prefix.entry) reply.bytes.items) }
     ensures failed { IfErr result (IsSearchError (IsCostly searcher.now.regex.now)) }
 {
     let selected = is_selected(show.invert, match_in(searcher, line.texts)?);
     if selected {
         let bytes = plain(searcher.alloc, show, prefix, line.bytes)?;
-        Ok(Reply { selected, bytes })
+        Ok(Reply {
+            selected,
+            count: 1,
+            bytes,
+        })
     } else {
         let bytes = Vec::new(searcher.alloc);
-        Ok(Reply { selected, bytes })
+        Ok(Reply {
+            selected,
+            count: 1,
+            bytes,
+        })
     }
 }
 
@@ -246,6 +264,7 @@ fn selected_by_matches(
     requires order { AreInLine (length line.bytes.now) 0 (map run_of line.texts.now) }
     requires shows { needs_matches show.shown (line_paint_of show.paint) ≡ true }
     ensures selected { IfOk result (λ reply. IsSelected searcher.now.regex.now (map run_of line.entry.texts.now) show.entry.invert reply.selected) }
+    ensures count { IfOk result (λ reply. reply.count ≡ 1) }
     ensures shows { IfOk result (λ reply. ShowsIf searcher.now.regex.now line.entry.bytes.now (map run_of line.entry.texts.now) reply.selected show.entry.shown (line_paint_of show.entry.paint) (text_of prefix.entry) reply.bytes.items) }
     ensures failed { IfErr result (IsSearchError (IsCostly searcher.now.regex.now)) }
 {
@@ -253,10 +272,18 @@ fn selected_by_matches(
     let selected = is_selected(show.invert, has_match(&found));
     if selected {
         let bytes = shown(searcher, show, prefix, line.bytes, &found)?;
-        Ok(Reply { selected, bytes })
+        Ok(Reply {
+            selected,
+            count: 1,
+            bytes,
+        })
     } else {
         let bytes = Vec::new(searcher.alloc);
-        Ok(Reply { selected, bytes })
+        Ok(Reply {
+            selected,
+            count: 1,
+            bytes,
+        })
     }
 }
 
@@ -414,14 +441,55 @@ fn add_match(
     Ok(())
 }
 
+/// Returns how many matches in the texts are replaced.
+fn replaced_count(
+    searcher: &Searcher<'_>,
+    limit: Option<u64>,
+    texts: &[Run<'_>],
+) -> Result<u64, SearchError>
+    ensures count { IfOk result (λ count. IsReplacedCount searcher.now.regex.now (map run_of texts.now) limit count) }
+    ensures failed { IfErr result (IsSearchError (IsCostly searcher.now.regex.now)) }
+{
+    let found = search_texts(searcher, texts)?;
+    match match_count(&found) {
+        Some(count) => Ok(at_most(limit, count)),
+        None => Err(SearchError::Memory),
+    }
+}
+
+/// Returns how many matches are in the texts, if that has 64 bits.
+fn match_count(found: &[TextMatches<'_>]) -> Option<u64>
+    ensures { IfSome result (λ count. count ≡ match_count (map matches_of found.now)) }
+{
+    let mut count: u64 = 0;
+    for text in found {
+        count = count.checked_add(text.matches.len() as u64)?;
+    }
+    Some(count)
+}
+
+/// Returns the number, or the limit if that is less.
+fn at_most(limit: Option<u64>, number: u64) -> u64
+    ensures { result ≡ at_most limit number }
+{
+    match limit {
+        Some(limit) if limit < number => limit,
+        Some(_) | None => number,
+    }
+}
+
 /// Returns the line with the matches in its texts replaced, and its line feed.
-fn replaced(searcher: &Searcher<'_>, template: &str, line: Line<'_>) -> Result<Vec<u8>, SearchError>
+fn replaced(
+    searcher: &Searcher<'_>,
+    replacement: Replacement<'_>,
+    line: Line<'_>,
+) -> Result<Vec<u8>, SearchError>
     requires { AreInLine (length line.bytes.now) 0 (map run_of line.texts.now) }
-    ensures replaced { IfOk result (λ bytes. ShowsReplaced searcher.now.regex.now line.entry.bytes.now (map run_of line.entry.texts.now) line.entry.ended template.now bytes.items) }
+    ensures replaced { IfOk result (λ bytes. ShowsReplaced searcher.now.regex.now line.entry.bytes.now (map run_of line.entry.texts.now) line.entry.ended (replacement_of replacement.entry) bytes.items) }
     ensures failed { IfErr result (IsSearchError (IsCostly searcher.now.regex.now)) }
 {
     let mut bytes = Vec::new(searcher.alloc);
-    add_replaced(searcher, template, line, &mut bytes)?;
+    add_replaced(searcher, replacement, line, &mut bytes)?;
     add_feed_if(line.ended, &mut bytes)?;
     Ok(bytes)
 }
@@ -439,24 +507,48 @@ fn add_feed_if(ended: bool, to: &mut Vec<u8>) -> Result<(), AllocError>
 /// Adds the line with the matches in its texts replaced.
 fn add_replaced(
     searcher: &Searcher<'_>,
-    template: &str,
+    replacement: Replacement<'_>,
     line: Line<'_>,
     to: &mut Vec<u8>,
 ) -> Result<(), SearchError>
     requires { AreInLine (length line.bytes.now) 0 (map run_of line.texts.now) }
-    ensures replaced { OnOk result ((out : List ℕ) × IsReplacedFrom searcher.now.regex.now line.entry.bytes.now template.now 0 (map run_of line.entry.texts.now) out
+    ensures replaced { OnOk result ((out : List ℕ)
+        × IsReplacedFrom searcher.now.regex.now line.entry.bytes.now replacement.entry.template.now replacement.entry.limit 0 (map run_of line.entry.texts.now) out
         × (to.new.items ≡ to.old.items ++ out)) }
     ensures failed { IfErr result (IsSearchError (IsCostly searcher.now.regex.now)) }
 {
     let mut from = 0;
+    let mut limit = replacement.limit;
     for run in line.texts {
         to.extend_from_slice(&line.bytes[from..run.start])?;
-        let text = searcher
-            .regex
-            .replace_all(searcher.alloc, run.text, template)?;
+        let (text, left) = replaced_text(searcher, replacement.template, limit, run.text)?;
         to.extend_from_slice(text.as_bytes())?;
+        limit = left;
         from = run.start + run.text.len();
     }
     to.extend_from_slice(&line.bytes[from..])?;
     Ok(())
+}
+
+/// Returns the text with its matches replaced, or the first ones up to a limit, and how many more may be replaced.
+fn replaced_text(
+    searcher: &Searcher<'_>,
+    template: &str,
+    limit: Option<u64>,
+    text: &str,
+) -> Result<(String, Option<u64>), SearchError>
+    ensures replaced { IfOk result (λ out. ReplacesUpTo searcher.now.regex.now template.now limit text.now (string_bytes out.0) out.1) }
+    ensures failed { IfErr result (IsSearchError (IsCostly searcher.now.regex.now)) }
+{
+    let regex = searcher.regex;
+    match limit {
+        None => {
+            let replaced = regex.replace_all(searcher.alloc, text, template)?;
+            Ok((replaced, None))
+        }
+        Some(limit) => {
+            let (replaced, count) = regex.replacen(searcher.alloc, text, template, limit as usize)?;
+            Ok((replaced, Some(limit.saturating_sub(count as u64))))
+        }
+    }
 }

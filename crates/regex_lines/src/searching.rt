@@ -1,12 +1,13 @@
 //! Searches the lines of an input.
-ghost use Rattle.std.specs.Prelude.{◌≡◌, ℕ, ◌+◌, ◌-◌, ◌<◌, ◌≤◌, List, [], ◌++◌, IfOk, IfErr, OnOk, false, if◌then◌else◌, length, map, true};
+ghost use Rattle.std.specs.Prelude.{◌≡◌, ℕ, ◌+◌, ◌-◌, ◌<◌, ◌≤◌, List, [], ◌++◌, IfOk, IfErr, OnOk, false, if◌then◌else◌, length, map, option_map, true};
 ghost use Rattle.std.specs.Io.KnownBytes.{Appends};
 ghost use Rattle.regex_lines.specs.Reply.{IsReply};
 ghost use Rattle.regex_lines.specs.Reading.{IsRead};
 ghost use Rattle.regress_arguments.specs.Output.{Took};
 ghost use Rattle.regex_lines.specs.Ending.{IsCostly, IsInputFailure, OrOutput};
+ghost use Rattle.regex_options.specs.Colors.{plain_colors};
 ghost use Rattle.regex_options.specs.Plain.{job};
-ghost use Rattle.regex_lines.specs.Searched.{AreNear, IsFound, IsNear, colors_of, named, SearchesAll, SearchesFirst, context_of, lines_after, lines_before, prefix_of, is_enough, is_over, needs_one, reaches, separator, written_at_end};
+ghost use Rattle.regex_lines.specs.Searched.{AreNear, IsFound, IsNear, colors_of, named, SearchesAll, SearchesFirst, context_of, lines_after, lines_before, prefix_of, is_enough, is_over, needs_one, reaches, separator, shown_at_end, written_at_end};
 ghost use Rattle.regex_lines.specs.Window.{IsCounted, IsInFront, IsNextLine, IsOther, IsShown, separator_of, window_of};
 
 use crate::failure::{Failure, read_failure};
@@ -18,7 +19,7 @@ use crate::reading::{Next, is_ended, is_last, read_next};
 use crate::reply::{Reply, near, reply_to};
 use crate::searcher::Searcher;
 use crate::window::Window;
-use regex_options::{Context, Shown, Task};
+use regex_options::{Colors, Context, Shown, Task};
 use std::alloc::{AllocError, Global};
 use std::io::{BufRead, Write};
 
@@ -79,7 +80,7 @@ pub(crate) fn search_lines<'a, B: BufRead, W: Write>(
     Err(too_long(search))
 }
 
-/// Returns the failure of an input that has too many lines.
+/// Returns the failure of an input that has too many lines or matches.
 fn too_long<'a>(search: InputSearch<'_, '_>) -> Failure<'a>
     ensures failed { IsInputFailure (IsCostly search.entry.searcher.now.regex.now) result }
 {
@@ -158,9 +159,9 @@ fn search_line<'a, W: Write>(
     ensures failed { IfErr result (IsInputFailure (IsCostly search.entry.searcher.now.regex.now)) }
     ensures untouched { IfErr result (OrOutput (out.new ≡ out.old)) }
 {
-    let Reply { selected, bytes } = found(search, window, line, ended)?;
-    if selected {
-        show_selected(search, window, bytes, out)
+    let reply = found(search, window, line, ended)?;
+    if reply.selected {
+        show_selected(search, window, reply, out)
     } else {
         show_other(search, window, line, out)
     }
@@ -175,12 +176,13 @@ fn found<'a>(
 ) -> Result<Reply, Failure<'a>>
     requires { window.now.number < u64.MAX }
     ensures found { IfOk result (λ reply. IsFound search.entry.searcher.now.regex.now (job search.entry.task) (named search.entry.place)
-        (is_enough (job search.entry.task) window.now.selected) (window.now.number + 1) (record { bytes = line.now; ended = ended }) reply.selected reply.bytes.items) }
+        (is_enough (job search.entry.task) window.now.selected) (window.now.number + 1) (record { bytes = line.now; ended = ended }) reply.selected reply.count reply.bytes.items) }
     ensures failed { IfErr result (IsInputFailure (IsCostly search.entry.searcher.now.regex.now)) }
 {
     if is_enough(search.task, window.selected) {
         return Ok(Reply {
             selected: false,
+            count: 0,
             bytes: Vec::new(search.searcher.alloc),
         });
     }
@@ -191,19 +193,22 @@ fn found<'a>(
 fn show_selected<'a, W: Write>(
     search: InputSearch<'_, 'a>,
     window: &mut Window,
-    bytes: Vec<u8>,
+    reply: Reply,
     out: &mut W,
 ) -> Result<(), Failure<'a>>
     requires below { window.old.number < u64.MAX }
     requires counted { IsCounted (window_of window.old) }
     ensures shown { OnOk result (Took (W.contents out.old) (W.contents out.new) (IsShown search.entry.searcher.now.regex.now (job search.entry.task) (named search.entry.place)
-        true (window_of window.old) [] bytes.items (window_of window.new))) }
+        true (window_of window.old) [] reply.count reply.bytes.items (window_of window.new))) }
     ensures failed { IfErr result (IsInputFailure (IsCostly search.entry.searcher.now.regex.now)) }
     ensures untouched { IfErr result (OrOutput (out.new ≡ out.old)) }
 {
-    let shown = with_front(search, window, bytes)?;
+    let Some(selected) = window.selected.checked_add(reply.count) else {
+        return Err(too_long(search));
+    };
+    let shown = with_front(search, window, reply.bytes)?;
     write_at(search.at_once, &shown, out)?;
-    window.select(lines_after(search.task));
+    window.select(selected, lines_after(search.task));
     Ok(())
 }
 
@@ -349,7 +354,7 @@ fn reply<'a>(
     ended: bool,
 ) -> Result<Reply, Failure<'a>>
     ensures reply { IfOk result (λ reply. IsReply search.entry.searcher.now.regex.now line.now ended (job search.entry.task)
-        (prefix_of false (job search.entry.task) (named search.entry.place) number) reply.selected reply.bytes.items) }
+        (prefix_of false (job search.entry.task) (named search.entry.place) number) reply.selected reply.count reply.bytes.items) }
     ensures failed { IfErr result (IsInputFailure (IsCostly search.entry.searcher.now.regex.now)) }
 {
     Ok(reply_to(search.searcher, search.prefix(number, false), line, ended)?)
@@ -377,11 +382,27 @@ fn end(
 ) -> Result<Vec<u8>, AllocError>
     ensures { IfOk result (λ end. end.items ≡ written_at_end (job task.entry) (named place.entry) selected) }
 {
+    match task {
+        Task::Match(selection, colors) => end_by(alloc, selection.shown, colors, place, selected),
+        Task::Replace(replacement) if replacement.counts => {
+            end_by(alloc, Shown::Count, None, place, selected)
+        }
+        Task::Replace(_) => Ok(Vec::new(alloc)),
+    }
+}
+
+/// Returns what is shown at the end of an input with this many selected lines or matches.
+fn end_by(
+    alloc: Global,
+    shown: Shown,
+    colors: Option<&Colors<'_>>,
+    place: Place<'_>,
+    selected: u64,
+) -> Result<Vec<u8>, AllocError>
+    ensures { IfOk result (λ end. end.items ≡ shown_at_end shown (option_map (λ colors. plain_colors colors.now) colors.entry) (named place.entry) selected) }
+{
     let mut end = Vec::new(alloc);
-    let Task::Match(selection, colors) = task else {
-        return Ok(end);
-    };
-    match selection.shown {
+    match shown {
         Shown::Count => {
             add_name_in_front(colors, place, false, &mut end)?;
             end.extend_from_slice(format!(in alloc; "{selected}\n")?.as_bytes())?;

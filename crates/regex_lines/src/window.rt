@@ -11,7 +11,7 @@ use std::mem;
 pub(crate) struct Window {
     /// The number of lines.
     pub(crate) number: u64,
-    /// The number of selected lines.
+    /// The number of selected lines, or of matches if these are counted.
     pub(crate) selected: u64,
     /// How many of the next lines are shown after the last selected one.
     pub(crate) due: u64,
@@ -23,7 +23,7 @@ pub(crate) struct Window {
 
 impl Window {
     ghost use Rattle.std.specs.Prelude.{◌≡◌, ◌<◌, ◌≤◌, [], OnOk, length};
-    ghost use Rattle.regex_lines.specs.Window.{IsCounted, first_window, window_of, with_after, with_hidden, with_selected};
+    ghost use Rattle.regex_lines.specs.Window.{first_window, window_of, with_after, with_hidden, with_selected};
 
     /// Returns the window before the first line.
     pub(crate) fn new(alloc: Global) -> Window
@@ -38,14 +38,13 @@ impl Window {
         }
     }
 
-    /// Counts a line that is selected, after which this many lines are shown.
-    pub(crate) fn select(&mut self, after: u64)
-        requires below { self.old.number < u64.MAX }
-        requires counted { IsCounted (window_of self.old) }
-        ensures { window_of self.new ≡ with_selected after (window_of self.old) }
+    /// Counts a line that is selected, which makes `selected`, and after which this many lines are shown.
+    pub(crate) fn select(&mut self, selected: u64, after: u64)
+        requires { self.old.number < u64.MAX }
+        ensures { window_of self.new ≡ with_selected selected after (window_of self.old) }
     {
         self.number += 1;
-        self.selected += 1;
+        self.selected = selected;
         self.due = after;
         self.hidden.clear();
         self.left_out = false;

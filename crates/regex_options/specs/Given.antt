@@ -15,7 +15,7 @@ use Rattle.regex_options.specs.declared.given.Options.{Options}
 use Rattle.regex_options.specs.declared.table.Switch.{Switch}
 use Rattle.regex_options.specs.declared.table.Switch.TheVariants.{Help, Version, IgnoreCase, Fixed, WholeLines, WholeWords, Multiline, Recursive, LineBuffered, Binary, Invert, FileNames, Null, Numbers, Shown, Json, Stage, Small, Html}
 use Rattle.regex_options.specs.declared.table.Value.{Value}
-use Rattle.regex_options.specs.declared.table.Value.TheVariants.{Pattern, File, Flags as FlagLetters, Dialect as DialectName, Count, Context, Color as When, Text, Include, Exclude}
+use Rattle.regex_options.specs.declared.table.Value.TheVariants.{Pattern, File, Flags as FlagLetters, Dialect as DialectName, Count, Replacements, Context, Color as When, Text, Include, Exclude}
 use Rattle.regex_options.specs.declared.task.FileNames.TheVariants.{IfSeveral}
 use Rattle.regex_options.specs.declared.task.Shown.TheVariants.{Lines}
 use Rattle.regex_options.specs.declared.task.Side.{Side}
@@ -38,6 +38,7 @@ no_options = record {
   form = record { fixed = false; lines = false; words = false };
   selection = record { invert = false; file_names = IfSeveral; null = false; numbers = false; shown = Lines; max_count = None; context = None };
   around = record { before = None; after = None; both = None };
+  max_replacements = None;
   multiline = false;
   recursive = false;
   line_buffered = false;
@@ -111,6 +112,10 @@ count_of text =
 abbrev pub with_count : (text : List ℕ) → Options → Option Options
 with_count text o = option_map (λ count. record o { selection = record o.selection { max_count = Some count } }) (count_of text)
 
+-- the options with at most this many matches of a line that are replaced
+abbrev pub with_replacements : (text : List ℕ) → Options → Option Options
+with_replacements text o = option_map (λ count. record o { max_replacements = Some count }) (count_of text)
+
 -- this many lines on a side of selected ones, or on both
 abbrev pub around_with : Side → (count : ℕ) → Around → Around
 around_with Before count around = record around { before = Some count }
@@ -146,6 +151,7 @@ valued File text given = Some (with_pattern (in_file text) given)
 valued FlagLetters text given = option_map (λ options. record given { options = options }) (with_flags text given.options)
 valued DialectName text given = option_map (λ options. record given { options = options }) (with_dialect text given.options)
 valued Count text given = option_map (λ options. record given { options = options }) (with_count text given.options)
+valued Replacements text given = option_map (λ options. record given { options = options }) (with_replacements text given.options)
 valued (Context side) text given = option_map (λ options. record given { options = options }) (with_context side text given.options)
 valued When text given = option_map (λ options. record given { options = options }) (with_color text given.options)
 valued Text text given = Some (record given { text = Some text })

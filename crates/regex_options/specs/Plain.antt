@@ -11,19 +11,31 @@ use Rattle.regex_options.specs.declared.source.PatternSource.TheVariants.{Text, 
 use Rattle.regex_options.specs.declared.source.PatternSource.{PatternSource}
 use Rattle.regex_options.specs.declared.source.Patterns.TheVariants.{Operand, Options}
 use Rattle.regex_options.specs.declared.source.Patterns.{Patterns}
+use Rattle.regex_options.specs.declared.task.Replacement as code_replacement
 use Rattle.regex_options.specs.declared.task.Selection.{Selection}
 use Rattle.regex_options.specs.declared.task.Task.TheVariants.{Match, Replace}
 use Rattle.regex_options.specs.declared.task.Task.{Task}
 
--- selected lines are shown, in these colors if there are any, or matches are replaced by the expansion of a template
+-- how matches are replaced: by the expansion of a template, in each line at most this many if there is a limit; and whether
+-- only how many are replaced is shown
+pub record Replacement : Type 0 where
+  pub template : List ℕ
+  pub limit : Option ℕ
+  pub counts : Bool
+
+-- the same as the code represents it
+abbrev pub replacement : code_replacement.Replacement → Replacement
+replacement r = record { template = r.template.now; limit = r.limit; counts = r.counts }
+
+-- selected lines are shown, in these colors if there are any, or matches are replaced
 pub data Job : Type 0 where
   matching : Selection → (colors : Option Colors) → Job
-  replacing : (template : List ℕ) → Job
+  replacing : Replacement → Job
 
 -- the job as the code represents it
 abbrev pub job : Task → Job
 job (Match s colors) = matching s (option_map (λ c. plain_colors c.now) colors)
-job (Replace template) = replacing template.now
+job (Replace r) = replacing (replacement r)
 
 -- a pattern, or the name of the file that has patterns
 pub data Source : Type 0 where

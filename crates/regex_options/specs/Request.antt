@@ -11,7 +11,7 @@ use Rattle.regress_lexer.specs.declared.dialect.Dialect.{Dialect}
 use Rattle.regex_options.specs.Table.{command_help, is_named, program_help, topic_text}
 use Rattle.regex_options.specs.Colors.{Colors, plain_colors}
 use Rattle.regex_options.specs.Given.{Given}
-use Rattle.regex_options.specs.Plain.{FileList, Job, file_list, job, matching, replacing, Source, in_argument, sources, UsageError, excluded_by_json, missing, on_ok, or_error, text_without_page, unexpected, unknown_command, unknown_option, unless_error}
+use Rattle.regex_options.specs.Plain.{FileList, Job, Replacement, file_list, job, matching, replacing, Source, in_argument, sources, UsageError, excluded_by_json, missing, on_ok, or_error, text_without_page, unexpected, unknown_command, unknown_option, unless_error}
 use Rattle.regex_options.specs.Reading.{Words, options_of, start, words_of}
 use Rattle.regex_options.specs.declared.command.Command.{Command}
 use Rattle.regex_options.specs.declared.command.Command.TheVariants as commands
@@ -178,13 +178,31 @@ form_of given = if given.options.html then page given.text else lines
 abbrev pub files_of : Words → (names : List (List ℕ)) → FileList
 files_of w names = record { names = names; recursive = w.reading.given.options.recursive; globs = w.globs }
 
--- The files are searched. For `replace` the template is in front of them.
-abbrev pub replaced_in : (multiline : Bool) → FileList → (names : List (List ℕ)) → Result Action UsageError
-replaced_in multiline rest [] = Err (missing (codes "TEMPLATE"))
-replaced_in multiline rest (template ∷ names) = Ok (search (replacing template) multiline (record rest { names = names }))
+-- whether only a number is shown
+abbrev pub is_count : Shown → Bool
+is_count shows.Lines = false
+is_count shows.Matches = false
+is_count shows.Json = false
+is_count shows.Count = true
+is_count shows.Names = false
+is_count shows.Nothing = false
 
-abbrev pub replace_of : (multiline : Bool) → (rest : FileList) → Result Action UsageError
-replace_of multiline rest = replaced_in multiline rest rest.names
+-- how `replace` replaces matches with these options
+abbrev pub replacement_of : Options → (template : List ℕ) → Replacement
+replacement_of options template = record { template = template; limit = options.max_replacements; counts = is_count options.selection.shown }
+
+-- how `split` does
+abbrev pub feeds : Replacement
+feeds = record { template = codes "\n"; limit = None; counts = false }
+
+-- The files are searched. For `replace` the template is in front of them.
+abbrev pub replaced_in : Options → FileList → (names : List (List ℕ)) → Result Action UsageError
+replaced_in options rest [] = Err (missing (codes "TEMPLATE"))
+replaced_in options rest (template ∷ names) =
+    Ok (search (replacing (replacement_of options template)) options.multiline (record rest { names = names }))
+
+abbrev pub replace_of : Options → (rest : FileList) → Result Action UsageError
+replace_of options rest = replaced_in options rest rest.names
 
 -- no argument is left
 abbrev pub no_more : List (List ℕ) → Result ⊤ UsageError
@@ -200,8 +218,8 @@ alone action args = on_ok (λ _. Ok action) (no_more args)
 abbrev pub action_of : Screen → Operation → Given → (rest : FileList) → Result Action UsageError
 action_of screen operations.Match given rest =
     Ok (search (matching (selection_of given.options) (colors_in screen given.options.color)) given.options.multiline rest)
-action_of screen operations.Replace given rest = replace_of given.options.multiline rest
-action_of screen operations.Split given rest = Ok (search (replacing (codes "\n")) given.options.multiline rest)
+action_of screen operations.Replace given rest = replace_of given.options rest
+action_of screen operations.Split given rest = Ok (search (replacing feeds) given.options.multiline rest)
 action_of screen operations.Parse given rest = alone (show (view_in given.options (printed_format given.options.json))) rest.names
 action_of screen operations.Draw given rest = alone (show (view_in given.options Svg)) rest.names
 action_of screen operations.Lint given rest = alone lint rest.names

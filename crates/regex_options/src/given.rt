@@ -37,6 +37,8 @@ pub(crate) struct Options {
     pub(crate) form: PatternForm,
     pub(crate) selection: Selection,
     pub(crate) around: Around,
+    /// How many matches of a line are replaced at most.
+    pub(crate) max_replacements: Option<u64>,
     /// Whether a text is searched as one, and not line by line.
     pub(crate) multiline: bool,
     /// Whether files are searched for in directories.
@@ -94,6 +96,7 @@ pub(crate) fn nothing_given() -> Given<'static>
                 after: None,
                 both: None,
             },
+            max_replacements: None,
             multiline: false,
             recursive: false,
             line_buffered: false,

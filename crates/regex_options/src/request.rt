@@ -16,7 +16,7 @@ use crate::help::Topic;
 use crate::reading::{Reading, Words, read_options};
 use crate::source::{PatternForm, PatternSource, Patterns};
 use crate::table::OptionEntry;
-use crate::task::{Context, Selection, Shown, Task};
+use crate::task::{Context, Replacement, Selection, Shown, Task};
 use regress_base::types::Flags;
 use regress_display::{Format, Stage};
 use regress_lexer::Dialect;
@@ -373,8 +373,8 @@ fn read_action<'a>(
             Task::Match(selection_of(options), colors_in(options.color, output)),
             rest,
         )),
-        Operation::Replace => replace_of(form, rest),
-        Operation::Split => Ok(search_for(form, Task::Replace("\n"), rest)),
+        Operation::Replace => replace_of(form, options, rest),
+        Operation::Split => Ok(search_for(form, Task::Replace(FEEDS), rest)),
         Operation::Parse => alone(
             Action::Show(view_in(options, printed_format(options.json))),
             args,
@@ -385,14 +385,31 @@ fn read_action<'a>(
     }
 }
 
+/// How `split` replaces matches.
+const FEEDS: Replacement<'static> = Replacement {
+    template: "\n",
+    limit: None,
+    counts: false,
+};
+
 /// Parses a template, and the files after it.
-fn replace_of<'a>(form: LineForm, rest: FileList<'a>) -> Result<Action<'a>, UsageError<'a>>
-    ensures { plain_result action result ≡ replace_of form.multiline (file_list rest.entry) }
+fn replace_of<'a>(
+    form: LineForm,
+    options: Options,
+    rest: FileList<'a>,
+) -> Result<Action<'a>, UsageError<'a>>
+    requires { form.multiline ≡ options.multiline }
+    ensures { plain_result action result ≡ replace_of options (file_list rest.entry) }
 {
     match rest.names {
         [template, names @ ..] => {
             let files = FileList { names, ..rest };
-            Ok(search_for(form, Task::Replace(template.as_str()), files))
+            let replacement = Replacement {
+                template: template.as_str(),
+                limit: options.max_replacements,
+                counts: matches!(options.selection.shown, Shown::Count),
+            };
+            Ok(search_for(form, Task::Replace(replacement), files))
         }
         [] => Err(UsageError::Missing("TEMPLATE")),
     }

@@ -97,6 +97,8 @@ pub enum Value {
     Dialect,
     /// How many lines of an input are selected at most.
     Count,
+    /// How many matches of a line are replaced at most.
+    Replacements,
     /// How many lines around selected ones are shown.
     Context(Side),
     /// When the output is in color.
@@ -242,6 +244,17 @@ const OF_MATCH: Scope = Scope {
     ..NO_COMMAND
 };
 
+const OF_REPLACE: Scope = Scope {
+    replacing: true,
+    ..NO_COMMAND
+};
+
+const OF_MATCH_AND_REPLACE: Scope = Scope {
+    matching: true,
+    replacing: true,
+    ..NO_COMMAND
+};
+
 const OF_MATCH_AND_PARSE: Scope = Scope {
     matching: true,
     parsing: true,
@@ -260,7 +273,7 @@ const OF_EXPLAIN: Scope = Scope {
 };
 
 /// The options, in the order of the help.
-pub const OPTIONS: [OptionEntry; 38] = [
+pub const OPTIONS: [OptionEntry; 39] = [
     OptionEntry {
         short: Some("-e"),
         long: Some("regexp"),
@@ -497,8 +510,20 @@ pub const OPTIONS: [OptionEntry; 38] = [
         short: Some("-c"),
         long: Some("count"),
         sets: Sets::Switch(Switch::Shown(Shown::Count)),
-        scope: OF_MATCH,
-        line: "  -c, --count               write only how many lines are selected\n",
+        scope: OF_MATCH_AND_REPLACE,
+        line: "  -c, --count               write only how many lines are selected; of replace,\n                            how many matches are replaced\n",
+    },
+    OptionEntry {
+        short: None,
+        long: Some("max-replacements"),
+        sets: Sets::Value(Argument {
+            value: Value::Replacements,
+            name: "NUM",
+            default: None,
+            kind: "NUM (a number from 0 to 2^64-1)",
+        }),
+        scope: OF_REPLACE,
+        line: "      --max-replacements NUM  replace at most NUM matches of each line, the\n                            first ones\n",
     },
     OptionEntry {
         short: Some("-l"),

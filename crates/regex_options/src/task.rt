@@ -7,8 +7,19 @@ use crate::colors::Colors;
 pub enum Task<'a> {
     /// Show the lines that match, or what the options select, in these colors if there are any.
     Match(Selection, Option<&'a Colors<'a>>),
-    /// Replace each match by the expansion of this template.
-    Replace(&'a str),
+    /// Replace matches.
+    Replace(Replacement<'a>),
+}
+
+/// How matches are replaced.
+#[derive(Clone, Copy)]
+pub struct Replacement<'a> {
+    /// The template of which the expansion replaces a match.
+    pub template: &'a str,
+    /// How many matches of a line are replaced at most, the first ones: all by default.
+    pub limit: Option<u64>,
+    /// Whether only how many matches are replaced is shown.
+    pub counts: bool,
 }
 
 /// Which lines are selected, and what is shown of them.

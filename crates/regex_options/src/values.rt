@@ -1,6 +1,6 @@
 //! What options with an argument set.
 ghost use Rattle.std.specs.Prelude.{◌≡◌, option_map};
-ghost use Rattle.regex_options.specs.Given.{around_with, color_of, count_of, dialect_of, given_by, valued, with_color, with_context, with_count, with_dialect, with_flags, with_glob, with_pattern};
+ghost use Rattle.regex_options.specs.Given.{around_with, color_of, count_of, dialect_of, given_by, valued, with_color, with_context, with_count, with_dialect, with_flags, with_glob, with_pattern, with_replacements};
 ghost use Rattle.regex_options.specs.Plain.{source};
 
 use crate::files::NameGlob;
@@ -35,6 +35,10 @@ pub(crate) fn valued<'a>(value: Value, text: &'a str, given: Given<'a>) -> Optio
         }),
         Value::Count => Some(Given {
             options: with_count(given.options, text)?,
+            ..given
+        }),
+        Value::Replacements => Some(Given {
+            options: with_replacements(given.options, text)?,
             ..given
         }),
         Value::Context(side) => Some(Given {
@@ -114,6 +118,17 @@ fn with_count(options: Options, text: &str) -> Option<Options>
             max_count: Some(count),
             ..options.selection
         },
+        ..options
+    })
+}
+
+/// Sets how many matches of a line are replaced at most.
+fn with_replacements(options: Options, text: &str) -> Option<Options>
+    ensures { result ≡ with_replacements text.now options }
+{
+    let count = read_count(text)?;
+    Some(Options {
+        max_replacements: Some(count),
         ..options
     })
 }

@@ -6,5 +6,6 @@ use Rattle.regex_lines.proofs.reply.add_replaced.Given as goal
 
 abbrev pub invariant-loop-run : goal.invariant-loop-run
 invariant-loop-run l =
-    Replacing l.fn.searcher.regex.now l.fn.line.bytes.now l.fn.template l.fn.to.items (map run_of l.fn.line.texts.now) l.from (drop l.run-index l.fn.line.texts.now)
+    Replacing l.fn.searcher.regex.now l.fn.line.bytes.now l.fn.replacement.template.now l.fn.to.items l.fn.replacement.limit
+    (map run_of l.fn.line.texts.now) l.limit l.from (drop l.run-index l.fn.line.texts.now)
     l.to.items

@@ -1,10 +1,10 @@
-use Rattle.std.proofs.Common.{IfOk, ap, false, map, option_map, subst, sym}
+use Rattle.std.proofs.Common.{◌≡◌, IfOk, ap, false, map, option_map, subst, sym}
 use Rattle.regex_options.specs.Colors.{plain_colors}
 use Rattle.regex_options.specs.Plain.{Job, job}
 use Rattle.regex_lines.specs.Paint.{line_paint_in}
 use Rattle.regex_lines.specs.Prefix.{text_of}
 use Rattle.regex_lines.specs.Reply.{IsReplyIn, IsSelected, ShowsIf, run_of}
-use Rattle.regex_lines.proofs.ReplyLemmas.{both}
+use Rattle.regex_lines.proofs.ReplyLemmas.{all_three}
 use Rattle.regex_lines.proofs.reply.reply_in.Goals as goal
 
 pub returns-in-Match-clause-reply : goal.returns-in-Match-clause-reply
@@ -15,8 +15,9 @@ returns-in-Match-clause-reply c =
     let line = c.args.line.bytes.now in
     let texts = map run_of c.args.line.texts.now in
     let prefix = text_of c.args.prefix in
-    subst (λ (task : Job). IfOk c.selected.result (λ reply. IsReplyIn r line texts c.args.line.ended task prefix reply.selected reply.bytes.items))
+    subst (λ (task : Job). IfOk c.selected.result (λ reply. IsReplyIn r line texts c.args.line.ended task prefix reply.selected reply.count reply.bytes.items))
     (sym (ap job c.in-Match.is))
-    (both (λ reply. IsSelected r texts s.invert reply.selected) (λ reply. ShowsIf r line texts reply.selected s.shown p prefix reply.bytes.items) c.selected.result
-    (rw c.show_of.ensures.invert at c.selected.ensures.selected)
+    (all_three (λ reply. IsSelected r texts s.invert reply.selected) (λ reply. reply.count ≡ 1)
+    (λ reply. ShowsIf r line texts reply.selected s.shown p prefix reply.bytes.items) c.selected.result
+    (rw c.show_of.ensures.invert at c.selected.ensures.selected) c.selected.ensures.count
     (rw (c.show_of.ensures.shown, c.show_of.ensures.paint) at c.selected.ensures.shows))

@@ -14,7 +14,7 @@ returns-in-Ok-clause-reply c =
     let prefix = text_of c.args.prefix in
     of_texts r line (whole line) c.args.ended (job c.args.prefix.task) prefix c.reply_to_text.result (one_text line c.in-Ok.ensures.cases.1)
     (subst
-    (λ line. IfOk c.reply_to_text.result (λ reply. IsReplyIn r line (whole line) c.args.ended (job c.args.prefix.task) prefix reply.selected reply.bytes.items))
+    (λ line. IfOk c.reply_to_text.result (λ reply. IsReplyIn r line (whole line) c.args.ended (job c.args.prefix.task) prefix reply.selected reply.count reply.bytes.items))
     c.in-Ok.ensures.cases.0 c.reply_to_text.ensures.reply)
 
 pub returns-in-Err-clause-reply : goal.returns-in-Err-clause-reply

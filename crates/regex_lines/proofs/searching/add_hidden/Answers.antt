@@ -21,7 +21,7 @@ loop-index-init c =
     (none_added c.args.search.searcher.now.regex.now (job c.args.search.task) (named c.args.search.place) (λ (line : Vec ℕ Global). line.items) lines base to)
 
 pub overflow_add-number : goal.overflow_add-number
-overflow_add-number c = omega (arith, c.loop-index.invariant.number_is, c.requires.kept)
+overflow_add-number c = omega (arith, c.loop-index.invariant.number_is, c.requires)
 
 pub loop-index-preserved : goal.loop-index-preserved
 loop-index-preserved c =
@@ -51,6 +51,6 @@ returns-clause-hidden c =
     (omega (arith, c.loop-index.auto.index-end, c.len-index-end.ensures, c.args.window.now.hidden.ok.0)) in (
       added.0,
       subst (λ n. AreNear r task place n (map (λ (line : Vec ℕ Global). line.items) lines) added.0)
-          (let first : base + 1 ≡ c.args.window.now.number + 1 - length lines = first_is c.args.window.now.number lines c.requires.kept in first) added.1,
+          (let first : base + 1 ≡ c.args.window.now.number + 1 - length lines = first_is c.args.window.now.number lines c.requires in first) added.1,
       added.2,
     )
