@@ -1,5 +1,5 @@
 //! Builds nodes from parts.
-ghost use Rattle.std.specs.Prelude.{◌≡◌, ℕ, Bool, true, false, not, List, ◌∷◌, ◌++◌, Some, IfOk, OnOk, map, option_map, string_bytes, encode_utf8_all};
+ghost use Rattle.std.specs.Prelude.{◌≡◌, ℕ, Bool, false, not, List, ◌∷◌, ◌++◌, Some, IfOk, OnOk, map, option_map, string_bytes, encode_utf8_all};
 ghost use Rattle.regress_tree.specs.Assertions.{differ};
 ghost use Rattle.regress_base.specs.Intervals.{Bounds, intervals_of};
 ghost use Rattle.regress_tree.specs.Reading.{direction_if};
@@ -119,16 +119,6 @@ pub(crate) fn make_literal(alloc: Global, c: u32, scope: &Scope) -> Result<Node,
     if !scope.flags.icase {
         return Ok(Node::Char { c });
     }
-    make_icase_literal(alloc, c, scope)
-}
-
-/// Returns the node of a literal with the flag i. It is not inlined, since most literals have no such flag.
-#[inline(never)]
-fn make_icase_literal(alloc: Global, c: u32, scope: &Scope) -> Result<Node, AllocError>
-    requires code_point { IsCodePoint c }
-    requires icase { scope.now.flags.icase ≡ true }
-    ensures { IfOk result (λ node. tree node ≡ leaf (leaf_of_literal (table_of scope.now.tables.now) scope.now.flags c)) }
-{
     let members = expand_code_point(alloc, c, true, scope.flags.unicode, scope.tables)?;
     Ok(make_members(members))
 }
@@ -144,7 +134,7 @@ pub(crate) fn push_literal(parts: &mut NodeList, c: u32, scope: &Scope) -> Resul
         return Ok(());
     }
     let alloc = *parts.allocator();
-    parts.push(make_icase_literal(alloc, c, scope)?)?;
+    parts.push(make_literal(alloc, c, scope)?)?;
     Ok(())
 }
 

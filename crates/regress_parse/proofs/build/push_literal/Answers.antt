@@ -14,7 +14,7 @@ returns-then-not-scope c = record {
 
 pub returns : goal.returns
 returns c = record {
-  node = c.in_ok-make_icase_literal.field-0;
+  node = c.in_ok-make_literal.field-0;
   items = c.in_ok-push-2.ensures.items;
-  is = c.in_ok-make_icase_literal.ensures;
+  is = c.in_ok-make_literal.ensures;
 }
