@@ -103,7 +103,7 @@ pub fn is_exact_for(regex: &Regex, text: &[u8]) -> u32
     ensures { ExactResult regex.now text.now result }
 {
     match str::from_utf8(text) {
-        Ok(text) => u32::from(regex.is_exact_for(text)),
+        Ok(text) => { if regex.is_exact_for(text) { 1 } else { 0 } }
         Err(_) => 0,
     }
 }
