@@ -220,8 +220,8 @@ pub fn read_failure(error: io::Error, name: &str) -> Failure<'_>
     }
 }
 
-/// Writes a syntax error, without a full stop at its end, with its position, a code-point index of the pattern or its length,
-/// and the pattern with a caret.
+/// Writes a syntax error, without a full stop at its end, with its position, a code-point index of the pattern or its
+/// length, and the pattern with a caret.
 ///
 /// # Errors
 /// Returns an error of `err`.

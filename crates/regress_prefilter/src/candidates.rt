@@ -25,7 +25,8 @@ pub enum Candidates {
 /// and any text.
 ///
 /// It may give up and return [`Candidates::Anywhere`]: it does so if an alternative does not begin with a `^` that is
-/// not multiline, and [`first_bytes`] returns `None`. It is [`Candidates::Pair`] where [`first_pair`] returns one. No match has to begin at a candidate.
+/// not multiline, and [`first_bytes`] returns `None`. It is [`Candidates::Pair`] where [`first_pair`] returns one. No
+/// match has to begin at a candidate.
 ///
 /// # Complexity
 /// At most three passes over the tree, without allocations. The depth of recursion is the depth of the tree, where the
