@@ -125,6 +125,19 @@ extern "C" {
         needed: *mut usize,
     ) -> u32;
 
+    fn regress_replace_n_raw(
+        handle: *mut RegressRegex,
+        text: *const u8,
+        length: usize,
+        replacement: *const u8,
+        replacement_length: usize,
+        limit: usize,
+        out: *mut u8,
+        room: usize,
+        needed: *mut usize,
+        count: *mut usize,
+    ) -> u32;
+
     fn regress_expand_raw(
         handle: *mut RegressRegex,
         text: *const u8,
@@ -409,10 +422,30 @@ impl Handle {
         self.write_replaced(regress_replace_all_raw, text, template)
     }
 
+    /// Writes a text with its first matches replaced by a template, at most `limit`.
+    pub(crate) fn replace_n(&self, text: &str, limit: usize, template: &str) -> Output<u8> {
+        let mut count = 0;
+        with_room(replaced_room(text, template), |out: &mut [u8], needed| {
+            // SAFETY: as for `find`.
+            unsafe {
+                regress_replace_n_raw(
+                    &mut self.copy(),
+                    start_of(text),
+                    text.len(),
+                    start_of(template),
+                    template.len(),
+                    limit,
+                    out.as_mut_ptr(),
+                    out.len(),
+                    needed,
+                    &mut count,
+                )
+            }
+        })
+    }
+
     fn write_replaced(&self, replace: Replace, text: &str, template: &str) -> Output<u8> {
-        // If more is needed, the search is made a second time.
-        let room = 2 * text.len() + template.len() + 64;
-        with_room(room, |out: &mut [u8], needed| {
+        with_room(replaced_room(text, template), |out: &mut [u8], needed| {
             // SAFETY: as for `find`.
             unsafe {
                 replace(
@@ -527,6 +560,12 @@ pub(crate) fn differences(pattern: &str, flags: u32) -> Output<Difference> {
             )
         }
     })
+}
+
+/// Returns the room that is mostly enough for a text with matches replaced. If more is needed, the search is made a
+/// second time.
+fn replaced_room(text: &str, template: &str) -> usize {
+    2 * text.len() + template.len() + 64
 }
 
 /// Returns a number of words that most trees do not exceed, so that the first call writes them.

@@ -14,11 +14,12 @@ use std::ops::Range;
 #[non_exhaustive]
 pub enum Fault {
     /// The pattern is rejected: the kind of the syntax error, its text, and its position, a code-point index from 0 to
-    /// the length.
+    /// the length; and the same position as a byte offset of the pattern in UTF-8, in which a surrogate counts three.
     Syntax {
         kind: FaultKind,
         text: String,
         position: usize,
+        offset: usize,
     },
     /// The library is out of memory.
     Memory,
@@ -259,7 +260,16 @@ pub(crate) fn fault(pattern: &[u32], bits: u32) -> Fault {
             kind,
             text,
             position,
+            offset: byte_offset(pattern, position),
         },
         _ => Fault::Library,
     }
+}
+
+/// Returns the byte offset of an index of a pattern in UTF-8, in which a surrogate counts three bytes.
+fn byte_offset(pattern: &[u32], index: usize) -> usize {
+    let before = pattern.iter().take(index);
+    before
+        .map(|&point| char::from_u32(point).map_or(3, char::len_utf8))
+        .sum()
 }

@@ -284,6 +284,37 @@ impl Regex {
         Ok(replace::replaced(text, &matches, replacement))
     }
 
+    /// Returns `text` with its first `limit` matches replaced, from left to right, as [`Regex::replace`] does with one. As
+    /// in the crate `regex`, all are replaced if `limit` is 0.
+    ///
+    /// ```
+    /// use regress_front::Regex;
+    ///
+    /// let letter = Regex::new("[a-z]")?;
+    /// assert_eq!(letter.replacen("a-b-c", 2, "<$&>")?, "<a>-<b>-c");
+    /// # Ok::<(), Box<dyn std::error::Error>>(())
+    /// ```
+    ///
+    /// # Errors
+    /// As for [`Regex::find_at`]. The step limit is for all matches together.
+    pub fn replacen<'t>(
+        &self,
+        text: &'t str,
+        limit: usize,
+        replacement: impl Replacer,
+    ) -> Result<Cow<'t, str>, SearchError> {
+        match limit {
+            0 => return self.replace_all(text, replacement),
+            1 => return self.replace(text, replacement),
+            _ => {}
+        }
+        if let Some(template) = replacement.template() {
+            return replace::written(text, self.handle().replace_n(text, limit, template));
+        }
+        let first: Result<Vec<_>, _> = self.find_iter(text).take(limit).collect();
+        Ok(replace::replaced(text, &first?, replacement))
+    }
+
     /// Returns `text` with the first match replaced by what a function returns for it, as [`Regex::replace`].
     ///
     /// # Errors

@@ -69,6 +69,7 @@ fn a_syntax_error_has_a_kind_a_text_and_a_position() {
         kind,
         text,
         position,
+        offset,
     } = fault
     else {
         panic!("{fault:?}")
@@ -77,7 +78,29 @@ fn a_syntax_error_has_a_kind_a_text_and_a_position() {
     assert_eq!(kind.name(), "UnbalancedParenthesis");
     assert_eq!(kind.number(), 1);
     assert_eq!(text, "Unbalanced parenthesis");
-    assert_eq!(position, 2);
+    assert_eq!((position, offset), (2, 2));
+}
+
+#[test]
+fn the_position_of_a_syntax_error_is_also_a_byte_offset() {
+    // In UTF-8 the characters before it have two, three and four bytes, and a surrogate counts three.
+    for (pattern, position, offset) in [
+        (points("é[z-a]"), 2, 3),
+        (points("é€😀)"), 3, 9),
+        (vec![0xD83D, 0x29], 1, 3),
+        (points("é("), 1, 2),
+    ] {
+        let fault = parse(&pattern, Flags::default(), Table::Small).unwrap_err();
+        let Fault::Syntax {
+            position: p,
+            offset: o,
+            ..
+        } = fault
+        else {
+            panic!("{fault:?}")
+        };
+        assert_eq!((p, o), (position, offset));
+    }
 }
 
 #[test]
@@ -259,8 +282,11 @@ fn a_text_is_parsed_as_its_code_points() {
         Ok(tree),
         parse_and_optimize(&points("é|x"), flags, Table::Small)
     );
-    let Err(Fault::Syntax { position, .. }) = parse_str("é)", flags, Table::Small) else {
+    let Err(Fault::Syntax {
+        position, offset, ..
+    }) = parse_str("é)", flags, Table::Small)
+    else {
         panic!("no syntax error")
     };
-    assert_eq!(position, 1);
+    assert_eq!((position, offset), (1, 2));
 }

@@ -171,6 +171,51 @@ fn texts_are_replaced_by_templates_and_functions() {
 }
 
 #[test]
+fn the_first_matches_are_replaced() {
+    let regex = Regex::new(r"(?<a>\d)(x)?").unwrap();
+    let text = "1-2x-3";
+    let by_template = |limit| regex.replacen(text, limit, "[$<a>$2]").unwrap();
+    assert_eq!(by_template(1), "[1]-2x-3");
+    assert_eq!(by_template(2), "[1]-[2x]-3");
+    assert_eq!(by_template(3), "[1]-[2x]-[3]");
+    assert_eq!(by_template(usize::MAX), "[1]-[2x]-[3]");
+    // As in the crate `regex`, all of them.
+    assert_eq!(by_template(0), "[1]-[2x]-[3]");
+    for limit in 0..5 {
+        let by_function = regex.replacen(text, limit, |found: &Match| {
+            regex.expand("[$<a>$2]", found).unwrap()
+        });
+        assert_eq!(by_function.unwrap(), by_template(limit));
+    }
+    let same = regex.replacen("ab", 2, "y");
+    assert!(matches!(same.unwrap(), Cow::Borrowed("ab")));
+    // A result that is much longer than the text.
+    let long = "ab".repeat(1000);
+    assert_eq!(
+        regex.replacen("1-2-3", 2, &long).unwrap(),
+        format!("{long}-{long}-3")
+    );
+    let linear = LinearRegex::new(r"\d").unwrap();
+    assert_eq!(linear.replacen("1-2-3", 2, "<$&>"), "<1>-<2>-3");
+    let options = Options {
+        steps: 100,
+        ..Options::default()
+    };
+    let costly = Regex::with_options(r"(a*)*\1b", Flags::default(), options).unwrap();
+    for limit in 0..3 {
+        let text = "a".repeat(1000);
+        assert_eq!(
+            costly.replacen(&text, limit, ""),
+            Err(SearchError::OutOfSteps)
+        );
+        assert_eq!(
+            costly.replacen(&text, limit, |_: &Match| ""),
+            Err(SearchError::OutOfSteps)
+        );
+    }
+}
+
+#[test]
 fn texts_are_split_at_matches() {
     let regex = Regex::new(r",\s*").unwrap();
     let split = |text| regex.split(text).unwrap().collect::<Vec<_>>();

@@ -114,21 +114,16 @@ pub(crate) fn syntax_error(pattern: &str, bits: u32) -> Error {
             kind,
             text,
             position,
+            offset,
         } => Error::Syntax {
             kind,
             text,
             position,
-            offset: byte_offset(pattern, position),
+            offset,
         },
         Fault::Memory => Error::Memory,
         Fault::NoCodePoint | Fault::Library => Error::Library,
     }
-}
-
-/// Returns the byte offset of a code-point index of a text.
-fn byte_offset(text: &str, index: usize) -> usize {
-    let mut offsets = text.char_indices().map(|(offset, _)| offset);
-    offsets.nth(index).unwrap_or(text.len())
 }
 
 /// Returns the error of a search with this status.

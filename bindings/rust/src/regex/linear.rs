@@ -100,6 +100,16 @@ impl LinearRegex {
         found(self.0.replace_all(text, replacement))
     }
 
+    /// Returns `text` with its first `limit` matches replaced, as [`Regex::replacen`].
+    pub fn replacen<'t>(
+        &self,
+        text: &'t str,
+        limit: usize,
+        replacement: impl Replacer,
+    ) -> Cow<'t, str> {
+        found(self.0.replacen(text, limit, replacement))
+    }
+
     /// Returns what a template expands to at a match of this regular expression, as [`Regex::expand`].
     pub fn expand(&self, template: &str, found: &Match<'_>) -> String {
         self::found(self.0.expand(template, found))
