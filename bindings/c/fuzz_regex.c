@@ -149,12 +149,14 @@ int LLVMFuzzerTestOneInput(const uint8_t *data, size_t size) {
     if (size < 3) {
         return 0;
     }
-    /* The flags, the length of the pattern, the pattern and the text. */
-    uint32_t flags = data[0] % 128;
+    /* The flags and the dialect, the length of the pattern, the pattern and the text. With 64 alone the dialect is
+       REGRESS, and with 128 too there is an unknown bit. */
+    uint32_t is_regress = data[0] / 64 == 1, bits = data[0] % 64 | (data[0] / 64 == 3 ? 64 : 0);
+    uint32_t flags = bits | (is_regress ? REGRESS_DIALECT_REGRESS : 0);
     size_t rest = size - 2, length = data[1] % (rest + 1), needed, position;
     const uint8_t *pattern = data + 2, *text = pattern + length;
     uint32_t kind;
-    parse(pattern, length, flags);
+    parse(pattern, length, bits | (is_regress ? 0 : REGRESS_FRONT_DIALECT_ECMA));
     regress_regex regex = {NULL};
     regress_limits limits = {100000, 10000, 0, 0, 0};
     uint32_t status = regress_compile(pattern, length, flags, &limits, &regex, &kind, &position);
