@@ -23,6 +23,7 @@ if len(sys.argv) > 1:
 import regress
 
 CASES = pathlib.Path(__file__).resolve().parents[2] / 'crates/test_cases/data/generated'
+DIFFERS = '# differs '
 
 
 def literal(field):
@@ -34,10 +35,14 @@ def literal(field):
 
 
 def cases(name):
-    """Yields the lines of a file of test cases, each with its fields."""
+    """Yields the lines of a file of test cases, each with its fields. One that begins with DIFFERS is a test case too:
+    V8 finds the match of the default dialect, and another one is found in 'regress'."""
     for number, line in enumerate((CASES / name).read_text(encoding='utf-8').split('\n'), 1):
+        line = line[len(DIFFERS):] if line.startswith(DIFFERS) else line
         if line and not line.startswith('#'):
-            yield '%s:%d: %s' % (name, number, line), [literal(field) for field in line.split('\t')]
+            fields = [literal(field) for field in line.split('\t')]
+            # Each pattern is compiled under the table of all of Unicode.
+            yield '%s:%d: %s' % (name, number, line), fields[1:] if fields[0] == 'unicode' else fields
 
 
 def compiled(flags, pattern):
@@ -73,6 +78,9 @@ class V8(unittest.TestCase):
 
     def test_first_matches(self):
         self.compare_searches('v8.tsv', 'find', lambda pattern, text: spans(pattern.search(text)))
+
+    def test_first_matches_of_letters_with_unusual_case(self):
+        self.compare_searches('v8_cases.tsv', 'find', lambda pattern, text: spans(pattern.search(text)))
 
     def test_all_matches(self):
         self.compare_searches('v8_all.tsv', 'all', lambda pattern, text: ' | '.join(

@@ -3,8 +3,9 @@
 use regress_front::{
     parse_and_optimize_str, parse_and_optimize_str_in, parse_str, parse_str_in,
     parse_str_with_spans, parse_str_with_spans_in, Dialect, Error, Fault, FaultKind, Flags, Node,
-    Options, Regex, Table,
+    Options, Regex, SearchError, Table,
 };
+use Found::{Nothing, Rejected, Text};
 
 fn compile(pattern: &str, flags: Flags, dialect: Dialect) -> Result<Regex, Error> {
     let options = Options {
@@ -151,4 +152,147 @@ fn the_flag_v_implies_u_in_ecma() {
     );
     assert!(compile(r"\y", sets, Dialect::Ecma).is_err());
     assert!(compile(r"\y", sets, Dialect::Regress).is_ok());
+}
+
+/// What is found first in a text: a match, nothing, or that the pattern is rejected.
+#[derive(Clone, Copy, Debug, PartialEq)]
+enum Found {
+    Text(&'static str),
+    Nothing,
+    Rejected,
+}
+
+/// The examples of `docs/differences.md`: pattern, flags, text, and what is found in `Ecma` and in `Regress`. V8 11.3
+/// finds what is found in `Ecma`, but in the last six, where a code point above U+FFFF is two of its characters. It has no
+/// two groups of one name: what their reference matches is from ECMA-262.
+const EXAMPLES: &[(&str, &str, &str, Found, Found)] = &[
+    ("[😀-😎]", "", "😀", Rejected, Text("😀")),
+    (
+        r"[\uD800\uDC00-\uDBFF\uDFFF]",
+        "",
+        "😀",
+        Rejected,
+        Text("😀"),
+    ),
+    (r"^\u{3}$", "", "uuu", Text("uuu"), Nothing),
+    (r"^\u{61}$", "", "a", Nothing, Text("a")),
+    ("[k]", "i", "\u{212A}", Nothing, Text("\u{212A}")),
+    ("[s]", "i", "\u{17F}", Nothing, Text("\u{17F}")),
+    ("[a-z]", "i", "\u{212A}", Nothing, Text("\u{212A}")),
+    ("[a-z]", "i", "\u{17F}", Nothing, Text("\u{17F}")),
+    (r"\w", "i", "\u{212A}", Nothing, Text("\u{212A}")),
+    (r"\w", "i", "\u{17F}", Nothing, Text("\u{17F}")),
+    (r"[\u212A]", "i", "k", Nothing, Text("k")),
+    (r"[\u212A]", "i", "K", Nothing, Text("K")),
+    (r"[\u017F]", "i", "s", Nothing, Text("s")),
+    (r"[\u017F]", "i", "S", Nothing, Text("S")),
+    (r"\W", "i", "\u{212A}", Text("\u{212A}"), Nothing),
+    (r"\W", "i", "\u{17F}", Text("\u{17F}"), Nothing),
+    ("[ß]", "i", "ẞ", Nothing, Text("ẞ")),
+    ("[å]", "i", "\u{212B}", Nothing, Text("\u{212B}")),
+    ("[ω]", "i", "\u{2126}", Nothing, Text("\u{2126}")),
+    ("[θ]", "i", "ϴ", Nothing, Text("ϴ")),
+    ("[ᾳ]", "i", "ᾼ", Nothing, Text("ᾼ")),
+    (r"\b*", "", "", Rejected, Text("")),
+    (r"(?<a>x)[\k]", "", "xk", Rejected, Text("xk")),
+    (r"(?:(?<a>x)|(?<a>y))\k<a>", "", "yy", Text("yy"), Text("y")),
+    (r"\P{Lu}", "iv", "A", Nothing, Text("A")),
+    (r"\P{Lu}", "iv", "a", Nothing, Text("a")),
+    (r"[\W]", "i", "k", Nothing, Text("k")),
+    (r"[\W]", "iu", "S", Nothing, Text("S")),
+    (r"[\W_]", "i", "K", Nothing, Text("K")),
+    (r"[\W_]", "iu", "s", Nothing, Text("s")),
+    (r"[^\W_]", "i", "k", Text("k"), Nothing),
+    (r"[^\W_]", "iu", "k", Text("k"), Nothing),
+    ("[[^A]]", "iv", "A", Nothing, Text("A")),
+    ("[[^A]]", "iv", "a", Nothing, Text("a")),
+    ("[[A-Z]&&[a-z]]", "iv", "q", Text("q"), Nothing),
+    ("[[A-Z]&&[a-z]]", "iv", "Q", Text("Q"), Nothing),
+    ("[!#]", "v", "!", Text("!"), Rejected),
+    ("[!#]", "v", "#", Text("#"), Rejected),
+    ("[a&-c]", "v", "a", Text("a"), Rejected),
+    ("[a&-c]", "v", "+", Text("+"), Rejected),
+    ("[a&-c]", "v", "d", Nothing, Rejected),
+    ("[a&&&]", "v", "a", Rejected, Nothing),
+    (r"[^\q{ab}--\q{ab}]", "v", "x", Rejected, Text("x")),
+    (
+        r"[^\p{Emoji_Keycap_Sequence}&&a]",
+        "v",
+        "a",
+        Text("a"),
+        Rejected,
+    ),
+    ("[😀]", "", "😀", Nothing, Text("😀")),
+    ("[^😀]", "", "😀", Text("😀"), Nothing),
+    ("^.$", "", "😀", Text("😀"), Text("😀")),
+    ("^😀{2}$", "", "😀😀", Text("😀😀"), Text("😀😀")),
+    ("𐐀", "i", "𐐨", Text("𐐨"), Text("𐐨")),
+    (r"\uD83D", "", "😀", Nothing, Nothing),
+];
+
+#[test]
+fn differences_from_ecma_are_as_their_page_says() {
+    let found = |pattern: &str, letters: &str, text: &'static str, dialect| {
+        let options = Options {
+            dialect,
+            ..Options::default()
+        };
+        match Regex::with_options(pattern, letters.parse().unwrap(), options) {
+            Ok(regex) => match regex.find(text).unwrap() {
+                Some(found) => Text(&text[found.range()]),
+                None => Nothing,
+            },
+            Err(Error::Syntax { .. }) => Rejected,
+            Err(error) => panic!("{pattern}: {error}"),
+        }
+    };
+    for &(pattern, letters, text, ecma, regress) in EXAMPLES {
+        let in_ecma = found(pattern, letters, text, Dialect::Ecma);
+        let in_regress = found(pattern, letters, text, Dialect::Regress);
+        assert_eq!(
+            (in_ecma, in_regress),
+            (ecma, regress),
+            "{pattern}, {letters}"
+        );
+    }
+}
+
+/// What both dialects have otherwise than ECMA-262, as `docs/differences.md` lists it.
+#[test]
+fn limits_are_those_of_both_dialects() {
+    let (flags, small) = (Flags::default(), Table::Small);
+    for dialect in [Dialect::Ecma, Dialect::Regress] {
+        let options = Options {
+            dialect,
+            steps: 100,
+            ..Options::default()
+        };
+        let compile = |pattern: &str| Regex::with_options(pattern, flags, options);
+        let ends = |regex: Regex, text: &str| {
+            let matches = regex.find_iter(text);
+            matches.map(|m| m.unwrap().end()).collect::<Vec<_>>()
+        };
+        // Two matches, and none between the code units of the character.
+        assert_eq!(ends(compile("(?:)").unwrap(), "😀"), [0, 4]);
+        let too_many = [
+            ("()".repeat(65_536), FaultKind::TooManyGroups),
+            ("a*".repeat(65_536), FaultKind::TooManyLoops),
+            ("(".repeat(256) + &")".repeat(256), FaultKind::TooDeep),
+        ];
+        for (pattern, expected) in too_many {
+            match compile(&pattern) {
+                Err(Error::Syntax { kind, .. }) => assert_eq!(kind, expected),
+                other => panic!("{expected:?}: {:?}", other.err()),
+            }
+        }
+        let large = "a{18446744073709551617,18446744073709551616}";
+        assert!(parse_str_in(large, flags, small, dialect).is_ok());
+        let costly = compile(r"(a*)*\1b").unwrap();
+        assert_eq!(
+            costly.is_match(&"a".repeat(1000)),
+            Err(SearchError::OutOfSteps)
+        );
+        let ignored = Regex::with_options("a", "dgy".parse().unwrap(), options).unwrap();
+        assert_eq!(ends(ignored, "bab"), [2]);
+    }
 }

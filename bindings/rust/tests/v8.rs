@@ -5,6 +5,7 @@ use regress_front::{Flags, Match, Options, Regex, SearchError};
 use std::fs;
 
 const FOLDER: &str = "../../crates/test_cases/data/generated";
+const DIFFERS: &str = "# differs ";
 
 /// A test case: the name of the call, its arguments, and the result.
 struct Case {
@@ -13,13 +14,18 @@ struct Case {
     result: String,
 }
 
+/// Returns the test cases of a file. A line that begins with `DIFFERS` is one too: there V8 finds the match of this
+/// dialect, and another one is found in `Regress`.
 fn cases(file: &str) -> Vec<Case> {
     let path = format!("{}/{FOLDER}/{file}", env!("CARGO_MANIFEST_DIR"));
     let text = fs::read_to_string(&path).expect(&path);
     let lines = text.lines().enumerate();
     lines
+        .map(|(number, line)| (number, line.strip_prefix(DIFFERS).unwrap_or(line)))
         .filter(|(_, line)| !line.is_empty() && !line.starts_with('#'))
         .map(|(number, line)| {
+            // Each pattern is compiled under the table of all of Unicode.
+            let line = line.strip_prefix("unicode\t").unwrap_or(line);
             let mut fields: Vec<String> = line.split('\t').map(literal).collect();
             let result = fields.pop().unwrap_or_default();
             let name = format!("{file}:{}: {line}", number + 1);
@@ -104,12 +110,19 @@ fn compare_searches(file: &str, shown: impl Fn(&Regex, &str) -> Result<String, S
     conclude(&failures, cases.len());
 }
 
+fn first_match(regex: &Regex, text: &str) -> Result<String, SearchError> {
+    let found = regex.find(text)?;
+    Ok(found.map_or("none".into(), |found| spans(text, &found)))
+}
+
 #[test]
 fn first_matches_are_those_of_v8() {
-    compare_searches("v8.tsv", |regex, text| {
-        let found = regex.find(text)?;
-        Ok(found.map_or("none".into(), |found| spans(text, &found)))
-    });
+    compare_searches("v8.tsv", first_match);
+}
+
+#[test]
+fn first_matches_of_letters_with_unusual_case_are_those_of_v8() {
+    compare_searches("v8_cases.tsv", first_match);
 }
 
 #[test]
