@@ -660,11 +660,16 @@ static void exactness(void) {
 /* A handle that is zero, as one that is freed or was never compiled, is an invalid argument. */
 static void zero_handles(void) {
     regress_regex zero = {NULL};
+    regress_matches none = {NULL};
     CHECK(found(&zero, "a", 0, ROOM) == REGRESS_BAD_INPUT && needed == 0 && spans[0] == MARK);
     CHECK(found_all(&zero, "a", ROOM) == REGRESS_BAD_INPUT && needed == 0 && spans[0] == MARK);
     CHECK(regress_is_match(&zero, (const uint8_t *)"a", 1) == REGRESS_BAD_INPUT);
     CHECK(replaced(&zero, "a", "b", ROOM) == REGRESS_BAD_INPUT && are_none());
     CHECK(all_replaced(&zero, "a", "b", ROOM) == REGRESS_BAD_INPUT && are_none());
+    CHECK(first_replaced(&zero, "a", "b", 1, ROOM) == REGRESS_BAD_INPUT && are_none() && changes == 0);
+    CHECK(expanded_at(&zero, "a", NUMBERS(0, 1), "b", ROOM) == REGRESS_BAD_INPUT && are_none());
+    CHECK(regress_matches_new(&zero, (const uint8_t *)"a", 1, 0, &none) == REGRESS_BAD_INPUT && !none.inside);
+    CHECK(regress_split(&zero, (const uint8_t *)"a", 1, 9, &none) == REGRESS_BAD_INPUT && !none.inside);
     CHECK(name(&zero, 1, ROOM) == REGRESS_BAD_INPUT && are_bytes(""));
     CHECK(regress_group_count(&zero) == 0 && regress_is_linear(&zero) == 0 && regress_nonlinear(&zero) == 0);
     CHECK(regress_steps_per_byte(&zero) == 0 && regress_find_steps_per_byte(&zero) == 0);

@@ -26,6 +26,7 @@ static int calls(void) {
     wrong += regress_find_all(&shared, bytes, length, 4, spans, 16, &needed) != REGRESS_OK || spans[0] != 18;
     regress_matches matches;
     wrong += regress_matches_new(&shared, bytes, length, 4, &matches) != REGRESS_OK
+             || regress_matches_left(&matches) != 8
              || regress_matches_next(&matches, spans, 16, &needed) != REGRESS_OK || spans[0] != 18
              || regress_matches_next(&matches, spans, 16, &needed) != REGRESS_NO_MATCH;
     regress_matches_free(&matches);
@@ -45,6 +46,7 @@ static int calls(void) {
     wrong += regress_group_name(&shared, 1, out, 64, &needed) != REGRESS_OK || memcmp(out, "year", 5) != 0;
     wrong += regress_is_linear(&shared) != 1 || regress_nonlinear(&shared) != 0;
     wrong += regress_steps_per_byte(&shared) == 0 || regress_find_steps_per_byte(&shared) == 0;
+    wrong += regress_is_exact_for(&shared, bytes, length) != 1;
     return wrong;
 }
 
