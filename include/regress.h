@@ -84,7 +84,7 @@ typedef struct regress_matches {
 
 /* The limits of a compiled pattern; 0 is the default of each, so {0} are the default limits.
 
-   - steps: the steps of a search that is not linear, by default a billion, about a minute at most.
+   - steps: the steps of a search that is not linear, by default a billion. docs/performance.md says what a step is.
    - nodes: the nodes of the tree of the pattern, as regress_front_node_bound_utf8 bounds them, by default a million.
    - instructions: those of its program, where the body of a loop {n,m} counts m times, or if it is one character, about
      m / 64 times; by default 250,000.

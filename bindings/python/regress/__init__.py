@@ -132,8 +132,7 @@ def compile(pattern, flags='', *, dialect='ecma', steps=None, nodes=None, instru
     dialect is 'ecma', the language of JavaScript, or 'regress', that of the Rust crate regress: docs/syntax.md has the
     rules in which they differ. The limits are:
 
-        steps         the steps of one search that does not take linear time; a billion by default, which takes about a
-                      minute at most
+        steps         the steps of one search that does not take linear time; a billion by default
         nodes         the nodes of the tree of the pattern, as node_bound() bounds them; a million by default
         instructions  those of its program, where the body of a loop {n,m} counts m times, or if it is one character,
                       about m / 64 times; 250,000 by default

@@ -78,8 +78,7 @@ pub struct Options {
     /// The dialect of the pattern. By default `Dialect::Ecma`, the language of JavaScript.
     pub dialect: Dialect,
     /// The number of steps that one search may take if it does not take linear time ([`Regex::is_linear`],
-    /// [`Regex::is_find_linear`]). By default a billion, which takes about a minute at most. A call that is about all
-    /// matches is one search.
+    /// [`Regex::is_find_linear`]). By default a billion. A call that is about all matches is one search.
     pub steps: u64,
     /// The number of nodes that the tree of the pattern may have, as [`node_bound`](crate::node_bound) bounds it. By
     /// default a million.
