@@ -9,8 +9,8 @@ pub struct Options {
     /// which the dialects differ.
     pub dialect: Dialect,
     /// The number of steps that one search may take if it is not linear, counted as in `Backtracker::find` of
-    /// `regress_backtrack`. All matches that an iterator returns are one search. A billion by default, which takes about a
-    /// minute at most.
+    /// `regress_backtrack`. All matches that an iterator returns are one search. A billion by default; how long that takes
+    /// depends on the pattern (`docs/performance.md`).
     pub steps: u64,
     /// The number of nodes that the tree of the pattern may have, as `node_bound` of `regress_front` bounds it before
     /// the pattern is parsed. A million by default.
