@@ -1,5 +1,5 @@
 -- Searches for one match in linear time.
-use Rattle.std.proofs.Common.{◌≡◌, ℕ, ◌+◌, ◌*◌, ◌≤◌, Bool, true, false, not, ◌&&◌, List, length, Option, Some, None, IfSome, refl, sym, ap, subst, ◌∙◌, arith}
+use Rattle.std.proofs.Common.{◌≡◌, ℕ, ◌+◌, ◌-◌, ◌*◌, ◌≤◌, Bool, true, false, List, length, Option, Some, None, IfNone, IfSome, refl, sym, ap, subst, ◌∙◌, arith}
 use Rattle.std.specs.Arc.{arc_value}
 use Rattle.std.specs.Prelude.{if◌then◌else◌, is_some, option_map}
 use Rattle.regress_unicode.specs.declared.Tables.{Tables}
@@ -11,11 +11,13 @@ use Rattle.regress_tables.specs.Search.{capturing_steps, per_byte, walk_weight}
 use Rattle.regress_program.specs.Tidy.{is_tabled}
 use Rattle.regress_found.specs.declared.found.Match.{Match}
 use Rattle.regress_program.proofs.lemmas.Strict.{linear-tabled}
-use Rattle.regress_code.specs.Code.{code_groups, code_routines, outcomes_from, setting_with}
+use Rattle.regress_code.specs.Code.{code_groups, code_routines, code_tidy, outcomes_from, setting_with}
 use Rattle.regress_code.specs.declared.code.Code.{Code}
 use Rattle.regress_match.specs.Compiled.{IsCodeOf}
+use Rattle.regress_found.specs.declared.outcome.Outcome.{Outcome}
+use Rattle.regress_found.specs.declared.outcome.Outcome.TheVariants as outcomes
 use Rattle.regress_found.specs.Results.{IsSearchResult, IfOutOfSteps}
-use Rattle.regress_match.specs.Matcher.{factor, factor_with, find_factor, find_factor_with, outcome_if}
+use Rattle.regress_match.specs.Matcher.{IsLimited, factor, factor_of, factor_with, find_factor, find_factor_of, find_factor_with, outcome_if}
 use Rattle.regress_match.specs.Pattern.{matcher_outcomes, matcher_setting, matcher_tree}
 use Rattle.regress_match.specs.declared.matcher.Matcher.{Matcher}
 use Rattle.regress_match.proofs.MatcherLemmas.{bound_linear, code_of, table_finds}
@@ -35,11 +37,17 @@ same_bound groups tidy routines true some =
     none_inside i n = omega arith
 same_bound groups tidy routines false some = refl
 
--- Where no search takes linear time for one match alone, the bounds are the same.
-pub same_bounds : (all one : Option ℕ) → (is_some all ≡ true → one ≡ all) → (is_some one && not (is_some all)) ≡ false → one ≡ all
-same_bounds None None same is = refl
-same_bounds None (Some n) same is = absurd (cc)
-same_bounds (Some n) one same is = same refl
+-- What holds of the bound for one match holds of that for all matches.
+pub all_by_one : (m : Matcher) (P : ℕ → Type 0) → IfSome (find_factor_of m) P → IfSome (factor_of m) P
+all_by_one m P one = by (factor_of m) (same_bound (code_groups m.code) (code_tidy m.code) (code_routines m.code) m.within)
+  where
+    by : (all : Option ℕ) → (is_some all ≡ true → find_factor_of m ≡ all) → IfSome all P
+    by None same = tt
+    by (Some n) same = subst (λ o. IfSome o P) (same refl) one
+
+pub if_none : (o : Option ℕ) (P : ℕ → Type 0) → is_some o ≡ false → IfSome o P
+if_none None P none = tt
+if_none (Some n) P none = absurd (cc)
 
 -- ---- the steps of a search for one match
 

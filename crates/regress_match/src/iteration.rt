@@ -1,12 +1,11 @@
 //! The next match of a matcher: by backtracking, and then by tables.
-ghost use Rattle.std.specs.Prelude.{◌≡◌, ◌<◌, ◌≤◌, ◌+◌, ◌-◌, ◌*◌, ℕ, IfErr, IfNone, IfOk, IfSome, IsNone, IsSome, MatchOption, OnErr, Some, false, length, min, true};
+ghost use Rattle.std.specs.Prelude.{◌≡◌, ◌<◌, ◌≤◌, ◌+◌, ◌-◌, ◌*◌, ℕ, IfErr, IfNone, IfOk, IfSome, IsNone, IsSome, OnErr, Some, false, length, min, true};
 ghost use Rattle.regress_tree.specs.WellFormed.{IsWellFormed};
 ghost use Rattle.regress_program.specs.Cost.{Cost};
 ghost use Rattle.regress_program.specs.Program.{Out};
 ghost use Rattle.regress_code.specs.Code.{captures_cost};
 ghost use Rattle.regress_match.specs.Costs.{AreCosts, IsWithinFindCost, find_cost};
 ghost use Rattle.regress_match.specs.Iterated.{HasCounted, IsSameIteration, Spends, iterated_from, iterated_matcher, iterated_text, step_limit, steps_remaining, steps_taken};
-ghost use Rattle.regress_match.specs.Kept.{IsRunOf};
 ghost use Rattle.regress_found.specs.Results.{IsSearchResult, IfMatched, IfOutOfSteps};
 ghost use Rattle.regress_found.specs.Found.{IsInside, start_of};
 ghost use Rattle.regress_match.specs.Matcher.{factor_of, outcome_if};
@@ -15,18 +14,12 @@ ghost use Rattle.regress_found.specs.declared.fault.MemoryFault.TheVariants.{Too
 ghost use Rattle.regress_match.specs.Memory.{TablesNeedMore};
 ghost use Rattle.regress_found.specs.Repeated.{EndsHere, offset_after};
 ghost use Rattle.regress_found.specs.Tried.{positions_tried};
-ghost use Rattle.regress_prefilter.specs.Required.{NoneFrom};
 
 use crate::matcher::Matcher;
 use crate::matcher_matches::MatcherMatches;
-use memchr::memchr;
-use regress_backtrack::Backtracker;
 use regress_found::{Match, MemoryFault, Outcome};
 use regress_tables::Linear;
 use std::alloc::{AllocError, Global};
-
-/// The length in bytes from which on a search first looks for a byte that each match contains.
-const LONG_TEXT: usize = 4096;
 
 impl<'m> MatcherMatches<'m> {
     /// Returns the next match.
@@ -111,8 +104,7 @@ impl<'m> MatcherMatches<'m> {
     /// Moves the search past the text if a byte that each match contains does not follow, and returns whether it did.
     ///
     /// It looks for the byte before the first match only, so that all searches together look at each byte of the text
-    /// once. Each byte looked at is a step. It does nothing in a text that is shorter than the program, or so short that
-    /// finding out which byte it is does not pay, or if there may be too few steps.
+    /// once. Each byte looked at is a step.
     fn skip_to_end(&mut self) -> bool
         requires { IsNone self.old.search }
         ensures ends { result ≡ true → EndsHere (iterated_text self.old) (matcher_outcomes (iterated_matcher self.old) (iterated_text self.old)) (iterated_from self.old) (iterated_from self.new) }
@@ -123,24 +115,19 @@ impl<'m> MatcherMatches<'m> {
         ensures spent { Spends self.old self.new }
         ensures searched { self.new.searched ≡ self.old.searched }
     {
-        let len = self.text.len();
-        if self.backtracker.is_some() || len < LONG_TEXT || len as u64 > self.remaining {
+        if self.backtracker.is_some() {
             return false;
         }
-        let Some(byte) = self.matcher.required_byte_within(len) else {
+        let mut left = self.remaining;
+        let lacks = self
+            .matcher
+            .lacks_required_byte(self.text, self.from, &mut left);
+        self.remaining = left;
+        if !lacks {
             return false;
-        };
-        match offset_of(byte, self.text, self.from) {
-            Some(ahead) => {
-                self.remaining -= ahead as u64 + 1;
-                false
-            }
-            None => {
-                self.remaining -= len.saturating_sub(self.from) as u64;
-                self.from = len + 1;
-                true
-            }
         }
+        self.from = self.text.len() + 1;
+        true
     }
 
     /// Returns the next match by backtracking, or [`Outcome::OutOfSteps`] if its steps are used up.
@@ -162,12 +149,15 @@ impl<'m> MatcherMatches<'m> {
             - (captures_cost (iterated_matcher self.old).code + positions_tried (iterated_text self.old) (iterated_from self.old) (Some m)))) }
     {
         let text = self.text();
-        let kept = self.backtracker.take();
-        let mut backtracker = runs_of(alloc, self.matcher, self.text, kept)?;
         let mut remaining = self.remaining;
-        let outcome = backtracker.find(alloc, self.from, &mut remaining)?;
+        let outcome = self.matcher.find_by_kept(
+            alloc,
+            self.text,
+            &mut self.backtracker,
+            self.from,
+            &mut remaining,
+        )?;
         let from = offset_after(text, self.from, &outcome);
-        self.backtracker = Some(backtracker);
         self.remaining = remaining;
         self.from = from;
         Ok(outcome)
@@ -220,36 +210,6 @@ impl<'m> MatcherMatches<'m> {
         self.searched = searched;
         self.from = from;
         Ok(outcome)
-    }
-}
-
-/// Returns the distance from the byte offset `from` to the next occurrence of a byte.
-fn offset_of(byte: u8, text: &str, from: usize) -> Option<usize>
-    ensures { MatchOption result (NoneFrom byte text.now from) (λ ahead. from + ahead < length text.now) }
-{
-    let bytes = text.as_bytes();
-    if from >= bytes.len() {
-        return None;
-    }
-    memchr(byte, &bytes[from..])
-}
-
-/// Returns the runs that are kept, or new ones.
-///
-/// # Preconditions
-/// The runs are of the program of the matcher and of the text.
-fn runs_of<'m>(
-    alloc: Global,
-    matcher: &'m Matcher,
-    text: &'m str,
-    kept: Option<Backtracker<'m, 'm>>,
-) -> Result<Backtracker<'m, 'm>, AllocError>
-    requires { IfSome kept (IsRunOf matcher.now text.now) }
-    ensures { IfOk result (IsRunOf matcher.now text.now) }
-{
-    match kept {
-        Some(backtracker) => Ok(backtracker),
-        None => Backtracker::new(alloc, &matcher.code, matcher.known(), text),
     }
 }
 

@@ -11,6 +11,7 @@ pub mod names;
 mod nonlinear;
 mod one_match;
 mod required;
+mod runs;
 mod searches;
 
 pub use limits::Limits;

@@ -1,48 +1,38 @@
-//! One match in linear time, where lookarounds capture.
-ghost use Rattle.std.specs.Prelude.{◌≡◌, ◌+◌, ◌*◌, ◌≤◌, ◌&&◌, not, IfErr, IfOk, IfSome, None, is_some, length};
+//! A search for one match: by backtracking, and then by tables.
+ghost use Rattle.std.specs.Prelude.{◌≡◌, ◌+◌, ◌*◌, ◌≤◌, IfErr, IfOk, IfSome, length};
 ghost use Rattle.regress_tree.specs.WellFormed.{IsWellFormed};
 ghost use Rattle.regress_found.specs.Results.{IsSearchResult, IfMatched, IfOutOfSteps};
 ghost use Rattle.regress_found.specs.Found.{IsInside};
 ghost use Rattle.regress_found.specs.declared.fault.MemoryFault.TheVariants.{TooMuchMemory};
 ghost use Rattle.regress_match.specs.Memory.{TablesNeedMore};
-ghost use Rattle.regress_match.specs.Matcher.{IsLinear, factor_of, find_factor_of};
+ghost use Rattle.regress_match.specs.Costs.{IsWithinFindCost};
+ghost use Rattle.regress_match.specs.Matcher.{IsLimited, IsLinear, find_factor_of};
 ghost use Rattle.regress_match.specs.Pattern.{matcher_outcomes, matcher_tree};
 
 use crate::iteration::outcome_of;
 use crate::matcher::Matcher;
 use regress_found::{Found, MemoryFault, Outcome};
 use regress_tables::Linear;
-use std::alloc::Global;
+use std::alloc::{AllocError, Global};
 
 impl Matcher {
-    /// Returns whether a search for one match takes linear time, and one for all matches does not.
-    pub(crate) fn is_linear_for_one(&self) -> bool
-        ensures { result ≡ (is_some (find_factor_of self.now) && not (is_some (factor_of self.now))) }
-    {
-        self.is_find_linear() && !self.is_linear()
-    }
-
     /// Returns the leftmost match that starts at the byte offset `from` or later: by backtracking, and by tables once its
     /// steps are used up.
     ///
-    /// # Preconditions
-    /// Searches for all matches are not known to take linear time.
-    ///
     /// # Errors
     /// As for [`Matcher::find`].
-    pub(crate) fn find_one(
+    pub(crate) fn find_in_linear_time(
         &self,
         alloc: Global,
         text: &str,
         from: usize,
     ) -> Result<Found, MemoryFault>
-        requires { factor_of self.now ≡ None }
         ensures finds { IfOk result (λ found. IsSearchResult text.now (matcher_outcomes self.now text.now) from found.outcome) }
         ensures inside { IfOk result (λ found. IsWellFormed (matcher_tree self.now) → IfMatched found.outcome (IsInside text.now)) }
         ensures bounded { IfOk result (λ found. IfSome (find_factor_of self.now) (λ n. IsLinear n text.now found.outcome found.steps)) }
         ensures too_much { IfErr result (λ fault. fault ≡ TooMuchMemory → TablesNeedMore self.now text.now) }
     {
-        let first = self.find_first(alloc, text, from, self.steps_before_tables(text))?;
+        let first = self.find_within(alloc, text, from, self.steps_before_tables(text))?;
         let steps = first.steps;
         match first.outcome {
             Outcome::OutOfSteps => {
@@ -54,6 +44,37 @@ impl Matcher {
             }
             outcome => Ok(Found { outcome, steps }),
         }
+    }
+
+    /// Returns the leftmost match that starts at the byte offset `from` or later, by backtracking within `limit` steps.
+    ///
+    /// # Errors
+    /// Returns [`AllocError`] if an allocation fails.
+    pub(crate) fn find_within(
+        &self,
+        alloc: Global,
+        text: &str,
+        from: usize,
+        limit: u64,
+    ) -> Result<Found, AllocError>
+        ensures finds { IfOk result (λ found. IsSearchResult text.now (matcher_outcomes self.now text.now) from found.outcome) }
+        ensures inside { IfOk result (λ found. IsWellFormed (matcher_tree self.now) → IfMatched found.outcome (IsInside text.now)) }
+        ensures limited { IfOk result (λ found. IsLimited limit found.outcome found.steps) }
+        ensures costs { IfOk result (λ found. IsWithinFindCost self.now text.now from found.steps) }
+    {
+        let mut remaining = limit;
+        if self.lacks_required_byte(text, from, &mut remaining) {
+            return Ok(Found {
+                outcome: Outcome::NoMatch,
+                steps: limit - remaining,
+            });
+        }
+        let mut backtracker = None;
+        let outcome = self.find_by_kept(alloc, text, &mut backtracker, from, &mut remaining)?;
+        Ok(Found {
+            outcome,
+            steps: limit - remaining,
+        })
     }
 
     /// Returns the leftmost match by tables, or [`Outcome::OutOfSteps`] if they do not lead to it.

@@ -81,34 +81,11 @@ impl Matcher {
         ensures costs { IfOk result (λ found. IfNone (find_factor_of self.now) (IsWithinFindCost self.now text.now from found.steps)) }
         ensures too_much { IfErr result (λ fault. fault ≡ TooMuchMemory → TablesNeedMore self.now text.now) }
     {
-        if self.is_linear_for_one() {
-            self.find_one(alloc, text, from)
+        if self.is_find_linear() {
+            self.find_in_linear_time(alloc, text, from)
         } else {
-            self.find_first(alloc, text, from, steps)
+            Ok(self.find_within(alloc, text, from, steps)?)
         }
-    }
-
-    /// Returns the first match of a search for all.
-    pub(crate) fn find_first(
-        &self,
-        alloc: Global,
-        text: &str,
-        from: usize,
-        steps: u64,
-    ) -> Result<Found, MemoryFault>
-        ensures finds { IfOk result (λ found. IsSearchResult text.now (matcher_outcomes self.now text.now) from found.outcome) }
-        ensures inside { IfOk result (λ found. IsWellFormed (matcher_tree self.now) → IfMatched found.outcome (IsInside text.now)) }
-        ensures linear { IfOk result (λ found. IfSome (factor_of self.now) (λ n. IsLinear n text.now found.outcome found.steps)) }
-        ensures limited { IfOk result (λ found. IfNone (factor_of self.now) (IsLimited steps found.outcome found.steps)) }
-        ensures costs { IfOk result (λ found. IfNone (factor_of self.now) (IsWithinFindCost self.now text.now from found.steps)) }
-        ensures too_much { IfErr result (λ fault. fault ≡ TooMuchMemory → TablesNeedMore self.now text.now) }
-    {
-        let mut matches = self.find_iter(text, from, steps);
-        let outcome = matches.next(alloc)?;
-        Ok(Found {
-            outcome,
-            steps: matches.steps(),
-        })
     }
 
     /// Matches at exactly the byte offset `position`, with every group unset at first, within `steps` steps.

@@ -1,25 +1,14 @@
-use Rattle.std.proofs.Common.{◌≡◌, IfNone, subst, sym, ◌∙◌}
-use Rattle.std.specs.Prelude.{IfOk}
-use Rattle.regress_code.specs.Code.{code_groups, code_routines, code_tidy}
-use Rattle.regress_match.specs.Costs.{IsWithinFindCost}
-use Rattle.regress_match.specs.Matcher.{IsLimited, factor_of, find_factor_of}
-use Rattle.regress_match.proofs.OneMatchLemmas.{same_bound, same_bounds}
+use Rattle.std.proofs.Common.{◌∙◌, sym}
+use Rattle.std.proofs.lemmas.Result.{IfOk-weaker}
+use Rattle.regress_match.specs.Matcher.{IsLinear, find_factor_of}
+use Rattle.regress_match.proofs.OneMatchLemmas.{all_by_one, if_none}
 use Rattle.regress_match.proofs.matcher.Matcher.find.Goals as goal
 
-pub returns-else-is_linear_for_one-clause-limited : goal.returns-else-is_linear_for_one-clause-limited
-returns-else-is_linear_for_one-clause-limited c =
-    let m = c.args.self.now in
-    let same : find_factor_of m ≡ factor_of m =
-    same_bounds (factor_of m) (find_factor_of m) (same_bound (code_groups m.code) (code_tidy m.code) (code_routines m.code) m.within)
-    (sym c.is_linear_for_one.ensures ∙ c.if-is_linear_for_one.false) in
-    subst (λ o. IfOk c.find_first.result (λ found. IfNone o (IsLimited c.args.steps found.outcome found.steps))) (sym same)
-    c.find_first.ensures.limited
+pub returns-then-is_find_linear-clause-linear : goal.returns-then-is_find_linear-clause-linear
+returns-then-is_find_linear-clause-linear c =
+    IfOk-weaker c.find_in_linear_time.result _ _
+    (λ found one. all_by_one c.args.self.now (λ n. IsLinear n c.args.text.now found.outcome found.steps) one) c.find_in_linear_time.ensures.bounded
 
-pub returns-else-is_linear_for_one-clause-costs : goal.returns-else-is_linear_for_one-clause-costs
-returns-else-is_linear_for_one-clause-costs c =
-    let m = c.args.self.now in
-    let same : find_factor_of m ≡ factor_of m =
-    same_bounds (factor_of m) (find_factor_of m) (same_bound (code_groups m.code) (code_tidy m.code) (code_routines m.code) m.within)
-    (sym c.is_linear_for_one.ensures ∙ c.if-is_linear_for_one.false) in
-    subst (λ o. IfOk c.find_first.result (λ found. IfNone o (IsWithinFindCost m c.args.text.now c.args.from found.steps))) (sym same)
-    c.find_first.ensures.costs
+pub returns-in_ok-find_within-clause-linear : goal.returns-in_ok-find_within-clause-linear
+returns-in_ok-find_within-clause-linear c =
+    all_by_one c.args.self.now _ (if_none (find_factor_of c.args.self.now) _ (sym c.is_find_linear.ensures ∙ c.if-is_find_linear.false))

@@ -1,7 +1,7 @@
 use Rattle.std.proofs.Common.{arith, ◌≡◌, ◌-◌, ◌∙◌, length, take, drop, ap}
 use Rattle.std.proofs.lemmas.List.{length-drop, take_all}
 use Rattle.regress_match.proofs.RequiredLemmas.{offset_is}
-use Rattle.regress_match.proofs.iteration.offset_of.Goals as goal
+use Rattle.regress_match.proofs.required.offset_of.Goals as goal
 
 pub returns : goal.returns
 returns c =
