@@ -1,5 +1,5 @@
 -- The cost of searches by backtracking.
-use Rattle.std.proofs.Common.{◌≡◌, ℕ, ◌+◌, ◌-◌, ◌≤◌, List, length, Option, Some, None, IfNone, sym, ap, subst, ◌∙◌, arith}
+use Rattle.std.proofs.Common.{◌≡◌, ℕ, ◌+◌, ◌-◌, ◌≤◌, List, length, sym, ap, subst, ◌∙◌, arith}
 use Rattle.std.specs.Prelude.{Result, Ok, Err, IfOk}
 use Rattle.std.specs.Arc.{arc_value}
 use Rattle.std.specs.declared.alloc.AllocError.{AllocError}
@@ -12,9 +12,8 @@ use Rattle.regress_unicode.specs.declared.Tables.{Tables}
 use Rattle.regress_code.specs.declared.code.Code.{Code}
 use Rattle.regress_match.specs.Compiled.{IsCodeOf}
 use Rattle.regress_match.specs.Costs.{AreCosts, IsWithinFindCost, find_cost}
-use Rattle.regress_match.specs.Iterated.{IsSameIteration, iterated_from, iterated_matcher, iterated_text, step_limit, steps_remaining}
+use Rattle.regress_match.specs.Iterated.{IsSameIteration, iterated_from, iterated_matcher, iterated_text, steps_remaining}
 use Rattle.regress_match.specs.Kept.{IsRunOf}
-use Rattle.regress_match.specs.Matcher.{factor_of}
 use Rattle.regress_match.specs.Pattern.{matcher_setting, matcher_tree}
 use Rattle.regress_match.specs.declared.matcher.Matcher.{Matcher}
 use Rattle.regress_match.specs.declared.matcher_matches.MatcherMatches.{MatcherMatches}

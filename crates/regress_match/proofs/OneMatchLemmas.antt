@@ -1,5 +1,5 @@
 -- Searches for one match in linear time.
-use Rattle.std.proofs.Common.{◌≡◌, ℕ, ◌+◌, ◌-◌, ◌*◌, ◌≤◌, Bool, true, false, List, length, Option, Some, None, IfNone, IfSome, refl, sym, ap, subst, ◌∙◌, arith}
+use Rattle.std.proofs.Common.{◌≡◌, ℕ, ◌+◌, ◌*◌, ◌≤◌, Bool, true, false, List, length, Option, Some, None, IfSome, refl, sym, ap, subst, ◌∙◌, arith}
 use Rattle.std.specs.Arc.{arc_value}
 use Rattle.std.specs.Prelude.{if◌then◌else◌, is_some, option_map}
 use Rattle.regress_unicode.specs.declared.Tables.{Tables}
@@ -14,10 +14,8 @@ use Rattle.regress_program.proofs.lemmas.Strict.{linear-tabled}
 use Rattle.regress_code.specs.Code.{code_groups, code_routines, code_tidy, outcomes_from, setting_with}
 use Rattle.regress_code.specs.declared.code.Code.{Code}
 use Rattle.regress_match.specs.Compiled.{IsCodeOf}
-use Rattle.regress_found.specs.declared.outcome.Outcome.{Outcome}
-use Rattle.regress_found.specs.declared.outcome.Outcome.TheVariants as outcomes
 use Rattle.regress_found.specs.Results.{IsSearchResult, IfOutOfSteps}
-use Rattle.regress_match.specs.Matcher.{IsLimited, factor, factor_of, factor_with, find_factor, find_factor_of, find_factor_with, outcome_if}
+use Rattle.regress_match.specs.Matcher.{factor, factor_of, factor_with, find_factor, find_factor_of, find_factor_with, outcome_if}
 use Rattle.regress_match.specs.Pattern.{matcher_outcomes, matcher_setting, matcher_tree}
 use Rattle.regress_match.specs.declared.matcher.Matcher.{Matcher}
 use Rattle.regress_match.proofs.MatcherLemmas.{bound_linear, code_of, table_finds}
