@@ -7,7 +7,7 @@ use Rattle.regress_display.specs.Fault.{fault_json, json_text, line_at, column_a
 
 pub fault_json-written : (kind : FaultKind) (text source : List ℕ) (position : ℕ) (words name : List ℕ) (line column : ℕ) →
     words ≡ text → name ≡ name_of kind → line ≡ line_at source position → column ≡ column_at source position →
-    (codes "{\"fault\":\"" ++ json_text words) ++ (codes "\",\"kind\":\"" ++ (name ++ (codes "\",\"place\":" ++ (decimal position
+    (codes "{\"fault\":\"" ++ json_text words) ++ (codes "\",\"kind\":\"" ++ (name ++ (codes "\",\"position\":" ++ (decimal position
     ++ (codes ",\"line\":" ++ (decimal line ++ (codes ",\"column\":" ++ (decimal column ++ codes "}"))))))))
     ≡ fault_json kind text source position
 fault_json-written kind text source position words name line column same_text same_name same_line same_column =

@@ -39,10 +39,10 @@ json_character c =
 abbrev pub json_text : List ℕ → List ℕ
 json_text text = flat_map json_character (chars text)
 
--- `{"fault":"Unbalanced parenthesis","kind":"UnbalancedParenthesis","place":1,"line":1,"column":2}`
+-- `{"fault":"Unbalanced parenthesis","kind":"UnbalancedParenthesis","position":1,"line":1,"column":2}`
 abbrev pub fault_json : (kind : FaultKind) → (text source : List ℕ) → (position : ℕ) → List ℕ
 fault_json kind text source position =
-    codes "{\"fault\":\"" ++ json_text text ++ codes "\",\"kind\":\"" ++ name_of kind ++ codes "\",\"place\":" ++ decimal position
+    codes "{\"fault\":\"" ++ json_text text ++ codes "\",\"kind\":\"" ++ name_of kind ++ codes "\",\"position\":" ++ decimal position
     ++ codes ",\"line\":" ++ decimal (line_at source position) ++ codes ",\"column\":" ++ decimal (column_at source position) ++ codes "}"
 
 -- an object of JSON and a line feed, for a rejected pattern

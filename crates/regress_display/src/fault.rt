@@ -34,7 +34,7 @@ pub fn write_json_fault<W: Write>(
     out.flush()
 }
 
-/// A syntax error that displays as an object of JSON: `{"fault":"..","kind":"..","place":0,"line":1,"column":1}`.
+/// A syntax error that displays as an object of JSON: `{"fault":"..","kind":"..","position":0,"line":1,"column":1}`.
 #[derive(Clone, Copy)]
 struct JsonFault<'a> {
     kind: &'a FaultKind,
@@ -55,7 +55,7 @@ impl fmt::Display for JsonFault<'_> {
         write_json_text(&self.error.text, f)?;
         write!(
             f,
-            "\",\"kind\":\"{}\",\"place\":{},\"line\":{line},\"column\":{column}}}",
+            "\",\"kind\":\"{}\",\"position\":{},\"line\":{line},\"column\":{column}}}",
             self.kind.name(),
             self.position
         )
