@@ -6,29 +6,30 @@ use lib.Pointwise.{pointwise}
 use Rattle.std.proofs.lemmas.Bool.{cases_lt, cond-true, cond-false, false≢true}
 use Rattle.std.proofs.lemmas.Bool.Decides.{nat_tests}
 use Rattle.std.proofs.lemmas.List.{reverse-append}
-use Rattle.std.proofs.lemmas.List.Elements.{All-head, All-tail}
+use Rattle.std.proofs.lemmas.List.Elements.{All-head, All-tail, All-weaker}
 use Rattle.regress_base.specs.Table.{Table}
 use Rattle.regress_base.specs.declared.types.Flags.{Flags}
-use Rattle.regress_tree.specs.Reading.{Direction, Reading, forwards, backwards, IsText, of_characters, next_character}
+use Rattle.regress_tree.specs.Reading.{Direction, Reading, forwards, backwards, of_characters, next_character}
 use Rattle.regress_tree.specs.References.{characters_from, all_of, in_order, match_again, read_with, back_reference}
 use Rattle.regress_tree.specs.Steps as Steps
 use Rattle.regress_tree.specs.Steps.{CaptureSpan, IsStateOf, IsCaptureOf, IsSpanOf, one_character, moved, stay, ◌then_◌}
 use Rattle.regress_tree.proofs.lemmas.Outcomes.{flat_map-stay, flat_map-then}
-use Rattle.regress_tree.proofs.lemmas.References.{Simulates-back_reference}
+use Rattle.regress_tree.proofs.lemmas.Simulation.{IsReached}
 use Rattle.regress_ecma.specs.Notation.{CaptureRange, MatchResult, failure, Continuation}
 use Rattle.regress_ecma.specs.CharacterMatchers.{is_same, match_range, backreference_matcher}
 use Rattle.regress_ecma.specs.Compared.{state_on}
-use Rattle.regress_ecma.proofs.Bridge.{first_result, Agrees, or_failure}
+use Rattle.regress_ecma.proofs.Bridge.{first_result, Agrees, flat_map-all, or_failure, reached_by_both, reached_itself}
+use Rattle.regress_ecma.proofs.CharacterSets.{one_character-reached}
 use Rattle.regress_ecma.proofs.Groups.{if_same}
 
 -- ---- the character at a position
 
-at_end : (text : List ℕ) (k : ℕ) → drop k text ≡ [] → slice_get text k ≡ None
+pub at_end : (text : List ℕ) (k : ℕ) → drop k text ≡ [] → slice_get text k ≡ None
 at_end [] k e = refl
 at_end (x ∷ xs) zero e = cc
 at_end (x ∷ xs) (suc k) e = at_end xs k e
 
-inside : (text : List ℕ) (k x : ℕ) (xs : List ℕ) → drop k text ≡ x ∷ xs → (slice_get text k ≡ Some x) × (drop (suc k) text ≡ xs)
+pub inside : (text : List ℕ) (k x : ℕ) (xs : List ℕ) → drop k text ≡ x ∷ xs → (slice_get text k ≡ Some x) × (drop (suc k) text ≡ xs)
 inside [] zero x xs e = absurd (cc)
 inside [] (suc k) x xs e = absurd (cc)
 inside (y ∷ ys) zero x xs e = (cc, cc)
@@ -252,6 +253,22 @@ capture-within text id [] all = tt
 capture-within text zero (c ∷ captures) all = All-head (IsCaptureOf text) c captures all
 capture-within text (suc id) (c ∷ captures) all = capture-within text id captures (All-tail (IsCaptureOf text) c captures all)
 
+-- What it reaches is inside the text.
+module _ (text : List ℕ) (d : Direction) (same : ℕ → ℕ → Bool) where
+  all_of-reached : (cs : List ℕ) (s : Steps.MatchState) → IsStateOf text s → All (IsReached text d s) (all_of d (of_characters text) same cs s)
+  all_of-reached [] s in' = reached_itself text d s in'
+  all_of-reached (c ∷ cs) s in' =
+      flat_map-all (IsReached text d s) (IsReached text d s) (all_of d (of_characters text) same cs)
+      (λ t first.
+      All-weaker (IsReached text d t) (IsReached text d s) (λ u. reached_by_both text d s t u first) (all_of d (of_characters text) same cs t)
+      (all_of-reached cs t first.state))
+      (one_character d (of_characters text) (same c) s) (one_character-reached text d (same c) s in')
+
+  again-reached : (captured : Option CaptureSpan) (s : Steps.MatchState) → IsStateOf text s →
+      All (IsReached text d s) (match_again d (of_characters text) same captured s)
+  again-reached None s in' = reached_itself text d s in'
+  again-reached (Some span) s in' = all_of-reached (in_order d (characters_from (of_characters text) (span.1 - span.0) span.0 span.1)) s in'
+
 module _ (table : Table) (rer : Flags) (text : List ℕ) where
   -- what a capture, if the group has one, matches again
   again : (d : Direction) (s : Steps.MatchState) → IsStateOf text s → (c : Continuation) (captured : Option CaptureSpan) → IsCaptureOf text captured →
@@ -269,14 +286,14 @@ module _ (table : Table) (rer : Flags) (text : List ℕ) where
       range_same table rer text s in' c d r h
       ∙ ap (λ (cs : List ℕ). first_result text c (all_of d (of_characters text) (is_same table rer) (in_order d cs) s)) (sym characters)
 
-  pub Agrees-back_reference : IsText text → (same : ℕ → ℕ → Bool) → ((a b : ℕ) → is_same table rer a b ≡ same a b) → (d : Direction) (n : ℕ) →
+  pub Agrees-back_reference : (same : ℕ → ℕ → Bool) → ((a b : ℕ) → is_same table rer a b ≡ same a b) → (d : Direction) (n : ℕ) →
       Agrees text d (back_reference d (of_characters text) same (n - 1)) (backreference_matcher table rer (n ∷ []) d)
   unfolding back_reference backreference_matcher
-  Agrees-back_reference is_text same equal d n =
+  Agrees-back_reference same equal d n =
       let compared : ◌≡◌ {A = ℕ → ℕ → Bool} (is_same table rer) same = fun_ext (λ a. fun_ext (λ b. equal a b)) in
       record {
         same = λ s in' c.
             again d s in' c (get_or s.captures (n - 1) None) (capture-within text (n - 1) s.captures in'.captures)
             ∙ ap (λ (p : ℕ → ℕ → Bool). first_result text c (match_again d (of_characters text) p (get_or s.captures (n - 1) None) s)) compared;
-        reached = (Simulates-back_reference text is_text d same (n - 1)).reached;
+        reached = λ s in'. again-reached text d same (get_or s.captures (n - 1) None) s in';
       }

@@ -1,19 +1,20 @@
 -- Characters: what a set matches in the dialect and in ECMA-262.
-use Rattle.std.proofs.Common.{◌≡◌, ℕ, zero, suc, ◌+◌, ◌-◌, ◌<◌, ◌≤◌, min, nat_le, ◌==◌, Bool, true, false, not, List, [], ◌∷◌, length, slice_get, Option, Some, None, option_map, if◌then◌else◌, refl, sym, ap, ◌∙◌, arith, ⊎_elim}
+use Rattle.std.proofs.Common.{◌≡◌, ℕ, zero, suc, ◌+◌, ◌-◌, ◌<◌, ◌≤◌, min, nat_le, ◌==◌, Bool, true, false, not, All, List, [], ◌∷◌, length, slice_get, Option, Some, None, option_map, IfSome, if◌then◌else◌, refl, sym, ap, ◌∙◌, arith, ⊎_elim}
 use Rattle.std.specs.Option.{option_or}
-use Rattle.std.specs.Char.{IsScalar}
 use Rattle.std.proofs.lemmas.Bool.{cases_lt}
 use Rattle.std.proofs.lemmas.Bool.Decides.{nat_tests}
-use Rattle.std.proofs.lemmas.List.Elements.{All-head, All-tail}
+use Rattle.std.proofs.lemmas.List.Elements.{All-cons, All-head, All-nil, All-tail}
 use Rattle.std.proofs.lemmas.Option.{slice_get_past}
 use Rattle.regress_base.specs.Intervals.{is_member}
 use Rattle.regress_base.specs.Table.{Table}
 use Rattle.regress_base.specs.declared.types.Flags.{Flags}
 use Rattle.regress_tree.specs.Assertions.{differ, passes}
-use Rattle.regress_tree.specs.Reading.{Direction, forwards, backwards, IsText, of_characters}
+use Rattle.regress_tree.specs.Reading.{Direction, forwards, backwards, Read, next_character, of_characters}
 use Rattle.regress_tree.specs.Steps as Steps
 use Rattle.regress_tree.specs.Steps.{IsStateOf, moved}
-use Rattle.regress_tree.proofs.lemmas.Simulation.{Simulates-one_character}
+use Rattle.regress_tree.proofs.lemmas.Readings.{IsOnward, next_character-within}
+use Rattle.regress_tree.proofs.lemmas.Simulation.{IsReached}
+use Rattle.regress_lexer.specs.Source.{IsCodePoint}
 use Rattle.regress_ecma.specs.Notation.{CharSet, MatchResult, failure, Continuation}
 use Rattle.regress_ecma.specs.CharacterMatchers.{is_found, match_character, character_set_matcher}
 use Rattle.regress_ecma.specs.Assertions.{index_before, is_in_at}
@@ -22,17 +23,37 @@ use Rattle.regress_ecma.proofs.Bridge.{first_result, Agrees, or_failure}
 
 -- ---- one character
 
-text_character : (text : List ℕ) → IsText text → (k ch : ℕ) → slice_get text k ≡ Some ch → IsScalar ch
+text_character : (text : List ℕ) → All IsCodePoint text → (k ch : ℕ) → slice_get text k ≡ Some ch → IsCodePoint ch
 text_character [] all k ch e = absurd (cc)
 text_character (x ∷ text) all zero ch e =
     let same : x ≡ ch = cc in
-    let head = All-head IsScalar x text all in rw same at head
-text_character (x ∷ text) all (suc k) ch e = text_character text (All-tail IsScalar x text all) k ch e
+    let head = All-head IsCodePoint x text all in rw same at head
+text_character (x ∷ text) all (suc k) ch e = text_character text (All-tail IsCodePoint x text all) k ch e
+
+-- What a step over a character reaches is inside the text.
+module _ (text : List ℕ) (d : Direction) (test : ℕ → Bool) (s : Steps.MatchState) (in' : IsStateOf text s) where
+  if-reached : (b : Bool) (k : ℕ) → k ≤ length text → IsOnward d s.position k →
+      All (IsReached text d s) (if b then record s { position = k } ∷ [] else [])
+  if-reached true k within onward =
+      All-cons (IsReached text d s) _ [] (record { state = record { position = within; captures = in'.captures }; onward = onward })
+      (All-nil (IsReached text d s))
+  if-reached false k within onward = All-nil (IsReached text d s)
+
+  moved-reached : (read : Option Read) → IfSome read (λ r. (r.position ≤ length text) × IsOnward d s.position r.position) →
+      All (IsReached text d s) (moved test s read)
+  moved-reached None within = All-nil (IsReached text d s)
+  moved-reached (Some read) within = if-reached (test read.character) read.position within.0 within.1
+
+pub one_character-reached : (text : List ℕ) (d : Direction) (test : ℕ → Bool) (s : Steps.MatchState) → IsStateOf text s →
+    All (IsReached text d s) (Steps.one_character d (of_characters text) test s)
+unfolding Steps.one_character
+one_character-reached text d test s in' =
+    moved-reached text d test s in' (next_character d (of_characters text) s.position) (next_character-within text d s.position in'.position)
 
 module _ (table : Table) (rer : Flags) (set : CharSet) (invert : Bool) (test : ℕ → Bool) where
   -- The set has the members that pass the test, or with invert the others.
   abbrev pub IsSetOf : Type 0
-  IsSetOf = (ch : ℕ) → IsScalar ch → differ invert (is_found table rer set ch) ≡ test ch
+  IsSetOf = (ch : ℕ) → IsCodePoint ch → differ invert (is_found table rer set ch) ≡ test ch
 
   failed_same : (i b t : Bool) (r : MatchResult) → differ i b ≡ t →
       (if (if i then b else not b) then failure else r) ≡ option_or (if t then r else failure) failure
@@ -53,9 +74,9 @@ module _ (table : Table) (rer : Flags) (set : CharSet) (invert : Bool) (test : �
       by_test true = refl
       by_test false = refl
 
-  module _ (text : List ℕ) (is_text : IsText text) (is_set : IsSetOf) where
+  module _ (text : List ℕ) (is_text : All IsCodePoint text) (is_set : IsSetOf) where
     -- the character at index k, or none
-    read_same : (s : Steps.MatchState) (c : Continuation) (f : ℕ) (read : Option ℕ) → ((ch : ℕ) → read ≡ Some ch → IsScalar ch) →
+    read_same : (s : Steps.MatchState) (c : Continuation) (f : ℕ) (read : Option ℕ) → ((ch : ℕ) → read ≡ Some ch → IsCodePoint ch) →
         match_character table rer set invert f read (state_on text s) c
         ≡ first_result text c (moved test s (option_map (λ ch. record { character = ch; position = f }) read))
     read_same s c f None scalar = refl
@@ -116,17 +137,17 @@ module _ (table : Table) (rer : Flags) (set : CharSet) (invert : Bool) (test : �
         Agrees text d (Steps.one_character d (of_characters text) test) (character_set_matcher table rer set invert d)
     Agrees-character forwards = record {
       same = λ s in' c. forwards_same s c;
-      reached = (Simulates-one_character text is_text forwards test).reached;
+      reached = one_character-reached text forwards test;
     }
     Agrees-character backwards = record {
       same = λ s in' c. backwards_same s c;
-      reached = (Simulates-one_character text is_text backwards test).reached;
+      reached = one_character-reached text backwards test;
     }
 
 -- ---- the characters beside a position
 
-module _ (text : List ℕ) (is_text : IsText text) (set : CharSet) (test : ℕ → Bool) (same : (ch : ℕ) → IsScalar ch → is_member set ch ≡ test ch) where
-  read_passes : (f : ℕ) (read : Option ℕ) → ((ch : ℕ) → read ≡ Some ch → IsScalar ch) →
+module _ (text : List ℕ) (is_text : All IsCodePoint text) (set : CharSet) (test : ℕ → Bool) (same : (ch : ℕ) → IsCodePoint ch → is_member set ch ≡ test ch) where
+  read_passes : (f : ℕ) (read : Option ℕ) → ((ch : ℕ) → read ≡ Some ch → IsCodePoint ch) →
       elim read [ None ↦ false | Some ch ↦ is_member set ch ] ≡ passes test (option_map (λ ch. record { character = ch; position = f }) read)
   read_passes f None scalar = refl
   read_passes f (Some ch) scalar = same ch (scalar ch refl)

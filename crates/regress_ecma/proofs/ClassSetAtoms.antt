@@ -1,15 +1,14 @@
 -- Classes with the flag v as atoms: what the CharSet of ECMA-262 matches, the class of the syntax tree matches.
-use Rattle.std.proofs.Common.{◌≡◌, ℕ, ◌≤◌, Bool, true, false, not, ◌&&◌, List, [], Option, Some, None, if◌then◌else◌, refl, sym, ap, ap₂, subst, ◌∙◌}
+use Rattle.std.proofs.Common.{◌≡◌, ℕ, ◌≤◌, Bool, true, false, not, ◌&&◌, List, [], Option, Some, None, if◌then◌else◌, refl, sym, ap, ap₂, subst, ◌∙◌, All}
 use Rattle.regress_base.specs.Intervals.{code_point_max, is_member}
 use Rattle.regress_base.specs.Table.{Table, is_in_closure, denotes}
 use Rattle.regress_base.specs.Table as Table
 use Rattle.regress_base.specs.declared.types.Flags.{Flags}
-use Rattle.regress_base.proofs.lemmas.Literals.{scalar_in_range}
 use Rattle.regress_base.proofs.lemmas.Sets.{intervals_of-member}
 use Rattle.regress_tree.specs.Assertions.{differ}
-use Rattle.regress_tree.specs.Reading.{Direction, IsText}
+use Rattle.regress_tree.specs.Reading.{Direction}
 use Rattle.regress_tree.specs.Steps.{Setting}
-use Rattle.regress_lexer.specs.Source.{Source, Found}
+use Rattle.regress_lexer.specs.Source.{Source, Found, IsCodePoint}
 use Rattle.regress_classes.specs.declared.parameters.Parameters.{Parameters}
 use Rattle.regress_classes.specs.ClassProductions.{complement_if, closes}
 use Rattle.regress_classes.specs.ClassSets.{Value, class_set_at}
@@ -84,8 +83,7 @@ module _ (table : Table) (maps : HasCaseDataOfUnicode table) (rer : Flags) (with
   -- Foldings of the members, or of the complement, match as the class does.
   pub class_is : (negated : Bool) (set members whole : CharSet) → IsFoldingOf table folds set members →
       IsFoldingOf table folds whole (complement_if negated members) → IsSetOf table rer whole false (is_in_class table rer negated members)
-  class_is negated set members whole is is_whole ch scalar' =
-      let le = scalar_in_range ch scalar' in
+  class_is negated set members whole is is_whole ch le =
       found_is whole (complement_if negated members) is_whole ch le
       ∙ complement_member negated members ch le
       ∙ sym (in_class_is set members is ch le negated)
@@ -93,8 +91,7 @@ module _ (table : Table) (maps : HasCaseDataOfUnicode table) (rer : Flags) (with
   -- The same where the members are not closed, as those of a property.
   pub closure_is : (negated : Bool) (members whole : CharSet) → IsFoldingOf table folds whole (complement_if negated (closed_if table folds members)) →
       IsSetOf table rer whole false (is_in_class table rer negated members)
-  closure_is negated members whole is_whole ch scalar' =
-      let le = scalar_in_range ch scalar' in
+  closure_is negated members whole is_whole ch le =
       found_is whole (complement_if negated (closed_if table folds members)) is_whole ch le
       ∙ complement_member negated (closed_if table folds members) ch le
       ∙ ap (differ negated) (by_test le rer.icase refl)
@@ -111,7 +108,7 @@ module _ (table : Table) (maps : HasCaseDataOfUnicode table) (rer : Flags) (with
 
 -- ---- classes
 
-module _ (setting : Setting) (maps : HasCaseDataOfUnicode setting.table) (all : List (Option Name)) (text : List ℕ) (is_text : IsText text)
+module _ (setting : Setting) (maps : HasCaseDataOfUnicode setting.table) (all : List (Option Name)) (text : List ℕ) (is_text : All IsCodePoint text)
     (rer : Flags) (with_u : rer.unicode_sets ≡ true → rer.unicode ≡ true) (unicode : rer.unicode ≡ setting.flags.unicode)
     (sets : rer.unicode_sets ≡ true) (parameters : Parameters) (same : (rer.unicode_sets && rer.icase) ≡ closes parameters) where
   -- the elements of the class, of which the complement is taken if it is negated
@@ -147,7 +144,7 @@ module _ (setting : Setting) (maps : HasCaseDataOfUnicode setting.table) (all : 
       (compile_strings setting.table rer d ss (of_class node).characters value.has_empty))
       (sym whole.strings) matches))
 
-module _ (setting : Setting) (maps : HasCaseDataOfUnicode setting.table) (all : List (Option Name)) (text : List ℕ) (is_text : IsText text)
+module _ (setting : Setting) (maps : HasCaseDataOfUnicode setting.table) (all : List (Option Name)) (text : List ℕ) (is_text : All IsCodePoint text)
     (context : Context) (with_u : context.setting.flags.unicode_sets ≡ true → context.setting.flags.unicode ≡ true)
     (same : context.setting.table ≡ setting.table) (unicode : context.setting.flags.unicode ≡ setting.flags.unicode)
     (sets : context.setting.flags.unicode_sets ≡ true)

@@ -13,17 +13,17 @@ use lib.Utf8.{scalar}
 
 -- ---- one code point
 
-one_unit : (c : ℕ) → c < 0x1_0000 → encode_utf16 c ≡ c ∷ []
+pub one_unit : (c : ℕ) → c < 0x1_0000 → encode_utf16 c ≡ c ∷ []
 one_unit c below = grind (arith, nat_tests)
 
 -- the two code units of one above U+FFFF
-lead : ℕ → ℕ
+unfoldable pub lead : ℕ → ℕ
 lead c = 0xD800 + (c - 0x1_0000) / 0x400
 
-trail : ℕ → ℕ
+unfoldable pub trail : ℕ → ℕ
 trail c = 0xDC00 + (c - 0x1_0000) % 0x400
 
-two_units : (c : ℕ) → 0x1_0000 ≤ c → encode_utf16 c ≡ lead c ∷ trail c ∷ []
+pub two_units : (c : ℕ) → 0x1_0000 ≤ c → encode_utf16 c ≡ lead c ∷ trail c ∷ []
 unfolding lead trail
 two_units c above = grind (arith, nat_tests)
 

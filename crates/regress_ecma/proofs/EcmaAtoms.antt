@@ -1,16 +1,15 @@
 -- Atoms as they are written in the dialect `Ecma`: the matcher of ECMA-262, with the CharSets of what is written, matches
 -- what the atom of the syntax tree does.
-use Rattle.std.proofs.Common.{◌≡◌, ℕ, ◌==◌, Bool, true, false, not, ◌&&◌, List, [], ◌∷◌, Option, Some, None, if◌then◌else◌, refl, sym, ap, subst, ◌∙◌}
+use Rattle.std.proofs.Common.{◌≡◌, ℕ, ◌==◌, Bool, true, false, not, ◌&&◌, List, [], ◌∷◌, Option, Some, None, if◌then◌else◌, refl, sym, ap, subst, ◌∙◌, All}
 use Rattle.std.proofs.lemmas.Bool.{false≢true}
 use Rattle.regress_base.specs.Table.{Table, denotes}
 use Rattle.regress_base.specs.declared.charclasses.CharacterClassType.{CharacterClassType}
 use Rattle.regress_base.specs.declared.types.AnchorType.{AnchorType}
 use Rattle.regress_base.specs.declared.types.Flags.{Flags}
-use Rattle.regress_base.proofs.lemmas.Literals.{scalar_in_range}
-use Rattle.regress_tree.specs.Reading.{Direction, IsText}
+use Rattle.regress_tree.specs.Reading.{Direction}
 use Rattle.regress_tree.specs.Steps.{Setting}
 use Rattle.regress_lexer.specs.declared.dialect.Dialect.TheVariants.{Ecma}
-use Rattle.regress_lexer.specs.Source.{Source, Found, char}
+use Rattle.regress_lexer.specs.Source.{Source, Found, char, IsCodePoint}
 use Rattle.regress_classes.specs.ClassProductions.{complement, class_at}
 use Rattle.regress_classes.specs.Properties.{Property, of_points, property_at}
 use Rattle.regress_syntax.specs.Meaning.{is_literal, is_any, is_in_class, is_in_word, atom_steps}
@@ -39,7 +38,7 @@ AtomMatches setting all text ctx a t =
     (d : Direction) → Agrees text d (atom_steps setting all text d a) (compile_atom setting.table all ctx.setting.flags d (atom_of ctx a t))
 
 module _ (setting : Setting) (maps : HasCaseDataOfUnicode setting.table) (keeps : KeepsWords setting.table)
-    (all : List (Option Name)) (text : List ℕ) (is_text : IsText text)
+    (all : List (Option Name)) (text : List ℕ) (is_text : All IsCodePoint text)
     (given : Context) (same : given.setting.table ≡ setting.table) (unicode : given.setting.flags.unicode ≡ setting.flags.unicode)
     (with_u : given.setting.flags.unicode_sets ≡ true → given.setting.flags.unicode ≡ true) where
   abbrev context : Context
@@ -83,7 +82,7 @@ module _ (setting : Setting) (maps : HasCaseDataOfUnicode setting.table) (keeps 
   boundary_matches inverted t =
       on_table (boundary rer inverted) t
       (λ d.
-      Agrees-boundary text is_text d table rer (is_in_word table rer) (λ ch scalar'. word_member table here rer with_u ch (scalar_in_range ch scalar'))
+      Agrees-boundary text is_text d table rer (is_in_word table rer) (λ ch le. word_member table here rer with_u ch le)
       inverted)
 
   compared : (a b : ℕ) → is_same table rer a b ≡ denotes table rer.icase setting.flags.unicode a b
@@ -92,7 +91,7 @@ module _ (setting : Setting) (maps : HasCaseDataOfUnicode setting.table) (keeps 
   pub number_matches : (n : ℕ) (t : Source) → Matches (back_reference rer (by_number n)) t
   number_matches n t =
       on_table (back_reference rer (by_number n)) t
-      (λ d. Agrees-back_reference table rer text is_text (denotes table rer.icase setting.flags.unicode) compared d n)
+      (λ d. Agrees-back_reference table rer text (denotes table rer.icase setting.flags.unicode) compared d n)
 
   pub escape_matches : (kind : CharacterClassType) (negated : Bool) (t : Source) → Matches (class_escape (class_flags context) kind negated) t
   escape_matches kind negated t =

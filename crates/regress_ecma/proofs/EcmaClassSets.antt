@@ -1,11 +1,11 @@
 -- The dialect `Ecma` with the flag v, with and without the flag i: classes and properties match what those of ECMA-262 match.
-use Rattle.std.proofs.Common.{◌≡◌, ℕ, ◌==◌, Bool, true, false, not, ◌&&◌, List, [], ◌∷◌, Option, Some, None, if◌then◌else◌, refl, sym, ap, subst, ◌∙◌}
+use Rattle.std.proofs.Common.{◌≡◌, ℕ, ◌==◌, Bool, true, false, not, ◌&&◌, List, [], ◌∷◌, Option, Some, None, if◌then◌else◌, refl, sym, ap, subst, ◌∙◌, All}
 use Rattle.regress_base.specs.Table.{Table}
 use Rattle.regress_base.specs.declared.types.Flags.{Flags}
-use Rattle.regress_tree.specs.Reading.{Direction, IsText}
+use Rattle.regress_tree.specs.Reading.{Direction}
 use Rattle.regress_tree.specs.Steps.{Setting}
 use Rattle.regress_lexer.specs.declared.dialect.Dialect.TheVariants.{Ecma}
-use Rattle.regress_lexer.specs.Source.{Source, Found, char}
+use Rattle.regress_lexer.specs.Source.{Source, Found, char, IsCodePoint}
 use Rattle.regress_classes.specs.ClassProductions.{members_of, closes}
 use Rattle.regress_classes.specs.ClassProductions as ClassProductions
 use Rattle.regress_classes.specs.ClassSets.{Value, class_set_at}
@@ -25,7 +25,7 @@ use Rattle.regress_ecma.proofs.CharacterSets.{Agrees-character}
 use Rattle.regress_ecma.proofs.ClassSetAtoms.{closure_is, class_set_matches}
 use Rattle.regress_ecma.proofs.ClassSetMembers.{property_is, class_set_ends}
 
-module _ (setting : Setting) (maps : HasCaseDataOfUnicode setting.table) (all : List (Option Name)) (text : List ℕ) (is_text : IsText text) (given : Context)
+module _ (setting : Setting) (maps : HasCaseDataOfUnicode setting.table) (all : List (Option Name)) (text : List ℕ) (is_text : All IsCodePoint text) (given : Context)
     (with_u : given.setting.flags.unicode_sets ≡ true → given.setting.flags.unicode ≡ true)
     (same : given.setting.table ≡ setting.table) (unicode : given.setting.flags.unicode ≡ setting.flags.unicode) where
   abbrev context : Context

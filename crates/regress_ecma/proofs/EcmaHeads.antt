@@ -1,16 +1,15 @@
 -- The start of an item in the dialect `Ecma`: an atom that is found there is matched as in ECMA-262.
-use Rattle.std.proofs.Common.{◌≡◌, ℕ, ◌==◌, nat_le, Bool, true, false, ◌&&◌, ◌||◌, List, [], ◌∷◌, Option, Some, None, if◌then◌else◌, refl, sym, ap, subst, ◌∙◌}
+use Rattle.std.proofs.Common.{◌≡◌, ℕ, ◌==◌, nat_le, Bool, true, false, ◌&&◌, ◌||◌, List, [], ◌∷◌, Option, Some, None, if◌then◌else◌, refl, sym, ap, subst, ◌∙◌, All}
 use Rattle.std.proofs.lemmas.Bool.{eqb-true, and_parts}
 use Rattle.regress_base.specs.declared.charclasses.CharacterClassType.{CharacterClassType}
 use Rattle.regress_base.specs.declared.types.AnchorType.{AnchorType}
 use Rattle.regress_base.specs.declared.types.AnchorType.TheVariants.{StartOfLine, EndOfLine}
 use Rattle.regress_base.specs.declared.types.Flags.{Flags}
-use Rattle.regress_tree.specs.Reading.{IsText}
 use Rattle.regress_tree.specs.Steps.{Setting}
 use Rattle.regress_lexer.specs.declared.dialect.Dialect.TheVariants.{Ecma}
 use Rattle.regress_lexer.specs.Digits.{is_decimal, number, front}
 use Rattle.regress_lexer.specs.Escapes.{character_escape_at}
-use Rattle.regress_lexer.specs.Source.{Source, Found, ◌>>=◌, found_map, first_production, char, is_one_of}
+use Rattle.regress_lexer.specs.Source.{Source, Found, ◌>>=◌, found_map, first_production, char, is_one_of, IsCodePoint}
 use Rattle.regress_lexer.proofs.lemmas.Sources.{EachProduction, no_more, ◌also◌, first_production-has}
 use Rattle.regress_classes.specs.ClassProductions.{class_letter, class_at}
 use Rattle.regress_classes.specs.ClassSets.{Value, class_set_at}
@@ -27,7 +26,7 @@ use Rattle.regress_ecma.proofs.EcmaSets.{KeepsWords}
 use Rattle.regress_ecma.proofs.Heads.{head_holds}
 
 module _ (setting : Setting) (maps : HasCaseDataOfUnicode setting.table) (keeps : KeepsWords setting.table)
-    (all : List (Option Name)) (text : List ℕ) (is_text : IsText text)
+    (all : List (Option Name)) (text : List ℕ) (is_text : All IsCodePoint text)
     (given : Context) (same : given.setting.table ≡ setting.table) (unicode : given.setting.flags.unicode ≡ setting.flags.unicode)
     (with_u : given.setting.flags.unicode_sets ≡ true → given.setting.flags.unicode ≡ true) where
   abbrev pub context : Context

@@ -1,12 +1,11 @@
 -- In the dialect `Ecma` ECMA-262 matches each atom as the syntax tree does, but references by name to groups of one name.
-use Rattle.std.proofs.Common.{◌≡◌, ℕ, Bool, true, false, List, ◌∷◌, Option, Some, sym, ap, ◌∙◌}
+use Rattle.std.proofs.Common.{◌≡◌, ℕ, Bool, true, false, List, ◌∷◌, Option, Some, sym, ap, ◌∙◌, All}
 use Rattle.std.proofs.lemmas.Bool.{false≢true}
 use Rattle.regress_base.specs.Table.{Table, HasStrings, denotes}
 use Rattle.regress_base.specs.declared.types.Flags.{Flags}
-use Rattle.regress_tree.specs.Reading.{IsText}
 use Rattle.regress_tree.specs.Steps.{Setting}
 use Rattle.regress_lexer.specs.declared.dialect.Dialect.TheVariants.{Ecma}
-use Rattle.regress_lexer.specs.Source.{Source, char}
+use Rattle.regress_lexer.specs.Source.{Source, char, IsCodePoint}
 use Rattle.regress_classes.specs.Properties.{of_strings, property_at}
 use Rattle.regress_syntax.specs.Meaning.{longest_first}
 use Rattle.regress_syntax.specs.Productions.{Context}
@@ -20,7 +19,7 @@ use Rattle.regress_ecma.proofs.Sets.{literal_set}
 use Rattle.regress_ecma.proofs.InEcma.{AtomMatches, AtomsMatch, match_in_dialect, refers_if_set}
 
 module _ (setting : Setting) (maps : HasCaseDataOfUnicode setting.table) (keeps : KeepsWords setting.table) (strings : HasStrings setting.table.strings)
-    (with_u : setting.flags.unicode_sets ≡ true → setting.flags.unicode ≡ true) (all : List (Option Name)) (text : List ℕ) (is_text : IsText text) where
+    (with_u : setting.flags.unicode_sets ≡ true → setting.flags.unicode ≡ true) (all : List (Option Name)) (text : List ℕ) (is_text : All IsCodePoint text) where
   -- a property of strings
   string_property_matches : (given : Context) → given.setting.table ≡ setting.table → given.setting.flags.unicode ≡ setting.flags.unicode →
       (given.setting.flags.unicode_sets ≡ true → given.setting.flags.unicode ≡ true) → (k : ℕ) (t rest : Source) (written : List (List ℕ)) →
@@ -29,8 +28,8 @@ module _ (setting : Setting) (maps : HasCaseDataOfUnicode setting.table) (keeps 
   string_property_matches given same unicode with_u' k t rest written found d =
       let rer : Flags = given.setting.flags in
       Agrees-property setting.table rer text is_text (denotes setting.table rer.icase setting.flags.unicode)
-      (λ c ch scalar'.
-      literal_set setting.table maps rer with_u' c ch scalar' ∙ ap (λ (u : Bool). denotes setting.table rer.icase u c ch) unicode)
+      (λ c ch le.
+      literal_set setting.table maps rer with_u' c ch le ∙ ap (λ (u : Bool). denotes setting.table rer.icase u c ch) unicode)
       d written
       ((property_at-strings setting.table strings rer.unicode_sets t).each (of_strings written, rest)
       (ap (λ (table : Table). property_at rer.unicode_sets table t) (sym same) ∙ found))

@@ -9,7 +9,6 @@ use Rattle.regress_base.specs.Table.{Table, is_in_closure}
 use Rattle.regress_base.specs.declared.charclasses.CharacterClassType.{CharacterClassType}
 use Rattle.regress_base.specs.declared.charclasses.CharacterClassType.TheVariants.{Digits, Spaces, Words}
 use Rattle.regress_base.specs.declared.types.Flags.{Flags}
-use Rattle.regress_base.proofs.lemmas.Literals.{scalar_in_range}
 use Rattle.regress_base.proofs.lemmas.Sets.{intervals_of-member}
 use Rattle.regress_unicode.specs.UppercaseClosure.{is_in_uppercase_closure}
 use Rattle.regress_classes.specs.ClassProductions.{members_of, complement}
@@ -56,7 +55,7 @@ module _ (table : Table) (maps : HasCaseDataOfUnicode table) (rer : Flags) (with
 
   same_set : (set' members : CharSet) (inverted : Bool) (test : ℕ → Bool) → IsSame set' members → IsSetOf table rer members inverted test →
       IsSetOf table rer set' inverted test
-  same_set set' members inverted test is set ch scalar' = ap (differ inverted) (found_same set' members is ch) ∙ set ch scalar'
+  same_set set' members inverted test is set ch le = ap (differ inverted) (found_same set' members is ch) ∙ set ch le
 
   module _ (icase : rer.icase ≡ true) (u : rer.unicode ≡ false) where
     -- ---- with the flag i, without u
@@ -81,7 +80,7 @@ module _ (table : Table) (maps : HasCaseDataOfUnicode table) (rer : Flags) (with
 
     upper_class : (inverted : Bool) (members : CharSet) →
         IsSetOf table rer members inverted (is_in_class table (flags_if rer true) inverted (members_if table members true))
-    upper_class inverted members ch scalar' = ap (differ inverted) (found_upper members ch (scalar_in_range ch scalar'))
+    upper_class inverted members ch le = ap (differ inverted) (found_upper members ch le)
 
     -- Characters with the same canonical form are in the set or not in it.
     abbrev IsClosed : CharSet → Type 0
@@ -98,9 +97,9 @@ module _ (table : Table) (maps : HasCaseDataOfUnicode table) (rer : Flags) (with
 
     closed_set : (set : CharSet) → IsClosed set → (negated : Bool) →
         IsSetOf table rer (if negated then character_complement table rer set else set) false (is_in_class table (flags_if rer true) negated set)
-    closed_set set closed false ch scalar' = found_itself set closed ch
-    closed_set set closed true ch scalar' =
-        found_complement table maps rer with_u icase set (is_member set) (λ c le any. refl) closed ch (scalar_in_range ch scalar')
+    closed_set set closed false ch le = found_itself set closed ch
+    closed_set set closed true ch le =
+        found_complement table maps rer with_u icase set (is_member set) (λ c le any. refl) closed ch le
 
     words_closed : KeepsWords table → IsClosed basic_word_characters
     words_closed keeps a b e = same_truth _ _ (carried a b (upper a b e)) (carried b a (sym (upper a b e)))

@@ -1,19 +1,19 @@
 -- Classes as they are written: their CharSets in ECMA-262 match what the classes of the syntax tree match.
-use Rattle.std.proofs.Common.{◌≡◌, ℕ, ◌+◌, ◌-◌, ◌<◌, ◌≤◌, nat_le, ◌==◌, Bool, true, false, ◌&&◌, ◌||◌, List, [], ◌∷◌, length, slice_get, Option, Some, None, option_map, if◌then◌else◌, refl, sym, ap, ap₂, subst, ◌∙◌, arith}
+use Rattle.std.proofs.Common.{◌≡◌, ℕ, ◌+◌, ◌-◌, ◌<◌, ◌≤◌, nat_le, ◌==◌, Bool, true, false, ◌&&◌, ◌||◌, List, [], ◌∷◌, length, slice_get, Option, Some, None, option_map, if◌then◌else◌, refl, sym, ap, ap₂, subst, ◌∙◌, arith, All}
 use Rattle.std.proofs.Math.ListN.{replicate}
 use Rattle.std.proofs.lemmas.Bool.{eqb-true, false≢true, or_parts}
 use Rattle.regress_base.specs.Table.{Table}
 use Rattle.regress_base.specs.declared.charclasses.CharacterClassType.{CharacterClassType}
 use Rattle.regress_base.specs.declared.types.Flags.{Flags}
 use Rattle.regress_tree.specs.Assertions.{differ}
-use Rattle.regress_tree.specs.Reading.{Direction, forwards, IsText}
+use Rattle.regress_tree.specs.Reading.{Direction, forwards}
 use Rattle.regress_tree.specs.Steps.{Setting}
 use Rattle.regress_base.specs.declared.types.AnchorType.TheVariants.{StartOfLine, EndOfLine}
 use Rattle.regress_lexer.specs.declared.dialect.Dialect.{Dialect}
 use Rattle.regress_lexer.specs.declared.dialect.Dialect.TheVariants.{Regress}
 use Rattle.regress_lexer.specs.Digits.{is_decimal, number, front}
 use Rattle.regress_lexer.specs.Escapes.{character_escape_at}
-use Rattle.regress_lexer.specs.Source.{Source, Found, ◌>>=◌, found_map, first_production, char}
+use Rattle.regress_lexer.specs.Source.{Source, Found, ◌>>=◌, found_map, first_production, char, IsCodePoint}
 use Rattle.regress_lexer.proofs.lemmas.Sources.{EachProduction, no_more, ◌also◌, first_production-has}
 use Rattle.regress_classes.specs.ClassProductions.{class_letter, complement_if, class_at}
 use Rattle.regress_classes.specs.ClassProductions as ClassProductions
@@ -71,7 +71,7 @@ no_fold_of rer members none = by_tests rer.unicode_sets rer.icase none
     by_tests false i h = refl
 
 module _ (setting : Setting) (maps : HasCaseDataOfUnicode setting.table) (with_u : setting.flags.unicode_sets ≡ true → setting.flags.unicode ≡ true)
-    (all : List (Option Name)) (text : List ℕ) (is_text : IsText text) (fuel : ℕ) (enough : length text < fuel) where
+    (all : List (Option Name)) (text : List ℕ) (is_text : All IsCodePoint text) (fuel : ℕ) (enough : length text < fuel) where
   abbrev HasFlags : Flags → Type 0
   HasFlags rer = HasFlagsOf setting maps with_u all text is_text fuel enough rer
 
@@ -88,10 +88,10 @@ module _ (setting : Setting) (maps : HasCaseDataOfUnicode setting.table) (with_u
       Like (class rer inverted members) (class rer inverted set')
   class_like rer inverted members set' is d flags none =
       Agrees-character setting.table rer set' inverted (is_in_class setting.table rer inverted members) text is_text
-      (λ ch scalar'.
+      (λ ch le.
       ap (differ inverted)
       (covers-found setting.table maps rer (with_u_of rer flags) set' members ((is flags).covers (no_ends_of rer members none)) ch)
-      ∙ members_set setting maps with_u all text is_text fuel enough rer flags inverted members none ch scalar')
+      ∙ members_set setting maps with_u all text is_text fuel enough rer flags inverted members none ch le)
       d
 
   module _ (given : Context) (same : given.setting.table ≡ setting.table) where
@@ -198,9 +198,9 @@ module _ (setting : Setting) (maps : HasCaseDataOfUnicode setting.table) (with_u
         property_is context.setting.table here flags' (with_u_of flags' flags) no_fold true members
         ∙ sym (complement-same setting.table maps flags' (with_u_of flags' flags) no_fold members) in
         Agrees-character setting.table flags' (property_set true members) false (is_in_class setting.table flags' true members) text is_text
-        (λ ch scalar'.
+        (λ ch le.
         ap (λ (s : CharSet). is_found setting.table flags' s ch) is
-        ∙ complement_is_set setting.table maps flags' (with_u_of flags' flags) e members ch scalar')
+        ∙ complement_is_set setting.table maps flags' (with_u_of flags' flags) e members ch le)
         d
 
     property_good : (c k : ℕ) (t : Source) (members : CharSet) (rest : Source) → (c == char "\\") ≡ true →
@@ -347,7 +347,7 @@ module _ (setting : Setting) (maps : HasCaseDataOfUnicode setting.table) (with_u
 -- ---- the theorem, from the source
 
 module _ (ctx : Context) (regress : ctx.dialect ≡ Regress) (p : Pattern) (t rest : Source) (derived : IsPattern ctx p t rest) (comparable : IsComparable ctx.setting p)
-    (text : List ℕ) (is_text : IsText text) where
+    (text : List ℕ) (is_text : All IsCodePoint text) where
   abbrev standard : Pattern
   standard = with_char_sets ctx p t rest derived
 

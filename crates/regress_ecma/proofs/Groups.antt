@@ -24,7 +24,7 @@ first_result-map text P e c g same [] all = refl
 first_result-map text P e c g same (t ∷ states) all =
     ap₂ option_or (same t (All-head P t states all)) (first_result-map text P e c g same states (All-tail P t states all))
 
-range_same : (d : Direction) (from to : ℕ) → IsOnward d from to →
+pub range_same : (d : Direction) (from to : ℕ) → IsOnward d from to →
     ◌≡◌ {A = Option CaptureSpan} (Some (range_between d from to)) (Some (min from to, max from to))
 range_same forwards from to onward =
     let low : from ≡ min from to = omega (arith, onward) in

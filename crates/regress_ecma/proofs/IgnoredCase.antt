@@ -8,7 +8,6 @@ use Rattle.regress_base.specs.Table as Table
 use Rattle.regress_base.specs.declared.charclasses.CharacterClassType.{CharacterClassType}
 use Rattle.regress_base.specs.declared.charclasses.CharacterClassType.TheVariants.{Digits, Spaces, Words}
 use Rattle.regress_base.specs.declared.types.Flags.{Flags}
-use Rattle.regress_base.proofs.lemmas.Literals.{scalar_in_range}
 use Rattle.regress_base.proofs.lemmas.Sets.{intervals_of-canonical, intervals_of-member, no_member_past_end}
 use Rattle.regress_classes.specs.ClassProductions.{members_of}
 use Rattle.regress_tree.specs.Assertions.{differ}
@@ -93,8 +92,8 @@ module _ (table : Table) (maps : HasCaseDataOfUnicode table) (rer : Flags) (with
 
   pub class_with_u : rer.unicode ≡ true → (inverted : Bool) (members : CharSet) →
       IsSetOf table rer members inverted (is_in_class table rer inverted members)
-  class_with_u u inverted members ch scalar' =
-      ap (differ inverted) (found_closed u members ch ∙ sym (closure-if table maps rer with_u members ch (scalar_in_range ch scalar')))
+  class_with_u u inverted members ch le =
+      ap (differ inverted) (found_closed u members ch ∙ sym (closure-if table maps rer with_u members ch le))
       ∙ sym (in_class inverted members ch)
 
   -- ---- classes without the flag u
@@ -118,8 +117,8 @@ module _ (table : Table) (maps : HasCaseDataOfUnicode table) (rer : Flags) (with
 
   class_without_u : rer.unicode ≡ false → (inverted : Bool) (members : CharSet) → IsLike members →
       IsSetOf table rer members inverted (is_in_class table rer inverted members)
-  class_without_u u inverted members like ch scalar' =
-      ap (differ inverted) (found_like u members like ch ∙ sym (closure-if table maps rer with_u members ch (scalar_in_range ch scalar')))
+  class_without_u u inverted members like ch le =
+      ap (differ inverted) (found_like u members like ch ∙ sym (closure-if table maps rer with_u members ch le))
       ∙ sym (in_class inverted members ch)
 
   -- ---- sets without case variants
@@ -145,8 +144,8 @@ module _ (table : Table) (maps : HasCaseDataOfUnicode table) (rer : Flags) (with
       (λ h. has_some_from (λ m. table.fold m == table.fold ch) set ch h (eq-eqb _ _ refl))
 
   class_uncased : (set : CharSet) → IsUncased set → (inverted : Bool) → IsSetOf table rer set inverted (is_in_class table rer inverted set)
-  class_uncased set none inverted ch scalar' =
-      ap (differ inverted) (found_uncased set none ch ∙ sym (closure_uncased set none ch (scalar_in_range ch scalar')))
+  class_uncased set none inverted ch le =
+      ap (differ inverted) (found_uncased set none ch ∙ sym (closure_uncased set none ch le))
       ∙ sym (in_class inverted set ch)
 
   pub class_in_case : (inverted : Bool) (members : CharSet) → differs_in_case rer members ≡ false →
@@ -234,8 +233,8 @@ module _ (table : Table) (maps : HasCaseDataOfUnicode table) (rer : Flags) (with
   complement_agrees : (set members : CharSet) → ((ch : ℕ) → ch ≤ code_point_max →
       is_found table rer (character_complement table rer set) ch ≡ not (is_in_closure table members ch)) →
       IsSetOf table rer (character_complement table rer set) false (is_in_class table rer true members)
-  complement_agrees set members same ch scalar' =
-      same ch (scalar_in_range ch scalar') ∙ not_differ (is_in_closure table members ch) ∙ sym (in_class true members ch)
+  complement_agrees set members same ch le =
+      same ch le ∙ not_differ (is_in_closure table members ch) ∙ sym (in_class true members ch)
 
   pub uncased_same : (set : CharSet) → IsUncased set → (a b : ℕ) → canonicalize table rer a ≡ canonicalize table rer b → is_member set a ≡ is_member set b
   uncased_same set none a b e =
@@ -354,14 +353,14 @@ module _ (table : Table) (maps : HasCaseDataOfUnicode table) (rer : Flags) (with
 
     words_in_case : (negated : Bool) →
         IsSetOf table rer (character_class_escape table rer Words negated) false (is_in_class table rer negated basic_word_characters)
-    words_in_case true ch scalar' =
+    words_in_case true ch le =
         complement_agrees (class_escape_set table rer Words) basic_word_characters
         (λ c le.
         found_complement (class_escape_set table rer Words) is_word set_represents (λ a b e. word_closed a b (sym (folds u a) ∙ e ∙ folds u b)) c le
         ∙ ap not (sym (closure-if table maps rer with_u basic_word_characters c le)))
-        ch scalar'
-    words_in_case false ch scalar' =
-        word_found ch ∙ sym (closure-if table maps rer with_u basic_word_characters ch (scalar_in_range ch scalar'))
+        ch le
+    words_in_case false ch le =
+        word_found ch ∙ sym (closure-if table maps rer with_u basic_word_characters ch le)
         ∙ sym (in_class false basic_word_characters ch)
 
   pub escape_in_case : (kind : CharacterClassType) (negated : Bool) → (not rer.unicode && is_words kind) ≡ false →

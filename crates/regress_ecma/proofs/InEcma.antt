@@ -1,19 +1,19 @@
 -- In the dialect `Ecma` the first outcome of a pattern is the match of ECMA-262, for the syntax tree with the CharSets of
 -- classes, if each atom matches the same in both.
-use Rattle.std.proofs.Common.{◌≡◌, ℕ, ◌+◌, ◌-◌, ◌<◌, ◌≤◌, Bool, true, false, not, ◌&&◌, List, [], ◌∷◌, ◌++◌, length, slice_get, Option, Some, None, option_map, refl, sym, ap, ap₂, subst, ◌∙◌, arith}
+use Rattle.std.proofs.Common.{◌≡◌, ℕ, ◌+◌, ◌-◌, ◌<◌, ◌≤◌, Bool, true, false, not, ◌&&◌, List, [], ◌∷◌, ◌++◌, length, slice_get, Option, Some, None, option_map, refl, sym, ap, ap₂, subst, ◌∙◌, arith, All}
 use Rattle.std.proofs.Math.ListN.{replicate}
 use Rattle.std.proofs.lemmas.Bool.{and_parts}
 use Rattle.std.proofs.lemmas.List.{length-append}
 use Rattle.regress_base.specs.Table.{denotes}
 use Rattle.regress_base.specs.declared.types.Flags.{Flags}
 use Rattle.regress_base.specs.declared.types.Quantifier.{Quantifier}
-use Rattle.regress_tree.specs.Reading.{Direction, forwards, backwards, IsText}
+use Rattle.regress_tree.specs.Reading.{Direction, forwards, backwards}
 use Rattle.regress_tree.specs.Steps as Steps
 use Rattle.regress_tree.specs.Steps.{CaptureSpan, IsStateOf, Setting, ◌then_◌}
 use Rattle.regress_tree.proofs.lemmas.Simulation.{IsReached}
 use Rattle.regress_lexer.specs.declared.dialect.Dialect.{Dialect}
 use Rattle.regress_lexer.specs.declared.dialect.Dialect.TheVariants.{Ecma}
-use Rattle.regress_lexer.specs.Source.{Source}
+use Rattle.regress_lexer.specs.Source.{Source, IsCodePoint}
 use Rattle.regress_syntax.specs.Grammar.{IsPattern, AreTerms, IsItem}
 use Rattle.regress_syntax.specs.Meaning.{along, group_steps, atom_steps, pattern_steps, terms_steps, item_steps, quantified_steps, meaning}
 use Rattle.regress_syntax.specs.Productions.{Context, context_inside, single, head_of_item, allows, head_at}
@@ -88,7 +88,7 @@ mutual
       ap (added (counts_of_group kind)) (counts_same (context_inside kind ctx) p derived.0 _ derived.2)
 
 mutual
-  names_same : (ctx : Context) (p : Pattern) (t rest : Source) (derived : IsPattern ctx p t rest) → names (with_char_sets ctx p t rest derived) ≡ names p
+  pub names_same : (ctx : Context) (p : Pattern) (t rest : Source) (derived : IsPattern ctx p t rest) → names (with_char_sets ctx p t rest derived) ≡ names p
   names_same ctx (one ts) t rest derived = names_same_in_terms ctx ts t rest derived.0
   names_same ctx (either ts p) t rest derived =
       ap₂ (λ (a b : List (Option Name)). a ++ b) (names_same_in_terms ctx ts t _ derived.1) (names_same ctx p derived.0 rest derived.2)
@@ -226,7 +226,7 @@ module _ (setting : Setting) (all : List (Option Name)) (text : List ℕ) where
       head_at (record ctx { dialect = dialect }) t ≡ Some (single a, rest) → refers_if_set a ≡ false → AtomMatches (record ctx { dialect = dialect }) a t in
       subst Is (sym under.dialect) (matching ctx under.table under.unicode (with_u_under with_u ctx under) a t rest)
 
-  under_inside : (kind : Group) (ctx : Context) → IsUnder ctx → IsUnder (context_inside kind ctx)
+  pub under_inside : (kind : Group) (ctx : Context) → IsUnder ctx → IsUnder (context_inside kind ctx)
   under_inside grouping ctx under = under
   under_inside (modified change) ctx under = record {
     dialect = under.dialect;
@@ -238,7 +238,7 @@ module _ (setting : Setting) (all : List (Option Name)) (text : List ℕ) where
   under_inside (look negate direction) ctx under = under
 
 module _ (setting : Setting) (maps : HasCaseDataOfUnicode setting.table) (with_u : setting.flags.unicode_sets ≡ true → setting.flags.unicode ≡ true)
-    (all : List (Option Name)) (text : List ℕ) (is_text : IsText text) (matching : AtomsMatch setting all text) where
+    (all : List (Option Name)) (text : List ℕ) (is_text : All IsCodePoint text) (matching : AtomsMatch setting all text) where
   abbrev AtomWithin : Context → Direction → (n : ℕ) → Atom → Source → Type 0
   AtomWithin ctx d n a t =
       Within all text d n 0 (atom_steps setting all text d a) (compile_atom setting.table all ctx.setting.flags d (atom_of ctx a t))
@@ -252,7 +252,7 @@ module _ (setting : Setting) (maps : HasCaseDataOfUnicode setting.table) (with_u
       same-literal setting.table maps rer (with_u_under setting all text with_u ctx under) a b
       ∙ ap₂ (λ (i u : Bool). denotes setting.table i u a b) (ap (λ (f : Flags). f.icase) (sym is)) under.unicode in
       within_untouched all text d n 0 _ _
-      (AgreesOn-each_reference setting.table rer text is_text (denotes setting.table flags.icase setting.flags.unicode) equal d
+      (AgreesOn-each_reference setting.table rer text (denotes setting.table flags.icase setting.flags.unicode) equal d
       (groups_named name 1 all) (IsBefore all text n 0) (λ s before. before.state) (λ s before. at_most_one all text name s before.apart))
       (atom-leaves setting all text d (back_reference flags (by_name_if_set name)))
 
@@ -350,7 +350,7 @@ module _ (setting : Setting) (maps : HasCaseDataOfUnicode setting.table) (with_u
 
 module _ (ctx : Context) (ecma : ctx.dialect ≡ Ecma) (maps : HasCaseDataOfUnicode ctx.setting.table)
     (with_u : ctx.setting.flags.unicode_sets ≡ true → ctx.setting.flags.unicode ≡ true) (p : Pattern) (t rest : Source) (derived : IsPattern ctx p t rest)
-    (none : NoneConflict p) (text : List ℕ) (is_text : IsText text) (matching : AtomsMatch ctx.setting (names p) text) where
+    (none : NoneConflict p) (text : List ℕ) (is_text : All IsCodePoint text) (matching : AtomsMatch ctx.setting (names p) text) where
   abbrev standard : Pattern
   standard = with_char_sets ctx p t rest derived
 

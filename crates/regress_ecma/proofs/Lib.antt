@@ -68,3 +68,10 @@ mod PatternReads
 mod PatternTrees
 mod PatternDerivations
 mod AcceptedPatterns
+mod UnitPositions
+mod UnitSteps
+mod UnitAtoms
+mod UnitStarts
+mod UnitMatchers
+mod UnitPatterns
+mod UnitSearches

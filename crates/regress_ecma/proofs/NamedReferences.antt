@@ -3,7 +3,7 @@ use Rattle.std.proofs.Common.{◌≡◌, ℕ, suc, ◌+◌, ◌-◌, ◌≤◌, 
 use Rattle.std.proofs.lemmas.List.Elements.{All-nil, All-cons, All-head, All-tail, All-weaker}
 use Rattle.regress_base.specs.Table.{Table}
 use Rattle.regress_base.specs.declared.types.Flags.{Flags}
-use Rattle.regress_tree.specs.Reading.{Direction, IsText, of_characters}
+use Rattle.regress_tree.specs.Reading.{Direction, of_characters}
 use Rattle.regress_tree.specs.References.{back_reference, match_again}
 use Rattle.regress_tree.specs.Steps as Steps
 use Rattle.regress_tree.specs.Steps.{CaptureSpan, IsStateOf, stay}
@@ -32,7 +32,7 @@ abbrev pub AtMostOne : List (Option CaptureSpan) → List ℕ → Type 0
 AtMostOne captures [] = Unit {0}
 AtMostOne captures (k ∷ ks) = (is_set_in captures k ≡ true → AllUnset captures ks) × AtMostOne captures ks
 
-module _ (table : Table) (rer : Flags) (text : List ℕ) (is_text : IsText text) (same : ℕ → ℕ → Bool) (equal : (a b : ℕ) → is_same table rer a b ≡ same a b)
+module _ (table : Table) (rer : Flags) (text : List ℕ) (same : ℕ → ℕ → Bool) (equal : (a b : ℕ) → is_same table rer a b ≡ same a b)
     (d : Direction) where
   abbrev refer : ℕ → Steps.Matcher
   refer k = back_reference d (of_characters text) same (k - 1)
@@ -76,7 +76,7 @@ module _ (table : Table) (rer : Flags) (text : List ℕ) (is_text : IsText text)
   first_set ks k s c in' (Some r) is others later =
       ap (λ (o : Option CaptureSpan). by_range s c (elim o as (λ _. Option CaptureRange) [ Some r ↦ Some r | None ↦ range_of s.captures ks ])) is
       ∙ ap (λ (o : Option CaptureSpan). by_range s c (elim o as (λ _. Option CaptureRange) [ Some r ↦ Some r | None ↦ None ])) (sym is)
-      ∙ (Agrees-back_reference table rer text is_text same equal d k).same s in' c
+      ∙ (Agrees-back_reference table rer text same equal d k).same s in' c
       ∙ ap (first_result text c) (sym (each_stays ks s.captures (others refl) (refer k s) (back_reference-leaves d (of_characters text) same (k - 1) s)))
 
   any_set : (ks : List ℕ) (s : Steps.MatchState) (c : Continuation) → IsStateOf text s → AtMostOne s.captures ks →
@@ -91,7 +91,7 @@ module _ (table : Table) (rer : Flags) (text : List ℕ) (is_text : IsText text)
       (λ t first.
       All-weaker (IsReached text d t) (IsReached text d s) (λ u. reached_by_both text d s t u first) (each_reference refer ks t)
       (each_reached ks t first.state))
-      (refer k s) ((Agrees-back_reference table rer text is_text same equal d k).reached s in')
+      (refer k s) ((Agrees-back_reference table rer text same equal d k).reached s in')
 
   -- In states in which at most one of the groups is set, the references one after the other match what that one has captured.
   pub AgreesOn-each_reference : (ks : List ℕ) (P : Steps.MatchState → Type 0) → ((s : Steps.MatchState) → P s → IsStateOf text s) →

@@ -12,9 +12,9 @@ use Rattle.regress_base.specs.Listing.{code_points}
 use Rattle.regress_base.specs.Table.{Table, Named, named, is_string, HasStrings}
 use Rattle.regress_base.specs.declared.types.Flags.{Flags}
 use Rattle.regress_base.proofs.lemmas.Sets.{is_member-append}
-use Rattle.regress_lexer.specs.Source.{Source, is_at}
+use Rattle.regress_lexer.specs.Source.{Source, is_at, IsCodePoint}
 use Rattle.regress_classes.specs.Properties.{Property, of_points, of_strings, list_named, strings_named, lone_value, value_in, closed_property, property_at, property_word_at}
-use Rattle.regress_tree.specs.Reading.{Direction, forwards, backwards, IsText, Read, next_character, of_characters}
+use Rattle.regress_tree.specs.Reading.{Direction, forwards, backwards, Read, next_character, of_characters}
 use Rattle.regress_tree.specs.References.{all_of, in_order, any_string}
 use Rattle.regress_tree.specs.Steps as Steps
 use Rattle.regress_tree.specs.Steps.{IsStateOf, moved, stay, ◌then_◌, ◌or_◌}
@@ -282,7 +282,7 @@ module _ (table : Table) (rer : Flags) where
       by_test true = ap (λ (b : Bool). b || has_some q set) (sym (or_none (list_any q (code_points iv))))
       by_test false = is_member-append (iv ∷ []) set ch
 
-module _ (table : Table) (rer : Flags) (text : List ℕ) (is_text : IsText text) (same : ℕ → ℕ → Bool)
+module _ (table : Table) (rer : Flags) (text : List ℕ) (is_text : All IsCodePoint text) (same : ℕ → ℕ → Bool)
     (literals : (c : ℕ) → IsSetOf table rer (one_character c) false (same c)) where
   abbrev is_one_of : List ℕ → ℕ → Bool
   is_one_of cs ch = list_any (λ c. same c ch) cs
@@ -297,12 +297,12 @@ module _ (table : Table) (rer : Flags) (text : List ℕ) (is_text : IsText text)
 
   singles_set : (strings : List (List ℕ)) → IsSetOf table rer (singles_of strings) false (is_one_of (characters_of strings))
   unfolding characters_of
-  singles_set [] ch scalar' = nothing_found ch
-  singles_set ([] ∷ strings) ch scalar' = singles_set strings ch scalar'
-  singles_set ((c ∷ []) ∷ strings) ch scalar' =
+  singles_set [] ch le = nothing_found ch
+  singles_set ([] ∷ strings) ch le = singles_set strings ch le
+  singles_set ((c ∷ []) ∷ strings) ch le =
       found-more table rer (record { first = c; last = c }) (singles_of strings) ch
-      ∙ ap₂ (λ (a b : Bool). a || b) (literals c ch scalar') (singles_set strings ch scalar')
-  singles_set ((c ∷ d ∷ cs) ∷ strings) ch scalar' = singles_set strings ch scalar'
+      ∙ ap₂ (λ (a b : Bool). a || b) (literals c ch le) (singles_set strings ch le)
+  singles_set ((c ∷ d ∷ cs) ∷ strings) ch le = singles_set strings ch le
 
   module _ (d : Direction) where
     abbrev singles : List ℕ → Steps.Matcher

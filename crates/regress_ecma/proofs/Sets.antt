@@ -10,7 +10,6 @@ use Rattle.regress_base.specs.declared.charclasses.CharacterClassType.{Character
 use Rattle.regress_base.specs.declared.charclasses.CharacterClassType.TheVariants.{Digits, Spaces, Words}
 use Rattle.regress_base.specs.declared.types.Flags.{Flags}
 use Rattle.regress_classes.specs.ClassProductions.{members_of}
-use Rattle.regress_base.proofs.lemmas.Literals.{scalar_in_range}
 use Rattle.regress_base.proofs.lemmas.Sets.{intervals_of-member}
 use Rattle.regress_tree.specs.Assertions.{differ, is_line_terminator}
 use Rattle.regress_syntax.specs.Meaning.{is_literal, is_any, is_in_word, is_in_class}
@@ -105,7 +104,7 @@ module _ (table : Table) (maps : HasCaseDataOfUnicode table) (rer : Flags) (with
       by_test false e = ap₂ (λ (a b : ℕ). a == b) (canonicalize-none e x) (canonicalize-none e c) ∙ sym (denotes_if false e c x)
 
   pub literal_set : (c : ℕ) → IsSetOf table rer (one_character c) false (is_literal table rer c)
-  literal_set c ch scalar' = by_test rer.icase refl
+  literal_set c ch le = by_test rer.icase refl
     where
       by_test : (i : Bool) → rer.icase ≡ i → is_found table rer (one_character c) ch ≡ is_literal table rer c ch
       by_test true e =
@@ -258,7 +257,7 @@ module _ (table : Table) (maps : HasCaseDataOfUnicode table) (rer : Flags) (with
       (ch, dot_member ch le ∙ ap₂ (λ (a b : Bool). (not a || (table.fold ch == ch)) && b) plain any, refl)
 
   pub dot_is_set : IsSetOf table rer (dot_set table rer) false (is_any rer)
-  dot_is_set ch scalar' = by_test rer.icase refl
+  dot_is_set ch le = by_test rer.icase refl
     where
       by_test : (i : Bool) → rer.icase ≡ i → is_found table rer (dot_set table rer) ch ≡ is_any rer ch
       by_test true e =
@@ -268,10 +267,10 @@ module _ (table : Table) (maps : HasCaseDataOfUnicode table) (rer : Flags) (with
           let found = found_gives (dot_set table rer) ch h in
           not_line rer.dot_all found.0 ch (any_of_member found.0 found.1) (λ line. line-closed e ch found.0 line found.2))
           (λ h.
-          let found = dot_found e ch (scalar_in_range ch scalar') h rer.unicode_sets refl in
+          let found = dot_found e ch le h rer.unicode_sets refl in
           found_from (dot_set table rer) ch found.0 found.1 found.2)
       by_test false e =
-          found_plain e (dot_set table rer) ch ∙ dot_member ch (scalar_in_range ch scalar')
+          found_plain e (dot_set table rer) ch ∙ dot_member ch le
           ∙ ap (λ (b : Bool). (not b || (table.fold ch == ch)) && is_any rer ch) (plain_sets e)
 
   -- ---- word characters
@@ -385,8 +384,8 @@ module _ (table : Table) (maps : HasCaseDataOfUnicode table) (rer : Flags) (with
   -- the complement of a set, as a set that is not inverted
   pub complement_is_set : rer.icase ≡ false → (members : CharSet) →
       IsSetOf table rer (character_complement table rer members) false (is_in_class table rer true members)
-  complement_is_set e members ch scalar' =
-      found_plain e (character_complement table rer members) ch ∙ complement-plain e members ch (scalar_in_range ch scalar')
+  complement_is_set e members ch le =
+      found_plain e (character_complement table rer members) ch ∙ complement-plain e members ch le
       ∙ negated (is_member members ch) ∙ sym (in_class-plain e true members ch)
     where
       negated : (b : Bool) → not b ≡ differ true b
@@ -395,13 +394,13 @@ module _ (table : Table) (maps : HasCaseDataOfUnicode table) (rer : Flags) (with
 
   pub class_is_set : rer.icase ≡ false → (inverted : Bool) (members : CharSet) →
       IsSetOf table rer members inverted (is_in_class table rer inverted members)
-  class_is_set e inverted members ch scalar' =
+  class_is_set e inverted members ch le =
       ap (differ inverted) (found_plain e members ch) ∙ sym (in_class-plain e inverted members ch)
 
   pub escape_is_set : rer.icase ≡ false → (kind : CharacterClassType) (negated : Bool) →
       IsSetOf table rer (character_class_escape table rer kind negated) false (is_in_class table rer negated (members_of kind))
-  escape_is_set e kind true ch scalar' =
+  escape_is_set e kind true ch le =
       ap (λ (set : CharSet). is_found table rer (character_complement table rer set) ch) (escape_set-plain e kind)
-      ∙ complement_is_set e (members_of kind) ch scalar'
-  escape_is_set e kind false ch scalar' =
-      ap (λ (set : CharSet). is_found table rer set ch) (escape_set-plain e kind) ∙ class_is_set e false (members_of kind) ch scalar'
+      ∙ complement_is_set e (members_of kind) ch le
+  escape_is_set e kind false ch le =
+      ap (λ (set : CharSet). is_found table rer set ch) (escape_set-plain e kind) ∙ class_is_set e false (members_of kind) ch le

@@ -5,12 +5,13 @@ use Rattle.std.proofs.lemmas.Bool.{false≢true, ne_eqb}
 use Rattle.std.proofs.lemmas.List.{reverse-append}
 use Rattle.regress_base.specs.Table.{Table}
 use Rattle.regress_base.specs.declared.types.Flags.{Flags}
-use Rattle.regress_tree.specs.Reading.{Direction, forwards, backwards, IsText, of_characters}
+use Rattle.regress_tree.specs.Reading.{Direction, forwards, backwards, of_characters}
 use Rattle.regress_tree.specs.References.{all_of, in_order, any_string}
 use Rattle.regress_tree.specs.Steps as Steps
 use Rattle.regress_tree.specs.Steps.{IsStateOf, stay, fail, ◌then_◌, ◌or_◌}
 use Rattle.regress_tree.proofs.lemmas.Outcomes.{flat_map-stay}
 use Rattle.regress_tree.proofs.lemmas.Simulation.{IsReached}
+use Rattle.regress_lexer.specs.Source.{IsCodePoint}
 use Rattle.regress_syntax.specs.Meaning.{shorter_than, longest_first}
 use Rattle.regress_ecma.specs.Notation.{CharSet, Matcher}
 use Rattle.regress_ecma.specs.CharacterMatchers.{character_set_matcher}
@@ -31,7 +32,7 @@ pub descending-same : (n : ℕ) (strings : List (List ℕ)) → descending n str
 descending-same zero strings = refl
 descending-same (suc n) strings = ap (λ (rest : List (List ℕ)). filter (λ s. length s == n) strings ++ rest) (descending-same n strings)
 
-module _ (table : Table) (rer : Flags) (text : List ℕ) (is_text : IsText text) (d : Direction) (same : ℕ → ℕ → Bool) where
+module _ (table : Table) (rer : Flags) (text : List ℕ) (is_text : All IsCodePoint text) (d : Direction) (same : ℕ → ℕ → Bool) where
   abbrev one_of : ℕ → Steps.Matcher
   one_of c = Steps.one_character d (of_characters text) (same c)
 
@@ -43,7 +44,7 @@ module _ (table : Table) (rer : Flags) (text : List ℕ) (is_text : IsText text)
     last_agrees c =
         Agrees-same text d (one_of c) (one_of c then_ stay) _ (λ s. sym (flat_map-stay (one_of c s))) (character_agrees c)
 
-module _ (table : Table) (rer : Flags) (text : List ℕ) (is_text : IsText text) (same : ℕ → ℕ → Bool)
+module _ (table : Table) (rer : Flags) (text : List ℕ) (is_text : All IsCodePoint text) (same : ℕ → ℕ → Bool)
     (literals : (c : ℕ) → IsSetOf table rer (one_character c) false (same c)) where
   string_agrees : (d : Direction) (string : List ℕ) →
       Agrees text d (all_of d (of_characters text) same (in_order d string)) (string_matcher table rer d string)
@@ -72,7 +73,7 @@ module _ (table : Table) (rer : Flags) (text : List ℕ) (is_text : IsText text)
       (λ s. sym (append_assoc (all_of d (of_characters text) same (in_order d string) s) (any_string d (of_characters text) same strings s) (f s)))
       (Agrees-or text d _ _ _ _ (string_agrees d string) (any_agrees d strings f m agrees))
 
-module _ (table : Table) (rer : Flags) (text : List ℕ) (is_text : IsText text) (d : Direction) (same : ℕ → ℕ → Bool) where
+module _ (table : Table) (rer : Flags) (text : List ℕ) (is_text : All IsCodePoint text) (d : Direction) (same : ℕ → ℕ → Bool) where
   abbrev class_steps : List (List ℕ) → (ℕ → Bool) → Bool → Steps.Matcher
   class_steps strings test has_empty =
       any_string d (of_characters text) same (longest_first strings) or_ Steps.one_character d (of_characters text) test

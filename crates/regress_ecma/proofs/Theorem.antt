@@ -3,7 +3,6 @@ use Rattle.std.proofs.Common.{arith, ◌-◌, ◌≡◌, ℕ, zero, suc, ◌+◌
 use Rattle.std.proofs.Math.ListN.{replicate}
 use Rattle.std.proofs.lemmas.Bool.{false≢true, ne_eqb}
 use Rattle.std.proofs.lemmas.List.Elements.{All-nil, All-cons}
-use Rattle.std.specs.Char.{IsScalar}
 use Rattle.regress_base.specs.Classes.{line_terminators}
 use Rattle.regress_base.specs.Intervals.{is_member}
 use Rattle.regress_base.specs.Table.{Table, denotes}
@@ -13,11 +12,11 @@ use Rattle.regress_base.specs.declared.types.AnchorType.TheVariants.{StartOfLine
 use Rattle.regress_base.specs.declared.types.Flags.{Flags}
 use Rattle.regress_base.specs.declared.types.Quantifier.{Quantifier}
 use Rattle.regress_tree.specs.Assertions.{differ, is_line_terminator, at_anchor, at_boundary}
-use Rattle.regress_tree.specs.Reading.{Direction, forwards, backwards, IsText, of_characters}
+use Rattle.regress_tree.specs.Reading.{Direction, forwards, backwards, of_characters}
 use Rattle.regress_tree.specs.References.{back_reference as back_reference_steps}
 use Rattle.regress_tree.specs.Steps as Steps
 use Rattle.regress_tree.specs.Steps.{IsStateOf, IsCaptureOf, hold_at, dedup, ◌then_◌, Setting}
-use Rattle.regress_base.proofs.lemmas.Literals.{scalar_in_range}
+use Rattle.regress_lexer.specs.Source.{IsCodePoint}
 use Rattle.regress_classes.specs.ClassProductions.{members_of}
 use Rattle.regress_classes.specs.ClassSets.{Value, has_strings}
 use Rattle.regress_syntax.specs.Meaning.{is_in_class, along, any_reference, is_literal, is_any, is_in_word, atom_steps, pattern_steps, terms_steps, item_steps, quantified_steps, meaning}
@@ -45,7 +44,7 @@ or-none false b e = (refl, e)
 
 -- ---- assertions
 
-module _ (text : List ℕ) (is_text : IsText text) (d : Direction) where
+module _ (text : List ℕ) (is_text : All IsCodePoint text) (d : Direction) where
   pub Agrees-anchor : (rer : Flags) (kind : AnchorType) →
       Agrees text d (hold_at (at_anchor (of_characters text) kind rer.multiline)) (compile_anchor rer kind)
   Agrees-anchor rer StartOfLine =
@@ -66,7 +65,7 @@ module _ (text : List ℕ) (is_text : IsText text) (d : Direction) where
   boundary_test false false true = refl
   boundary_test false false false = refl
 
-  pub Agrees-boundary : (table : Table) (rer : Flags) (is_word : ℕ → Bool) → ((ch : ℕ) → IsScalar ch → is_member (word_characters table rer) ch ≡ is_word ch) →
+  pub Agrees-boundary : (table : Table) (rer : Flags) (is_word : ℕ → Bool) → ((ch : ℕ) → IsCodePoint ch → is_member (word_characters table rer) ch ≡ is_word ch) →
       (inverted : Bool) → Agrees text d (hold_at (at_boundary (of_characters text) is_word inverted)) (compile_boundary table rer inverted)
   Agrees-boundary table rer is_word same inverted =
       Agrees-hold text d _
@@ -81,7 +80,7 @@ module _ (text : List ℕ) (is_text : IsText text) (d : Direction) where
       (passes-after text is_text (word_characters table rer) is_word same s.position))
 
 module _ (setting : Setting) (maps : HasCaseDataOfUnicode setting.table) (with_u : setting.flags.unicode_sets ≡ true → setting.flags.unicode ≡ true)
-    (all : List (Option Name)) (text : List ℕ) (is_text : IsText text) (fuel : ℕ) (enough : length text < fuel) where
+    (all : List (Option Name)) (text : List ℕ) (is_text : All IsCodePoint text) (fuel : ℕ) (enough : length text < fuel) where
   -- the flags that no group changes
   pub record HasFlagsOf (rer : Flags) : Type 0 where
     pub unicode : rer.unicode ≡ setting.flags.unicode
@@ -99,7 +98,7 @@ module _ (setting : Setting) (maps : HasCaseDataOfUnicode setting.table) (with_u
       Agrees text d (back_reference_steps d (of_characters text) (denotes setting.table rer.icase setting.flags.unicode) (n - 1))
       (backreference_matcher setting.table rer (n ∷ []) d)
   reference_agrees rer flags d n =
-      Agrees-back_reference setting.table rer text is_text (denotes setting.table rer.icase setting.flags.unicode) (compared rer flags) d n
+      Agrees-back_reference setting.table rer text (denotes setting.table rer.icase setting.flags.unicode) (compared rer flags) d n
 
   named_agrees : (rer : Flags) → HasFlagsOf rer → (d : Direction) (name : Name) (ns : List ℕ) → groups_named name 1 all ≡ ns → not (length ns == 1) ≡ false →
       Agrees text d
@@ -164,7 +163,7 @@ module _ (setting : Setting) (maps : HasCaseDataOfUnicode setting.table) (with_u
   atom_agrees d (anchor rer kind) flags none = Agrees-anchor text is_text d rer kind
   atom_agrees d (boundary rer inverted) flags none =
       Agrees-boundary text is_text d setting.table rer (is_in_word setting.table rer)
-      (λ ch scalar'. word_member setting.table maps rer (with_u_in rer flags) ch (scalar_in_range ch scalar')) inverted
+      (λ ch le. word_member setting.table maps rer (with_u_in rer flags) ch le) inverted
   atom_agrees d (class_escape rer kind negated) flags none =
       Agrees-character setting.table rer _ false _ text is_text (escape_set rer flags kind negated none) d
   atom_agrees d (class rer inverted members) flags none =
@@ -309,7 +308,7 @@ first_accepted text [] = refl
 first_accepted text (s ∷ states) = refl
 
 -- The first outcome of the pattern is the match of one with like atoms.
-pub like_outcome : (setting : Setting) (p p' : Pattern) (comparable : IsComparable setting p) (text : List ℕ) (is_text : IsText text)
+pub like_outcome : (setting : Setting) (p p' : Pattern) (comparable : IsComparable setting p) (text : List ℕ) (is_text : All IsCodePoint text)
     (fuel : ℕ) (enough : length text < fuel) →
     IsLike setting comparable.maps comparable.with_u (names p) text is_text fuel enough p p' → (d : Direction) (s : Steps.MatchState) → IsStateOf text s →
     compile_disjunction setting.table (names p) fuel setting.flags d 0 p' (state_on text s) accept
@@ -320,7 +319,7 @@ like_outcome setting p p' comparable text is_text fuel enough like d s in' =
     (record { unicode = refl; unicode_sets = refl }) d 0 p p' like comparable.proper comparable.same in
     agrees.same s in' accept ∙ first_accepted text (pattern_steps setting (names p) text d 0 p s)
 
-pub first_outcome : (setting : Setting) (p : Pattern) → IsComparable setting p → (text : List ℕ) → IsText text →
+pub first_outcome : (setting : Setting) (p : Pattern) → IsComparable setting p → (text : List ℕ) → All IsCodePoint text →
     (fuel : ℕ) → length text < fuel → (d : Direction) (s : Steps.MatchState) → IsStateOf text s →
     compile_disjunction setting.table (names p) fuel setting.flags d 0 p (state_on text s) accept
     ≡ option_map (state_on text) (slice_get (meaning setting text d p s) 0)
@@ -332,7 +331,7 @@ head_of_none : (outcomes : List Steps.MatchState) (text : List ℕ) → option_m
 head_of_none [] text e = refl
 head_of_none (s ∷ outcomes) text e = absurd (cc)
 
-pub none_at_all : (setting : Setting) (p : Pattern) → IsComparable setting p → (text : List ℕ) → IsText text →
+pub none_at_all : (setting : Setting) (p : Pattern) → IsComparable setting p → (text : List ℕ) → All IsCodePoint text →
     (fuel : ℕ) → length text < fuel → (d : Direction) (s : Steps.MatchState) → IsStateOf text s →
     compile_disjunction setting.table (names p) fuel setting.flags d 0 p (state_on text s) accept ≡ failure →
     meaning setting text d p s ≡ []
@@ -343,7 +342,7 @@ pub unset_everywhere : (text : List ℕ) (n : ℕ) → All (IsCaptureOf text) (r
 unset_everywhere text zero = All-nil (IsCaptureOf text)
 unset_everywhere text (suc n) = All-cons (IsCaptureOf text) None (replicate n None) tt (unset_everywhere text n)
 
-pub pattern_outcome : (setting : Setting) (p : Pattern) → IsComparable setting p → (text : List ℕ) → IsText text →
+pub pattern_outcome : (setting : Setting) (p : Pattern) → IsComparable setting p → (text : List ℕ) → All IsCodePoint text →
     (fuel : ℕ) → length text < fuel → (index : ℕ) → index ≤ length text →
     compile_pattern fuel setting.table setting.flags p text index
     ≡ option_map (state_on text) (slice_get (meaning setting text forwards p (record { position = index; captures = replicate (length (names p)) None })) 0)

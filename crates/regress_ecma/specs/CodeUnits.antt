@@ -1,9 +1,11 @@
 -- ECMA-262, 6.1.4 and 11.1: strings of UTF-16 code units, and the characters that a pattern and a text are read as.
-use Rattle.std.specs.Prelude.{◌≡◌, ℕ, Bool, true, ◌&&◌, List, [], ◌∷◌, nat_le, if◌then◌else◌}
+use Rattle.std.specs.Prelude.{◌≡◌, ℕ, Bool, true, ◌&&◌, List, [], ◌∷◌, length, map, take, Option, Some, None, nat_le, if◌then◌else◌}
 use Rattle.std.specs.Char.Escape.{encode_utf16}
 use Rattle.std.specs.Char.Utf16.{is_high_surrogate, is_low_surrogate, surrogate_pair_char}
 use Rattle.std.specs.List.{flat_map, list_all}
 use Rattle.regress_base.specs.declared.types.Flags.{Flags}
+use Rattle.regress_ecma.specs.Exec.{Found}
+use Rattle.regress_ecma.specs.Notation.{CaptureRange, MatchState}
 use lib.Utf8.{scalar}
 
 -- 11.1.2 CodePointsToString: the code units of each code point, by 11.1.1 UTF16EncodeCodePoint
@@ -29,6 +31,28 @@ is_one_character unicode c = if unicode then scalar c else nat_le c 0xFFFF
 -- each of them is one
 abbrev pub is_exact : (unicode : Bool) → List ℕ → Bool
 is_exact unicode = list_all (is_one_character unicode)
+
+-- ---- positions of a text, as indices of its code units
+
+-- the index at which the code units of the character at a position begin
+abbrev pub unit_position : List ℕ → ℕ → ℕ
+unit_position text k = length (code_units (take k text))
+
+abbrev pub unit_capture : List ℕ → Option CaptureRange → Option CaptureRange
+unit_capture text None = None
+unit_capture text (Some range) = Some (unit_position text range.0, unit_position text range.1)
+
+-- a state of the matcher on a text, as one on its code units
+abbrev pub in_units : List ℕ → MatchState → MatchState
+in_units text x = record {
+  input = code_units text;
+  end_index = unit_position text x.end_index;
+  captures = map (unit_capture text) x.captures;
+}
+
+-- a match in a text, as one in its code units
+abbrev pub found_in_units : List ℕ → Found → Found
+found_in_units text found = (unit_position text found.0, in_units text found.1)
 
 -- The characters of the pattern are its code points, and those of the text.
 pub record IsExactFor (flags : Flags) (source text : List ℕ) : Type 0 where

@@ -13,6 +13,7 @@ pub mod Exec
 pub mod Differences
 pub mod Compared
 pub mod CodeUnits
+pub mod SurrogatePairs
 pub mod CharacterEscapes
 pub mod ClassRanges
 pub mod ClassSetExpressions

@@ -1,6 +1,6 @@
 //! The theorems that the first outcome of a pattern is the match of ECMA-262, and that classes are accepted where it accepts them.
 ghost use Rattle.std.specs.Prelude.{◌≡◌, ◌<◌, ◌≤◌, ℕ, Bool, true, false, List, Some, None, length, option_map, replicate, slice_get, [], ◌∷◌};
-ghost use Rattle.regress_tree.specs.Reading.{Direction, forwards, IsText};
+ghost use Rattle.regress_tree.specs.Reading.{Direction, forwards};
 ghost use Rattle.regress_tree.specs.Steps.{MatchState, IsStateOf, Setting};
 ghost use Rattle.std.specs.List.{All};
 ghost use Rattle.regress_lexer.specs.Source.{Source, IsCodePoint, char};
@@ -39,11 +39,11 @@ ghost use Rattle.regress_ecma.specs.Notation.{failure};
 /// The function does nothing at run time; call it where a proof needs the theorem.
 pub fn first_outcome_is_the_match()
     // From any state of the text, in both directions.
-    ensures same { (setting : Setting) (p : Pattern) → IsComparable setting p → (text : List ℕ) → IsText text →
+    ensures same { (setting : Setting) (p : Pattern) → IsComparable setting p → (text : List ℕ) → All IsCodePoint text →
         (fuel : ℕ) → length text < fuel → (d : Direction) (s : MatchState) → IsStateOf text s →
         compile_disjunction setting.table (names p) fuel setting.flags d 0 p (state_on text s) accept
         ≡ option_map (state_on text) (slice_get (meaning setting text d p s) 0) }
-    ensures fails { (setting : Setting) (p : Pattern) → IsComparable setting p → (text : List ℕ) → IsText text →
+    ensures fails { (setting : Setting) (p : Pattern) → IsComparable setting p → (text : List ℕ) → All IsCodePoint text →
         (fuel : ℕ) → length text < fuel → (d : Direction) (s : MatchState) → IsStateOf text s →
         compile_disjunction setting.table (names p) fuel setting.flags d 0 p (state_on text s) accept ≡ failure →
         meaning setting text d p s ≡ [] }
@@ -52,20 +52,20 @@ pub fn first_outcome_is_the_match()
     // source of each. They take the place of what the syntax tree has. This and the next one are about the dialect
     // `Regress`.
     ensures source { (ctx : Context) → ctx.dialect ≡ Regress → (p : Pattern) (t rest : Source) (derived : IsPattern ctx p t rest) → IsComparable ctx.setting p →
-        (text : List ℕ) → IsText text → (fuel : ℕ) → length text < fuel → (index : ℕ) → index ≤ length text →
+        (text : List ℕ) → All IsCodePoint text → (fuel : ℕ) → length text < fuel → (index : ℕ) → index ≤ length text →
         compile_pattern fuel ctx.setting.table ctx.setting.flags (with_char_sets ctx p t rest derived) text index
         ≡ option_map (state_on text) (slice_get
         (meaning ctx.setting text forwards p (record { position = index; captures = replicate (length (names p)) None })) 0) }
 
     // So a search finds the same with them.
     ensures search { (ctx : Context) → ctx.dialect ≡ Regress → (p : Pattern) (t rest : Source) (derived : IsPattern ctx p t rest) → IsComparable ctx.setting p →
-        (text : List ℕ) → IsText text → (index : ℕ) → index ≤ length text →
+        (text : List ℕ) → All IsCodePoint text → (index : ℕ) → index ≤ length text →
         builtin_exec ctx.setting (with_char_sets ctx p t rest derived) text index ≡ builtin_exec ctx.setting p text index }
 
     // In the dialect `Ecma`, without exception: with these CharSets, from an index, as RegExpBuiltinExec begins.
     ensures in_ecma { (ctx : Context) → ctx.dialect ≡ Ecma → IsOfUnicode ctx.setting.table →
         (ctx.setting.flags.unicode_sets ≡ true → ctx.setting.flags.unicode ≡ true) →
-        (p : Pattern) (t rest : Source) (derived : IsPattern ctx p t rest) → NoneConflict p → (text : List ℕ) → IsText text →
+        (p : Pattern) (t rest : Source) (derived : IsPattern ctx p t rest) → NoneConflict p → (text : List ℕ) → All IsCodePoint text →
         (fuel : ℕ) → length text < fuel → (index : ℕ) → index ≤ length text →
         compile_pattern fuel ctx.setting.table ctx.setting.flags (with_char_sets ctx p t rest derived) text index
         ≡ option_map (state_on text) (slice_get
@@ -84,7 +84,7 @@ pub fn first_outcome_is_the_match()
     ensures unicode { IsOfUnicode unicode_table }
 
     // From an index, with all groups unset, as RegExpBuiltinExec begins.
-    ensures pattern { (setting : Setting) (p : Pattern) → IsComparable setting p → (text : List ℕ) → IsText text →
+    ensures pattern { (setting : Setting) (p : Pattern) → IsComparable setting p → (text : List ℕ) → All IsCodePoint text →
         (fuel : ℕ) → length text < fuel → (index : ℕ) → index ≤ length text →
         compile_pattern fuel setting.table setting.flags p text index
         ≡ option_map (state_on text) (slice_get

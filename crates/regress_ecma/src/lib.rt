@@ -6,6 +6,6 @@ mod code_units;
 mod law;
 mod patterns;
 
-pub use code_units::characters_are_code_points;
+pub use code_units::{characters_are_code_points, code_units_have_the_same_matches};
 pub use law::{accepts_what_ecma_accepts, first_outcome_is_the_match};
 pub use patterns::accepts_patterns_of_ecma;

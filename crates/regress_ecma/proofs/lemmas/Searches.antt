@@ -1,10 +1,10 @@
 -- A search over the bytes of a text finds what RegExpBuiltinExec does over its characters.
-use Rattle.std.proofs.Common.{◌≡◌, ℕ, zero, suc, ◌+◌, ◌-◌, ◌<◌, ◌≤◌, List, [], ◌∷◌, ◌++◌, length, take, drop, map, slice_get, Option, Some, None, option_map, encode_utf8_all, refl, sym, ap, ap₂, ◌∙◌, ⊎_elim, true, arith}
+use Rattle.std.proofs.Common.{◌≡◌, ℕ, zero, suc, ◌+◌, ◌-◌, ◌<◌, ◌≤◌, All, List, [], ◌∷◌, ◌++◌, length, take, drop, map, slice_get, Option, Some, None, option_map, encode_utf8_all, refl, sym, ap, ap₂, ◌∙◌, ⊎_elim, true, arith}
 use Rattle.std.proofs.Math.ListN.{replicate}
 use Rattle.std.proofs.Math.Utf8.{scalar, scalars}
 use Rattle.std.proofs.lemmas.Bool.{and_from, and_parts, cases_lt}
 use Rattle.std.proofs.lemmas.List.{take-append-drop, length-take-le, length-append, take_at}
-use Rattle.std.proofs.lemmas.List.Elements.{All-nil, All-cons, All-head, All-tail, All-drop, All-replicate}
+use Rattle.std.proofs.lemmas.List.Elements.{All-nil, All-cons, All-head, All-tail, All-drop, All-replicate, All-weaker}
 use Rattle.std.proofs.lemmas.Option.{slice_get-map}
 use Rattle.std.proofs.lemmas.Str.{IsUtf8-take, IsUtf8-drop, IsCharBoundary-at_seam, encodes-append, encodes_same, scalars-chars}
 use Rattle.std.specs.Char.{IsScalar}
@@ -16,6 +16,8 @@ use Rattle.regress_tree.specs.Steps.{IsStateOf, IsCaptureOf, byte_capture, byte_
 use Rattle.regress_tree.specs.Tree.{Tree}
 use Rattle.regress_tree.specs.WellFormed.{captures}
 use Rattle.regress_tree.proofs.lemmas.Characters.{byte_position-le, byte_position-lt}
+use Rattle.regress_base.proofs.lemmas.Literals.{scalar_in_range}
+use Rattle.regress_lexer.specs.Source.{IsCodePoint}
 use Rattle.regress_syntax.specs.Meaning.{meaning}
 use Rattle.regress_syntax.specs.Syntax.{Pattern, names}
 use Rattle.regress_ecma.specs.Notation.{MatchState, MatchResult}
@@ -70,6 +72,10 @@ scalars_from (c ∷ cs) text =
 
 pub decoded : (bytes : List ℕ) → IsUtf8 bytes → IsText (chars bytes)
 decoded bytes utf8 = text_from (chars bytes) (scalars-chars bytes utf8)
+
+-- each character of a text is a code point
+pub in_range : (text : List ℕ) → IsText text → All IsCodePoint text
+in_range text is_text = All-weaker IsScalar IsCodePoint scalar_in_range text is_text
 
 encoded : (text : List ℕ) → IsText text → IsUtf8 (encode_utf8_all text)
 encoded text is_text = (text, (scalars_from text is_text, refl))
@@ -235,4 +241,4 @@ module _ (setting : Setting) (p q : Pattern) (t : Tree) (means : HasMeaning sett
 -- ---- without a differing construct
 
 pub returned : (setting : Setting) (p : Pattern) → IsComparable setting p → (text : List ℕ) → IsText text → Returns setting p p text
-returned setting p comparable text is_text = pattern_outcome setting p comparable text is_text (length text + 1) (omega arith)
+returned setting p comparable text is_text = pattern_outcome setting p comparable text (in_range text is_text) (length text + 1) (omega arith)

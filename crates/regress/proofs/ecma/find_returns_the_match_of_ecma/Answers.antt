@@ -3,7 +3,7 @@ use Rattle.regress_front.specs.Accepted.{own_context, own_context_in}
 use Rattle.regress_front.specs.declared.parse.Dialect.TheVariants.{Ecma}
 use Rattle.regress_ecma.specs.CompiledClasses.{with_char_sets}
 use Rattle.regress_ecma.specs.Exec.{found_in_bytes}
-use Rattle.regress_ecma.proofs.lemmas.Searches.{decoded}
+use Rattle.regress_ecma.proofs.lemmas.Searches.{decoded, in_range}
 use Rattle.regress.proofs.EcmaLemmas.{finds_match, finds_match_from, finds_match_of, finds_matches_in}
 use Rattle.regress.proofs.ecma.find_returns_the_match_of_ecma.Goals as goal
 
@@ -18,14 +18,14 @@ returns-clause-source c setting pattern r compiled comparable text utf8 index wi
     finds_match_from setting pattern r compiled comparable text utf8 index within found finds
     ∙ ap (option_map found_in_bytes)
     (sym (c.first_outcome_is_the_match.ensures.search (own_context setting compiled.tree.pattern) refl compiled.tree.pattern pattern []
-    compiled.tree.accepted.derived comparable (chars text) (decoded text utf8) index within))
+    compiled.tree.accepted.derived comparable (chars text) (in_range (chars text) (decoded text utf8)) index within))
 
 pub returns-clause-in_ecma : goal.returns-clause-in_ecma
 returns-clause-in_ecma c setting unicode with_u pattern r compiled text utf8 =
     let ctx = own_context_in Ecma setting compiled.tree.pattern in
     finds_match_of Ecma setting pattern r compiled (with_char_sets ctx compiled.tree.pattern pattern [] compiled.tree.accepted.derived) text utf8
     (c.first_outcome_is_the_match.ensures.in_ecma ctx refl unicode with_u compiled.tree.pattern pattern [] compiled.tree.accepted.derived
-    compiled.tree.accepted.names (chars text) (decoded text utf8) (length (chars text) + 1) (omega arith))
+    compiled.tree.accepted.names (chars text) (in_range (chars text) (decoded text utf8)) (length (chars text) + 1) (omega arith))
 
 pub returns-clause-exact : goal.returns-clause-exact
 returns-clause-exact c setting unicode with_u pattern r compiled text utf8 exact =
