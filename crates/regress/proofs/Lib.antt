@@ -7,3 +7,4 @@ mod LettersLemmas
 mod ReplacedLemmas
 mod RequiredLemmas
 mod SourceLemmas
+mod ValidLemmas

@@ -12,3 +12,4 @@ pub mod Required
 pub mod Searched
 pub mod Source
 pub mod Unicode
+pub mod Valid

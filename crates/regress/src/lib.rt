@@ -19,7 +19,7 @@ mod search;
 mod source;
 mod splitting;
 
-pub use ecma::find_returns_the_match_of_ecma;
+pub use ecma::{compiles_what_ecma_accepts, find_returns_the_match_of_ecma};
 pub use failure::{Error, SearchError};
 pub use found::Match;
 pub use groups::{GroupNames, Groups, NamedGroups};

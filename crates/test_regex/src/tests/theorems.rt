@@ -1,8 +1,9 @@
-//! A call of the function that states a theorem of `regress`.
+//! Calls of the functions that state theorems of `regress`.
 
-use regress::find_returns_the_match_of_ecma;
+use regress::{compiles_what_ecma_accepts, find_returns_the_match_of_ecma};
 
 #[test]
-fn the_function_that_states_the_theorem_returns(_rt: HostRuntime) {
+fn the_functions_that_state_theorems_return(_rt: HostRuntime) {
+    compiles_what_ecma_accepts();
     find_returns_the_match_of_ecma();
 }
