@@ -23,7 +23,6 @@ if len(sys.argv) > 1:
 import regress
 
 CASES = pathlib.Path(__file__).resolve().parents[2] / 'crates/test_cases/data/generated'
-DIFFERS = '# differs '
 
 
 def literal(field):
@@ -35,10 +34,8 @@ def literal(field):
 
 
 def cases(name):
-    """Yields the lines of a file of test cases, each with its fields. One that begins with DIFFERS is a test case too:
-    V8 finds the match of the default dialect, and another one is found in 'regress'."""
+    """Yields the lines of a file of test cases, each with its fields."""
     for number, line in enumerate((CASES / name).read_text(encoding='utf-8').split('\n'), 1):
-        line = line[len(DIFFERS):] if line.startswith(DIFFERS) else line
         if line and not line.startswith('#'):
             fields = [literal(field) for field in line.split('\t')]
             # Each pattern is compiled under the table of all of Unicode.
@@ -64,13 +61,14 @@ class V8(unittest.TestCase):
         self.assertFalse(failures, '%d of %d fail:\n%s' % (len(failures), count, '\n'.join(failures[:20])))
         print('%d results are those of V8' % count)
 
-    def compare_searches(self, file, expected_call, shown):
-        """Compares what a search shows of each test case of a file with its result."""
+    def compare_searches(self, file, question, shown):
+        """Compares what a search shows of each test case of a file with its result, which V8 has, and so the default
+        dialect."""
         failures = []
         count = 0
         for name, (_, call, flags, pattern, text, result) in cases(file):
             count += 1
-            self.assertEqual(call, expected_call)
+            self.assertIn(call, (question, 'ecma ' + question, 'both ' + question))
             found = shown(compiled(flags, pattern), text) or 'none'
             if found != result:
                 failures.append('%s\n    found: %s' % (name, found))

@@ -5,7 +5,6 @@ use regress_front::{Flags, Match, Options, Regex, SearchError};
 use std::fs;
 
 const FOLDER: &str = "../../crates/test_cases/data/generated";
-const DIFFERS: &str = "# differs ";
 
 /// A test case: the name of the call, its arguments, and the result.
 struct Case {
@@ -14,14 +13,12 @@ struct Case {
     result: String,
 }
 
-/// Returns the test cases of a file. A line that begins with `DIFFERS` is one too: there V8 finds the match of this
-/// dialect, and another one is found in `Regress`.
+/// Returns the test cases of a file. Their results are those of V8, and so of this dialect.
 fn cases(file: &str) -> Vec<Case> {
     let path = format!("{}/{FOLDER}/{file}", env!("CARGO_MANIFEST_DIR"));
     let text = fs::read_to_string(&path).expect(&path);
     let lines = text.lines().enumerate();
     lines
-        .map(|(number, line)| (number, line.strip_prefix(DIFFERS).unwrap_or(line)))
         .filter(|(_, line)| !line.is_empty() && !line.starts_with('#'))
         .map(|(number, line)| {
             // Each pattern is compiled under the table of all of Unicode.

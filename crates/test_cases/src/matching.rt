@@ -1,10 +1,10 @@
 //! The result of a test case for the matcher.
 
 use crate::linear::{instruction_limit, response_linear};
-use crate::outcome::{Question, matcher_of, parse_question, response_question};
-use crate::parsing::{parse_in_ecma, parse_tree};
+use crate::outcome::{matcher_of, parse_question, response_question};
+use crate::parsing::parse_in;
 use crate::trees::optimize_watched;
-use regress_base::types::Flags;
+use regress_parse::Dialect;
 use regress_unicode::Tables;
 use std::alloc::Global;
 use std::sync::Arc;
@@ -21,28 +21,52 @@ enum Way {
     Tables,
 }
 
-/// Returns the first result that is not the expected one: by backtracking, unless the question is `linear`; by a matcher
-/// of the optimized tree; or by tables if the program has no back reference.
+/// Returns the first result that is not the expected one, in the dialect `Regress`, or after `ecma ` in the dialect `Ecma`,
+/// or after `both ` in each of them.
 pub(crate) fn match_difference(
     alloc: Global,
     line: &str,
     tables: &Arc<Tables>,
 ) -> Result<Option<String>, Fault> {
     let (fields, expected) = split_expected(alloc, line)?;
+    if let Some(fields) = fields.strip_prefix("ecma ") {
+        return difference_in(alloc, fields, &expected, tables, Dialect::Ecma);
+    }
+    let Some(fields) = fields.strip_prefix("both ") else {
+        return difference_in(alloc, fields, &expected, tables, Dialect::Regress);
+    };
+    if let Some(found) = difference_in(alloc, fields, &expected, tables, Dialect::Regress)? {
+        return Ok(Some(format!(in alloc; "{found} in the dialect Regress")?));
+    }
+    match difference_in(alloc, fields, &expected, tables, Dialect::Ecma)? {
+        Some(found) => Ok(Some(format!(in alloc; "{found} in the dialect Ecma")?)),
+        None => Ok(None),
+    }
+}
+
+/// Returns the first result that is not the expected one: by backtracking, unless the question is `linear`; by a matcher
+/// of the optimized tree; or by tables if the program has no back reference.
+fn difference_in(
+    alloc: Global,
+    fields: &str,
+    expected: &str,
+    tables: &Arc<Tables>,
+    dialect: Dialect,
+) -> Result<Option<String>, Fault> {
     if !fields.starts_with("linear") {
-        let found = difference_by(alloc, fields, &expected, tables, Way::Backtracking)?;
+        let found = difference_by(alloc, fields, expected, tables, dialect, Way::Backtracking)?;
         if found.is_some() {
             return Ok(found);
         }
     }
     // with tables there is no limit
-    if expected.as_str() == "out of steps" {
+    if expected == "out of steps" {
         return Ok(None);
     }
-    if let Some(found) = difference_by(alloc, fields, &expected, tables, Way::Matcher)? {
+    if let Some(found) = difference_by(alloc, fields, expected, tables, dialect, Way::Matcher)? {
         return Ok(Some(format!(in alloc; "{found} by the optimized tree")?));
     }
-    match difference_by(alloc, fields, &expected, tables, Way::Tables)? {
+    match difference_by(alloc, fields, expected, tables, dialect, Way::Tables)? {
         Some(found) => Ok(Some(format!(in alloc; "{found} by tables")?)),
         None => Ok(None),
     }
@@ -54,12 +78,13 @@ fn difference_by(
     fields: &str,
     expected: &str,
     tables: &Arc<Tables>,
+    dialect: Dialect,
     way: Way,
 ) -> Result<Option<String>, Fault> {
     let mut call = Call::new(alloc, fields);
     let question = parse_question(&mut call);
     let flags = call.flags();
-    let read = parse_tree(&mut call, flags, tables);
+    let read = parse_in(&mut call, flags, tables, dialect);
     let text = read_text(&mut call);
     if let Some(regex) = read {
         let mut regex = regex;
@@ -85,17 +110,6 @@ fn difference_by(
         }
     }
     call.difference(expected)
-}
-
-/// Reports all matches of a pattern in the dialect `Ecma`.
-pub(crate) fn match_in_ecma(call: &mut Call, flags: Flags, tables: &Arc<Tables>) {
-    let read = parse_in_ecma(call, flags, tables);
-    let text = read_text(call);
-    if let Some(regex) = read
-        && let Some(matcher) = matcher_of(call, regex, tables, 0)
-    {
-        response_question(call, Question::All, &matcher, &text);
-    }
 }
 
 /// Splits a line into the fields of a call and the expected result, which is a text.

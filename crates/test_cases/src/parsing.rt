@@ -69,15 +69,22 @@ pub(crate) fn find_fault(call: &mut Call, flags: Flags, tables: &Tables) {
 
 /// Reports whether a pattern is accepted in the dialect `Ecma`.
 pub(crate) fn report_ecma(call: &mut Call, flags: Flags, tables: &Tables) {
-    if parse_in_ecma(call, flags, tables).is_some() {
+    if parse_in(call, flags, tables, Dialect::Ecma).is_some() {
         call.say("accepted");
     }
 }
 
-/// Returns the tree of a pattern in the dialect `Ecma`, or reports that it is rejected.
-pub(crate) fn parse_in_ecma(call: &mut Call, flags: Flags, tables: &Tables) -> Option<Regex> {
+/// Returns the tree of a pattern in a dialect, or reports that it is rejected.
+pub(crate) fn parse_in(
+    call: &mut Call,
+    flags: Flags,
+    tables: &Tables,
+    dialect: Dialect,
+) -> Option<Regex>
+    ensures { IfSome result (λ regex. IsWellFormed (tree regex.node)) }
+{
     let points = call.pattern();
-    match try_parse_in(call.alloc(), &points, flags, tables, Dialect::Ecma) {
+    match try_parse_in(call.alloc(), &points, flags, tables, dialect) {
         Ok(regex) => Some(regex),
         Err(PlacedFault::Syntax { .. }) => {
             call.say("rejected");

@@ -3,7 +3,7 @@
 use crate::alphabets::report_alphabet;
 use crate::generated::parts_of_large;
 use crate::instructions::report_limits;
-use crate::matching::{match_difference, match_in_ecma};
+use crate::matching::match_difference;
 use crate::parsing::{find_fault, report_bound, report_ecma, report_spans};
 use crate::replacing::replace_difference;
 use crate::tear::parse_all_torn;
@@ -103,7 +103,6 @@ fn make_under_flags(call: &mut Call, name: &str, tables: &Arc<Tables>) {
         "whole" => whole(call, flags, tables),
         "position" => find_fault(call, flags, tables),
         "ecma" => report_ecma(call, flags, tables),
-        "ecma_all" => match_in_ecma(call, flags, tables),
         "spans" => report_spans(call, flags, tables),
         "bound" => report_bound(call, flags),
         "instructions" => report_limits(call, flags, tables),
