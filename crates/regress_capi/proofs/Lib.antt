@@ -5,6 +5,7 @@ mod HandleValues
 mod ListHandleValues
 mod ListLemmas
 mod LooseValues
+mod PutLemmas
 mod ReplaceLemmas
 mod ResultLemmas
 mod SearchLemmas

@@ -1,23 +1,23 @@
 -- The result of a search, from what it computed.
 use Rattle.std.proofs.Common.{◌≡◌, ◌+◌, ◌++◌, ◌<◌, ℕ, add-one, drop-cons, false, get_or, IfNone, List, [], ◌∷◌, Option, drop, flat_map, length, append_assoc, append-nil, refl, sym, ap, ◌∙◌, subst}
 use Rattle.std.proofs.lemmas.Grind.{flat_map-append}
-use Rattle.std.specs.Prelude.{IfErr, IfOk, MatchOption, MatchResult, None, Some, Result, Ok, Err}
+use Rattle.std.specs.Prelude.{IfErr, IfOk, MatchOption, MatchResult, None, Some, Result, Ok, Err, option_map}
 use Rattle.regress.specs.declared.failure.SearchError.{SearchError}
 use Rattle.regress.specs.declared.failure.SearchError.TheVariants.{Memory, OutOfSteps, TooMuchMemory}
-use Rattle.regress_front.specs.Steps.{CaptureSpan}
+use Rattle.regress_front.specs.Steps.{CaptureSpan, MatchState}
 use Rattle.regress_found.specs.Found as one
 use Rattle.regress_found.specs.declared.found.Match as found
 use Rattle.regress_found.specs.Repeated.{AreMatches}
 use Rattle.regress_match.proofs.lemmas.Searched.{AreMatches-more}
 use Rattle.regress.proofs.lemmas.Paid.{HasPaid, none_paid, one_more_paid, out_of_steps as too_costly, too_much_memory as too_large}
 use Rattle.regress.specs.Compiled.{outcomes_of, match_of}
-use Rattle.regress.specs.Costs.{AllAreTooCostly, factor_of, limit_of, matcher_of}
+use Rattle.regress.specs.Costs.{AllAreTooCostly, CostsLimit, IsTooCostly, factor_of, find_factor_of, limit_of, matcher_of}
 use Rattle.regress.specs.Memory.{TablesNeedMore}
 use Rattle.regress.specs.Searched.{Advances, has_failed, next_from, search_limit, search_remaining, searched_matcher, searched_outcomes, searched_text}
 use Rattle.regress.specs.declared.pattern.Regex.{Regex}
 use Rattle.regress.specs.declared.found.Match.{Match}
 use Rattle.regress.specs.declared.search.Matches.{Matches}
-use Rattle.regress_capi.specs.Spans.{AreEndsOfAll, ends_of, match_ends}
+use Rattle.regress_capi.specs.Spans.{AreEndsOfAll, AreEndsOfFirst, ends_of, match_ends}
 use Rattle.regress_capi.specs.SearchResults.{IsBare, status_of, SearchResult, written, no_match, out_of_memory, little, bad, out_of_steps, too_much_memory, TestResult, too_little_memory, too_many_steps, too_large_tables}
 
 -- what is written has the property that was computed, and the arguments are valid
@@ -132,6 +132,21 @@ module _ {A : Type 0} {P : List ℕ → Type 0} {Missing Costly Large : Type 0} 
   search-reports items (Err Memory) asked has late large is = at-bare 2 is (out_of_memory asked)
   search-reports items (Err OutOfSteps) asked has late large is = at-bare 7 is (out_of_steps asked (late refl))
   search-reports items (Err TooMuchMemory) asked has late large is = at-bare 8 is (too_much_memory asked (large refl))
+
+-- what a search for one match has found
+pub first-found : (text : List ℕ) (at : ℕ → List MatchState) (from : ℕ) (r : Result (Option Match) SearchError) →
+    IfOk r (λ found. one.Finds text at from (option_map match_of found)) →
+    IfOk r (λ some. MatchOption some (one.Finds text at from None) (λ m. AreEndsOfFirst text at from (match_ends (match_of m))))
+first-found text at from (Ok None) finds = finds
+first-found text at from (Ok (Some m)) finds = (match_of m, finds, refl)
+first-found text at from (Err e) finds = tt
+
+-- why it may be out of steps
+pub too-costly : (regex : Regex) (text : List ℕ) (from : ℕ) (r : Result (Option Match) SearchError) →
+    IfErr r (λ error. error ≡ OutOfSteps → factor_of regex ≡ None) → IfErr r (λ error. error ≡ OutOfSteps → find_factor_of regex ≡ None) →
+    IfErr r (λ error. error ≡ OutOfSteps → CostsLimit regex text from) → IfErr r (λ error. error ≡ OutOfSteps → IsTooCostly regex text from)
+too-costly regex text from (Ok some) linear bounded costs = tt
+too-costly regex text from (Err e) linear bounded costs = λ is. record { linear = linear is; bounded = bounded is; costs = costs is }
 
 -- a search that fails has the status of its error
 pub test-fails : {A Present Missing Costly Large : Type 0} {status : ℕ} (error : SearchError) → A → (error ≡ OutOfSteps → Costly) →

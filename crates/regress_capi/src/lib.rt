@@ -6,6 +6,7 @@ pub mod bounds;
 mod buffer;
 pub mod compiling;
 pub mod differing;
+mod ends;
 pub mod escaping;
 pub mod expanding;
 pub mod handle;

@@ -1,22 +1,21 @@
 //! The results of searches.
-ghost use Rattle.std.specs.Prelude.{◌≡◌, ◌++◌, ◌∷◌, [], IfErr, IfOk, IsUtf8, MatchOption, MatchResult, None};
+ghost use Rattle.std.specs.Prelude.{◌≡◌, IfErr, IfOk, IsUtf8, MatchOption, MatchResult, None};
 ghost use Rattle.regress.specs.Compiled.{groups_of, outcomes_of, match_of};
 ghost use Rattle.regress.specs.Costs.{AllAreTooCostly, IsTooCostly};
 ghost use Rattle.regress.specs.Memory.{TablesNeedMore};
 ghost use Rattle.regress.specs.Searched.{MatchesSomewhere};
-ghost use Rattle.regress.specs.Groups.{span_of};
 ghost use Rattle.regress.specs.declared.failure.SearchError.TheVariants.{OutOfSteps, TooMuchMemory};
 ghost use Rattle.regress_capi.specs.ExactResults.{ExactResult};
 ghost use Rattle.regress_capi.specs.ListResults.{width_of};
 ghost use Rattle.regress_capi.specs.SearchResults.{IsBare, SearchResult, TestResult, status_of};
-ghost use Rattle.regress_capi.specs.Spans.{AreEndsOfAll, AreEndsOfFirst, ends_of, match_ends};
+ghost use Rattle.regress_capi.specs.Spans.{AreEndsOfAll, AreEndsOfFirst, match_ends};
 ghost use Rattle.regress_found.specs.Found.{Finds};
 
 use super::buffer::copy_to;
+use super::ends::{push_spans, put_spans};
 use super::results::{BAD_INPUT, MEMORY, OK, ROOM};
 use regress::{Match, Regex, SearchError};
-use std::alloc::{AllocError, Global};
-use std::ops::Range;
+use std::alloc::Global;
 
 pub(crate) const NO_MATCH: u32 = 1;
 
@@ -36,6 +35,9 @@ pub struct Searched<'a> {
 /// # Errors
 /// The status is 1 if there is no match, 2 if an allocation failed, 3 if `spans` is too small, 4 if the text is not UTF-8,
 /// 7 if the search takes more steps than allowed, and 8 if it needs more memory than allowed.
+///
+/// # Complexity
+/// Where `spans` is large enough, only the search allocates.
 pub fn write_first(
     alloc: Global,
     regex: &Regex,
@@ -50,7 +52,10 @@ pub fn write_first(
 {
     *needed = 0;
     match str::from_utf8(searched.text) {
-        Ok(text) => report(first_ends(alloc, regex, text, searched.from), spans, needed),
+        Ok(text) => {
+            let found = regex.find_at(alloc, text, searched.from);
+            report_first(alloc, found, spans, needed)
+        }
         Err(_) => BAD_INPUT,
     }
 }
@@ -108,6 +113,52 @@ pub fn is_exact_for(regex: &Regex, text: &[u8]) -> u32
     }
 }
 
+/// Writes the ends of the match that a search has found, and of its groups. Returns the status.
+fn report_first(
+    alloc: Global,
+    found: Result<Option<Match<'_>>, SearchError>,
+    buffer: &mut [usize],
+    needed: &mut usize,
+) -> u32
+    ensures { MatchResult found.entry (λ some. MatchOption some (IsBare 1 buffer.old result needed.new buffer.new) (λ m.
+        SearchResult (Unit {0}) (λ numbers. numbers ≡ match_ends (match_of m)) ⊥ ⊥ ⊥ buffer.old result needed.new buffer.new))
+        (λ error. IsBare (status_of error) buffer.old result needed.new buffer.new) }
+{
+    *needed = 0;
+    match found {
+        Ok(Some(found)) => give_match(alloc, &found, buffer, needed),
+        Ok(None) => NO_MATCH,
+        Err(error) => error_status(error),
+    }
+}
+
+/// Writes the ends of a match and of its groups, and their number. Returns the status.
+///
+/// They are listed, to be counted, only if there is no room for them.
+fn give_match(alloc: Global, found: &Match<'_>, buffer: &mut [usize], needed: &mut usize) -> u32
+    ensures { SearchResult (Unit {0}) (λ numbers. numbers ≡ match_ends (match_of found.now)) ⊥ ⊥ ⊥ buffer.old result needed.new buffer.new }
+{
+    match put_spans(found, buffer) {
+        Some(count) => {
+            *needed = count;
+            OK
+        }
+        None => give_listed(alloc, found, buffer, needed),
+    }
+}
+
+/// Writes the same from a list. Returns the status.
+fn give_listed(alloc: Global, found: &Match<'_>, buffer: &mut [usize], needed: &mut usize) -> u32
+    ensures { SearchResult (Unit {0}) (λ numbers. numbers ≡ match_ends (match_of found.now)) ⊥ ⊥ ⊥ buffer.old result needed.new buffer.new }
+{
+    *needed = 0;
+    let mut ends = Vec::new(alloc);
+    match push_spans(found, &mut ends) {
+        Ok(()) => give(&ends, buffer, needed),
+        Err(_) => MEMORY,
+    }
+}
+
 /// Writes what a search has found. Returns the status.
 fn report(
     found: Result<Option<Vec<usize>>, SearchError>,
@@ -145,27 +196,6 @@ fn give(items: &Vec<usize>, buffer: &mut [usize], needed: &mut usize) -> u32
     if copy_to(items, buffer) { OK } else { ROOM }
 }
 
-fn first_ends(
-    alloc: Global,
-    regex: &Regex,
-    text: &str,
-    from: usize,
-) -> Result<Option<Vec<usize>>, SearchError>
-    ensures ends { IfOk result (λ some. MatchOption some (Finds text.now (outcomes_of regex.now text.now) from None) (λ ends.
-        AreEndsOfFirst text.now (outcomes_of regex.now text.now) from ends.items)) }
-    ensures failed { IfErr result (λ error. error ≡ OutOfSteps → IsTooCostly regex.now text.now from) }
-    ensures too_much { IfErr result (λ error. error ≡ TooMuchMemory → TablesNeedMore regex.now text.now) }
-{
-    match regex.find_at(alloc, text, from)? {
-        Some(found) => {
-            let mut ends = Vec::with_capacity(alloc, width_of(regex))?;
-            push_spans(&found, &mut ends)?;
-            Ok(Some(ends))
-        }
-        None => Ok(None),
-    }
-}
-
 pub(crate) fn all_ends(
     alloc: Global,
     regex: &Regex,
@@ -182,27 +212,6 @@ pub(crate) fn all_ends(
         push_spans(&found, &mut ends)?;
     }
     Ok(Some(ends))
-}
-
-/// Appends the ends of a match, and then those of each group.
-fn push_spans(found: &Match<'_>, ends: &mut Vec<usize>) -> Result<(), AllocError>
-    ensures { IfOk result (λ _. ends.new.items ≡ ends.old.items ++ match_ends (match_of found.now)) }
-{
-    for span in found.groups() {
-        let (start, end) = ends_of(span);
-        ends.push(start)?;
-        ends.push(end)?;
-    }
-    Ok(())
-}
-
-fn ends_of(span: Option<Range<usize>>) -> (usize, usize)
-    ensures { ends_of (span_of span) ≡ result.0 ∷ result.1 ∷ [] }
-{
-    match span {
-        Some(span) => (span.start, span.end),
-        None => (usize::MAX, usize::MAX),
-    }
 }
 
 /// Returns how many numbers a match has.

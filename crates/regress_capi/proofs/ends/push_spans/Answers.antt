@@ -3,7 +3,7 @@ use Rattle.regress.specs.Compiled.{match_of}
 use Rattle.regress.specs.Groups.{span_of, spans_left}
 use Rattle.regress_capi.specs.Spans.{ends_of, match_ends}
 use Rattle.regress_capi.proofs.SearchLemmas.{span_more}
-use Rattle.regress_capi.proofs.searches.push_spans.Goals as goal
+use Rattle.regress_capi.proofs.ends.push_spans.Goals as goal
 
 pub loop-span-init : goal.loop-span-init
 loop-span-init c =
