@@ -1,5 +1,5 @@
 -- The ends of the spans of a match are written to a buffer, one span after the other.
-use Rattle.std.proofs.Common.{◌≡◌, ◌+◌, ◌-◌, ◌++◌, ◌≤◌, ◌<◌, ℕ, List, [], ◌∷◌, Option, None, Some, drop, take, flat_map, length, slice_set, append-nil, append_assoc, refl, sym, ap, ◌∙◌, subst, arith}
+use Rattle.std.proofs.Common.{◌≡◌, ◌+◌, ◌-◌, ◌++◌, ◌≤◌, ℕ, List, [], ◌∷◌, Option, None, Some, drop, take, flat_map, length, slice_set, append-nil, append_assoc, refl, sym, ap, ◌∙◌, arith}
 use Rattle.std.proofs.lemmas.List.{drop-drop, drop-set-lt, length-append, length-set, length-take-le, take-append-drop}
 use Rattle.std.proofs.lemmas.Grind.{take-set_at}
 use Rattle.regress_front.specs.Steps.{CaptureSpan}

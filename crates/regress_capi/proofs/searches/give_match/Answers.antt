@@ -1,4 +1,4 @@
-use Rattle.std.proofs.Common.{◌≡◌, ◌++◌, drop, length, refl, subst}
+use Rattle.std.proofs.Common.{◌≡◌, refl, subst}
 use Rattle.regress.specs.Compiled.{match_of}
 use Rattle.regress_capi.specs.SearchResults.{SearchResult, written}
 use Rattle.regress_capi.specs.Spans.{match_ends}

@@ -1,4 +1,4 @@
-use Rattle.std.proofs.Common.{◌≡◌, true, false, arith, refl, subst, sym}
+use Rattle.std.proofs.Common.{◌≡◌, true, arith, refl, subst, sym}
 use Rattle.std.specs.Prelude.{chars}
 use Rattle.regress_ecma.specs.CodeUnits.{IsExactFor}
 use Rattle.regress_capi.proofs.searches.is_exact_for.Goals as goal
