@@ -229,9 +229,9 @@ REGRESS_INLINE uint32_t regress_is_linear(const regress_regex *handle) {
     return regress_is_linear_raw(&own);
 }
 
-/* Returns 1 if JavaScript reads the pattern and a text as their code points, else 0: with UNICODE, or if neither has one
-   above U+FFFF, which JavaScript reads as two code units. Then a match in the dialect of ECMA-262 is that of JavaScript. A
-   text that is not UTF-8 gives 0. */
+/* Returns 1 if a match in a text, in the dialect of ECMA-262, is that of JavaScript, else 0: with UNICODE, or if the pattern
+   has no code point above U+FFFF, which JavaScript reads as two code units, and neither has the text, or each literal and
+   class matches only others that are no surrogates, and each match has one. A text that is not UTF-8 gives 0. */
 REGRESS_INLINE uint32_t regress_is_exact_for(const regress_regex *handle, const uint8_t *text, size_t length) {
     regress_regex own;
     uint8_t no_byte = 0;

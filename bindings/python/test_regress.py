@@ -514,14 +514,15 @@ class Calls(unittest.TestCase):
             self.assertEqual(pattern.nonlinear, nonlinear)
             self.assertEqual(pattern.is_find_linear, nonlinear == 'capturing-lookaround')
 
-    def test_a_text_is_exact_with_u_or_without_characters_above_ffff(self):
+    def test_a_text_is_exact_with_u_or_where_no_character_above_ffff_counts(self):
         face = '\N{GRINNING FACE}'
         pattern = regress.compile('^.$')
         self.assertIs(pattern.is_exact_for('\xe9'), True)
         self.assertIs(pattern.is_exact_for(face), False)
         self.assertIs(regress.compile(face).is_exact_for('a'), False)
         self.assertIs(regress.compile(face, 'u').is_exact_for(face), True)
-        self.assertIs(regress.compile(b'a').is_exact_for(face.encode()), False)
+        self.assertIs(regress.compile(b'.').is_exact_for(face.encode()), False)
+        self.assertIs(regress.compile(b'a').is_exact_for(face.encode()), True)
         with self.assertRaises(TypeError):
             pattern.is_exact_for(b'a')
 

@@ -424,10 +424,9 @@ class Pattern:
         return parts if self._type is bytes else [part if part is None else part.decode() for part in parts]
 
     def is_exact_for(self, string):
-        r"""Returns whether JavaScript reads the pattern and a text as their code points: with the flag u or v, or if
-        neither has one above U+FFFF, which JavaScript reads as two code units.
-
-        Then a match in the dialect 'ecma' is that of JavaScript.
+        r"""Returns whether a match in a text, in the dialect 'ecma', is that of JavaScript: with the flag u or v, or if
+        the pattern has no code point above U+FFFF, which JavaScript reads as two code units, and neither has the text, or
+        each literal and class matches only others that are no surrogates, and each match has one.
 
             >>> import regress
             >>> regress.compile('^.$').is_exact_for('\N{GRINNING FACE}')

@@ -406,14 +406,16 @@ impl Regex {
         self.compiled.flags
     }
 
-    /// Returns whether JavaScript reads the pattern and `text` as their code points: with the flag u or v, or if neither has
-    /// one above U+FFFF, which JavaScript reads as two code units. Then a match in the dialect `Ecma` is JavaScript's.
+    /// Returns whether a match in `text`, in the dialect `Ecma`, is JavaScript's: with the flag u or v, or if the pattern has
+    /// no code point above U+FFFF, which JavaScript reads as two code units, and neither has `text`, or each literal and
+    /// class matches only others that are no surrogates, and each match has one.
     ///
     /// ```
     /// use regress_front::Regex;
     ///
     /// let regex = Regex::new("^.$")?;
     /// assert!(regex.is_exact_for("é") && !regex.is_exact_for("😀"));
+    /// assert!(Regex::new("\\d+")?.is_exact_for("😀"));
     /// # Ok::<(), regress_front::Error>(())
     /// ```
     pub fn is_exact_for(&self, text: &str) -> bool {

@@ -501,12 +501,13 @@ fn linear_searches_have_no_step_limit() {
 }
 
 #[test]
-fn a_text_is_exact_with_u_or_without_characters_above_ffff() {
+fn a_text_is_exact_with_u_or_where_no_character_above_ffff_counts() {
     let regex = Regex::new("^.$").unwrap();
     assert!(regex.is_exact_for("é"));
     assert!(!regex.is_exact_for("😀"));
     assert!(!Regex::new("😀").unwrap().is_exact_for("a"));
     assert!(Regex::with_flags("😀", "u").unwrap().is_exact_for("😀"));
+    assert!(Regex::new("\\d+").unwrap().is_exact_for("😀"));
 }
 
 #[test]

@@ -6,6 +6,8 @@ use Rattle.std.specs.List.Sorted.{IsNonDecreasingBy, IsPermutation}
 use Rattle.std.specs.Prelude.{Result, Ok, Err, IfErr, IfOk, IsErr, IsErrAnd, chars}
 use Rattle.std.specs.Str.{IsUtf8}
 use Rattle.regress_ecma.specs.CodeUnits.{is_exact}
+use Rattle.regress_ecma.specs.SurrogatePairs.{matches_outside_pairs}
+use Rattle.regress_front.specs.Accepted.{OfAcceptedIn}
 use Rattle.regress_front.specs.Source.{Source}
 use Rattle.regress_front.specs.Steps.{Setting}
 use Rattle.regress_front.specs.Tree.{Tree}
@@ -14,7 +16,7 @@ use Rattle.regress_front.specs.declared.parse.Dialect.{Dialect}
 use Rattle.regress_front.specs.declared.unicode.Tables.{Tables}
 use Rattle.regress_match.specs.Pattern.{capture_of}
 use Rattle.regress_match.specs.declared.names.Group.{Group}
-use Rattle.regress.specs.Compiled.{IsCompiledFromIn, IsCompiledIn, IsTreeOfIn, groups_of, has_exact_source, source_of, tree_of}
+use Rattle.regress.specs.Compiled.{IsCompiledFromIn, IsCompiledIn, IsTreeOfIn, groups_of, has_exact_source, is_outside_pairs, source_of, tree_of}
 use Rattle.regress.specs.Unicode.{unicode_setting}
 use Rattle.regress.specs.Source.{text_of}
 use Rattle.regress.specs.Compiled as regex
@@ -55,9 +57,10 @@ sorted-map (first ∷ groups) sorted = λ i j d up within.
 -- A regular expression with the tree and the groups of an accepted pattern is compiled from it.
 pub compiled : (dialect : Dialect) (setting : Setting) (points : Source) (t : Tree) (r : Regex) → IsTreeOfIn dialect setting points t →
     tree_of r ≡ t → regex.setting_of r ≡ setting → has_exact_source r ≡ is_exact setting.flags.unicode points →
+    OfAcceptedIn dialect setting points (λ p. is_outside_pairs r ≡ matches_outside_pairs setting.table p) →
     IsPermutation (captures t) (groups_of r) → IsNonDecreasingBy (λ group. group.id) r.groups.items →
     IsCompiledFromIn dialect setting points r
-compiled dialect setting points t r is same_tree same_setting same_exact groups sorted =
+compiled dialect setting points t r is same_tree same_setting same_exact outside groups sorted =
     let own = subst (IsTreeOfIn dialect setting points) (sym same_tree) is in
     record {
       tree = own;
@@ -65,6 +68,7 @@ compiled dialect setting points t r is same_tree same_setting same_exact groups 
       sorted = sorted-map r.groups.items sorted;
       setting = same_setting;
       exact = same_exact;
+      outside = outside own.pattern own.accepted;
     }
 
 -- What is compiled from the characters of a text is compiled from the text.

@@ -1,7 +1,9 @@
 -- A search finds the match of ECMA-262.
-use Rattle.std.proofs.Common.{◌≡◌, ℕ, ◌≤◌, List, [], length, Option, Some, None, option_map, encode_utf8_all, sym, ap, subst, ◌∙◌, arith}
+use Rattle.std.proofs.Common.{◌≡◌, ℕ, zero, suc, ◌≤◌, Bool, true, false, ◌||◌, List, [], ◌∷◌, length, take, Option, Some, None, option_map, encode_utf8_all, refl, sym, ap, ap₂, subst, ◌∙◌, arith}
 use Rattle.std.specs.Prelude.{chars}
 use Rattle.std.specs.Str.{IsUtf8}
+use Rattle.std.proofs.lemmas.Bool.{and_from, and_parts}
+use Rattle.std.proofs.lemmas.List.{length-take-le}
 use Rattle.std.proofs.lemmas.Str.{encodes-chars}
 use Rattle.regress_front.specs.Accepted.{IsAcceptedIn, own_context_in}
 use Rattle.regress_front.specs.Reading.{IsText, byte_position}
@@ -11,6 +13,7 @@ use Rattle.regress_front.specs.Syntax.{Pattern}
 use Rattle.regress_front.specs.Tree.{Tree}
 use Rattle.regress_front.specs.declared.parse.Dialect.{Dialect}
 use Rattle.regress_front.specs.declared.parse.Dialect.TheVariants.{Ecma, Regress}
+use Rattle.regress_ecma.specs.CodeUnits.{characters, code_units, found_in_utf8, index_of, is_exact, is_one_character, unit_position}
 use Rattle.regress_ecma.specs.Compared.{IsComparable}
 use Rattle.regress_ecma.specs.CompiledClasses.{with_char_sets}
 use Rattle.regress_ecma.specs.Exec.{builtin_exec, found_in_bytes}
@@ -72,15 +75,75 @@ finds_match setting pattern r compiled comparable text utf8 found finds =
     finds_match_from setting pattern r compiled comparable text utf8 0 (omega arith) found
     (subst (λ (o : ℕ). Finds text (outcomes_of r text) o found) (sym (byte_position-zero (chars text))) finds)
 
--- The pattern is accepted from a source in the dialect `Ecma`, and each search of a text finds the match in an input.
-abbrev FindsMatchesIn : Setting → Pattern → Regex → (text source input : List ℕ) → Type 0
-FindsMatchesIn setting p r text source input =
+-- The pattern is accepted from a source in the dialect `Ecma`, and each search of a text from a position finds the match in
+-- an input from an index on.
+abbrev FindsMatchesIn : Setting → Pattern → Regex → (text source input : List ℕ) → (index : ℕ → ℕ) → Type 0
+FindsMatchesIn setting p r text source input index =
     (accepted : IsAcceptedIn Ecma setting source p)
-    × ((index : ℕ) → index ≤ length input → (found : Option Match) → Finds text (outcomes_of r text) (byte_position input index) found →
-    IsMatchOf setting (with_char_sets (own_context_in Ecma setting p) p source [] accepted.derived) input index found)
+    × ((position : ℕ) → position ≤ length (chars text) → (found : Option Match) →
+    Finds text (outcomes_of r text) (byte_position (chars text) position) found →
+    option_map (λ m. (start_of m, state_of m)) found
+    ≡ option_map found_in_utf8
+    (builtin_exec setting (with_char_sets (own_context_in Ecma setting p) p source [] accepted.derived) input (index position)))
 
-pub finds_matches_in : (setting : Setting) (p : Pattern) (r : Regex) (text pattern source input : List ℕ) → source ≡ pattern → input ≡ chars text →
-    FindsMatchesIn setting p r text pattern (chars text) → FindsMatchesIn setting p r text source input
-finds_matches_in setting p r text pattern source input same_source same_input finds =
-    subst (FindsMatchesIn setting p r text source) (sym same_input)
-    (subst (λ (s : List ℕ). FindsMatchesIn setting p r text s (chars text)) (sym same_source) finds)
+pub finds_matches_in : (setting : Setting) (p : Pattern) (r : Regex) (text pattern source input : List ℕ) (index : ℕ → ℕ) → source ≡ pattern →
+    (accepted : IsAcceptedIn Ecma setting pattern p) →
+    ((position : ℕ) → position ≤ length (chars text) → (found : Option Match) →
+    Finds text (outcomes_of r text) (byte_position (chars text) position) found →
+    IsMatchOf setting (with_char_sets (own_context_in Ecma setting p) p pattern [] accepted.derived) (chars text) position found) →
+    ((position : ℕ) → position ≤ length (chars text) →
+    option_map found_in_utf8
+    (builtin_exec setting (with_char_sets (own_context_in Ecma setting p) p pattern [] accepted.derived) input (index position))
+    ≡ option_map found_in_bytes
+    (builtin_exec setting (with_char_sets (own_context_in Ecma setting p) p pattern [] accepted.derived) (chars text) position)) →
+    FindsMatchesIn setting p r text source input index
+finds_matches_in setting p r text pattern source input index same_source accepted finds same =
+    subst (λ (s : List ℕ). FindsMatchesIn setting p r text s input index) (sym same_source)
+    (accepted, λ position within found found_there. finds position within found found_there ∙ sym (same position within))
+
+exact-take : (unicode : Bool) (k : ℕ) (text : List ℕ) → is_exact unicode text ≡ true → is_exact unicode (take k text) ≡ true
+exact-take unicode zero text exact = refl
+exact-take unicode (suc k) [] exact = refl
+exact-take unicode (suc k) (c ∷ text) exact =
+    let parts = and_parts (is_one_character unicode c) (is_exact unicode text) exact in
+    and_from (is_one_character unicode c) (is_exact unicode (take k text)) parts.0 (exact-take unicode k text parts.1)
+
+-- What is found in the characters of a text, by offsets in UTF-8, is what is found in the text.
+abbrev IsFoundIn : Setting → Pattern → (text input : List ℕ) → (index : ℕ → ℕ) → Type 0
+IsFoundIn setting q text input index =
+    (k : ℕ) → k ≤ length text →
+    option_map found_in_utf8 (builtin_exec setting q input (index k)) ≡ option_map found_in_bytes (builtin_exec setting q text k)
+
+-- if each character is one of the input
+pub found_in_characters : (setting : Setting) (q : Pattern) (text : List ℕ) → is_exact setting.flags.unicode text ≡ true →
+    ((points : List ℕ) → is_exact setting.flags.unicode points ≡ true → characters setting.flags.unicode (code_units points) ≡ points) →
+    ((k : ℕ) → k ≤ length text → option_map found_in_utf8 (builtin_exec setting q text k) ≡ option_map found_in_bytes (builtin_exec setting q text k)) →
+    IsFoundIn setting q text (characters setting.flags.unicode (code_units text)) (index_of setting.flags.unicode text)
+found_in_characters setting q text exact same offsets k within =
+    let prefix = same (take k text) (exact-take setting.flags.unicode k text exact) in
+    let index : index_of setting.flags.unicode text k ≡ k = ap length prefix ∙ length-take-le k text within in
+    ap₂ (λ (input : List ℕ) (i : ℕ). option_map found_in_utf8 (builtin_exec setting q input i)) (same text exact) index ∙ offsets k within
+
+-- or if it is found outside of pairs
+pub found_in_units : (setting : Setting) (q : Pattern) (text : List ℕ) → setting.flags.unicode ≡ false →
+    ((k : ℕ) → k ≤ length text →
+    option_map found_in_utf8 (builtin_exec setting q (code_units text) (unit_position text k)) ≡ option_map found_in_bytes (builtin_exec setting q text k)) →
+    IsFoundIn setting q text (characters setting.flags.unicode (code_units text)) (index_of setting.flags.unicode text)
+found_in_units setting q text no_u offsets k within =
+    ap (λ (u : Bool). option_map found_in_utf8 (builtin_exec setting q (characters u (code_units text)) (index_of u text k))) no_u ∙ offsets k within
+
+-- Either is so.
+pub found_either_way : (setting : Setting) (q : Pattern) (text : List ℕ) (outside : Bool) → (outside || is_exact setting.flags.unicode text) ≡ true →
+    is_exact true text ≡ true →
+    ((points : List ℕ) → is_exact setting.flags.unicode points ≡ true → characters setting.flags.unicode (code_units points) ≡ points) →
+    ((k : ℕ) → k ≤ length text → option_map found_in_utf8 (builtin_exec setting q text k) ≡ option_map found_in_bytes (builtin_exec setting q text k)) →
+    (outside ≡ true → (k : ℕ) → k ≤ length text →
+    option_map found_in_utf8 (builtin_exec setting q (code_units text) (unit_position text k)) ≡ option_map found_in_bytes (builtin_exec setting q text k)) →
+    IsFoundIn setting q text (characters setting.flags.unicode (code_units text)) (index_of setting.flags.unicode text)
+found_either_way setting q text false exact with_u same offsets units = found_in_characters setting q text exact same offsets
+found_either_way setting q text true exact with_u same offsets units = by_flag setting.flags.unicode refl
+  where
+    by_flag : (u : Bool) → setting.flags.unicode ≡ u →
+        IsFoundIn setting q text (characters setting.flags.unicode (code_units text)) (index_of setting.flags.unicode text)
+    by_flag true e = found_in_characters setting q text (ap (λ (b : Bool). is_exact b text) e ∙ with_u) same offsets
+    by_flag false e = found_in_units setting q text e (units refl)

@@ -4,6 +4,7 @@ mod EcmaLemmas
 mod FaultLemmas
 mod FoundLemmas
 mod LettersLemmas
+mod OutsidePairsLemmas
 mod ReplacedLemmas
 mod RequiredLemmas
 mod SourceLemmas

@@ -10,6 +10,7 @@ use Rattle.regress_front.specs.Tree.{Tree}
 use Rattle.regress_front.specs.WellFormed.{Capture, IsWellFormed, captures}
 use Rattle.regress_front.specs.declared.parse.Dialect.{Dialect}
 use Rattle.regress_ecma.specs.CodeUnits.{is_exact}
+use Rattle.regress_ecma.specs.SurrogatePairs.{matches_outside_pairs}
 use Rattle.regress_found.specs.Found.{outcomes_at}
 use Rattle.regress_found.specs.declared.found.Match as matcher
 use Rattle.regress_match.specs.Pattern.{matcher_setting, matcher_tree, capture_of}
@@ -23,6 +24,10 @@ source_of r = string_bytes r.source
 -- whether each code point of the pattern is one character
 abbrev pub has_exact_source : Regex → Bool
 has_exact_source r = r.exact
+
+-- whether the pattern matches outside of surrogate pairs
+abbrev pub is_outside_pairs : Regex → Bool
+is_outside_pairs r = r.outside_pairs
 
 -- the flags, and the table of Unicode
 abbrev pub setting_of : Regex → Setting
@@ -56,6 +61,7 @@ module _ (dialect : Dialect) where
     pub sorted : IsNonDecreasingBy (λ group. group.id) (groups_of r)
     pub setting : setting_of r ≡ s
     pub exact : has_exact_source r ≡ is_exact s.flags.unicode points
+    pub outside : is_outside_pairs r ≡ matches_outside_pairs s.table tree.pattern
 
   -- The regular expression is compiled from this text, which is its source, under this setting.
   pub record IsCompiledIn (s : Setting) (text : List ℕ) (r : Regex) : Type 0 where

@@ -7,6 +7,7 @@ pub mod Kept
 pub mod Letters
 pub mod Limits
 pub mod Memory
+pub mod OutsidePairs
 pub mod Replaced
 pub mod Required
 pub mod Searched

@@ -7,7 +7,7 @@ ghost use Rattle.regress_front.specs.Steps.{Setting};
 ghost use Rattle.regress_front.specs.Source.{Source};
 ghost use Rattle.regress_front.specs.Syntax.{Pattern};
 ghost use Rattle.regress_front.specs.declared.parse.Dialect.TheVariants.{Regress, Ecma};
-ghost use Rattle.regress_ecma.specs.CodeUnits.{IsExactFor, characters, code_units};
+ghost use Rattle.regress_ecma.specs.CodeUnits.{IsExactFor, characters, code_units, found_in_utf8, index_of};
 ghost use Rattle.regress_ecma.specs.Compared.{IsComparable, IsOfUnicode};
 ghost use Rattle.regress_ecma.specs.CompiledClasses.{with_char_sets};
 ghost use Rattle.regress_ecma.specs.Exec.{builtin_exec, found_in_bytes};
@@ -24,7 +24,8 @@ ghost use Rattle.regress.specs.declared.failure.Error.{Error};
 ghost use Rattle.regress.specs.declared.pattern.Regex.{Regex};
 
 use regress_ecma::{
-    accepts_patterns_of_ecma, characters_are_code_points, first_outcome_is_the_match,
+    accepts_patterns_of_ecma, characters_are_code_points, code_units_have_the_same_matches,
+    first_outcome_is_the_match,
 };
 
 /// States the theorem that [`Regex::with_flags`](crate::Regex::with_flags) rejects letters and a pattern exactly where
@@ -57,7 +58,7 @@ pub fn compiles_what_ecma_accepts()
 ///
 /// In the dialect `Ecma` it is about every pattern (`in_ecma`), in `Regress` about patterns without a differing construct
 /// (`IsComparable` of `regress_ecma`). Tables have the case data of Unicode, and texts are code points, as with the flag u;
-/// where they are the same without it, and the pattern is, `exact` has the strings of UTF-16. The clause `finds`
+/// where the matches are the same without it, `exact` has the strings of UTF-16. The clause `finds`
 /// of [`Regex::find`](crate::Regex::find) and [`Regex::find_at`](crate::Regex::find_at) gives the premise about the search.
 ///
 /// The function does nothing at run time; call it where a proof needs the theorem.
@@ -94,19 +95,22 @@ pub fn find_returns_the_match_of_ecma()
         (with_char_sets (own_context_in Ecma setting compiled.tree.pattern) compiled.tree.pattern pattern [] compiled.tree.accepted.derived)
         (chars text) index) }
 
-    // With the pattern's source and the input as ECMA-262 has them, of strings of UTF-16, as `Regex::is_exact_for` tests.
+    // With the pattern's source and the input as ECMA-262 has them, of strings of UTF-16, as `Regex::is_exact_for` tests. The
+    // search begins at the index of a position of the text.
     ensures exact { (setting : Setting) → IsOfUnicode setting.table → (setting.flags.unicode_sets ≡ true → setting.flags.unicode ≡ true) →
         (pattern : Source) (r : Regex) (compiled : IsCompiledFromIn Ecma setting pattern r) →
-        (text : List ℕ) → IsUtf8 text → IsExactFor setting.flags pattern (chars text) →
+        (text : List ℕ) → IsUtf8 text → IsExactFor setting compiled.tree.pattern pattern (chars text) →
         let source = characters setting.flags.unicode (code_units pattern) in
         let input = characters setting.flags.unicode (code_units (chars text)) in
         (accepted : IsAcceptedIn Ecma setting source compiled.tree.pattern)
-        × ((index : ℕ) → index ≤ length input →
-        (found : Option Match) → Finds text (outcomes_of r text) (byte_position input index) found →
+        × ((position : ℕ) → position ≤ length (chars text) →
+        (found : Option Match) → Finds text (outcomes_of r text) (byte_position (chars text) position) found →
         option_map (λ m. (start_of m, state_of m)) found
-        ≡ option_map found_in_bytes (builtin_exec setting
-        (with_char_sets (own_context_in Ecma setting compiled.tree.pattern) compiled.tree.pattern source [] accepted.derived) input index)) }
+        ≡ option_map found_in_utf8 (builtin_exec setting
+        (with_char_sets (own_context_in Ecma setting compiled.tree.pattern) compiled.tree.pattern source [] accepted.derived)
+        input (index_of setting.flags.unicode (chars text) position))) }
 {
     first_outcome_is_the_match();
     characters_are_code_points();
+    code_units_have_the_same_matches();
 }

@@ -13,6 +13,7 @@ mod found;
 mod groups;
 mod letters;
 mod limits;
+mod outside_pairs;
 mod pattern;
 mod replacing;
 mod search;

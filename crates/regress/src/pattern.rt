@@ -52,6 +52,8 @@ pub struct Regex {
     steps: u64,
     /// Whether each code point of the pattern is one character ([`Regex::is_exact_for`]).
     exact: bool,
+    /// Whether it matches outside of surrogate pairs ([`Regex::is_exact_for`]).
+    outside_pairs: bool,
     ghost well_formed: { ∥ IsWellFormed (matcher_tree matcher) ∥₁ },
 }
 
@@ -241,19 +243,21 @@ impl Regex {
             return Err(Error::TooLarge);
         }
         let compiled = optimized(alloc, pattern, flags, tables, options.dialect)?;
-        let groups = groups(alloc, &compiled)?;
+        let groups = groups(alloc, &compiled.0)?;
         let limits = Limits {
             instructions: options.instructions,
             linear_instructions: options.linear_instructions,
             memory: options.memory,
         };
-        let matcher = Matcher::new(alloc, compiled, tables, limits)?;
+        let outside_pairs = compiled.1;
+        let matcher = Matcher::new(alloc, compiled.0, tables, limits)?;
         Ok(Regex {
             source,
             matcher,
             groups,
             steps: options.steps,
             exact: is_exact_source(pattern, in_force.unicode),
+            outside_pairs,
         })
     }
 
@@ -459,16 +463,19 @@ impl Regex {
         self.matcher.regex().flags
     }
 
-    /// Returns whether ECMA-262 reads the pattern and `text` as their code points: if the flag u is set, which v implies in
-    /// the dialect `Ecma`, or if neither has a code point above U+FFFF. Then a match in that dialect, under a table with the
-    /// data of Unicode, is JavaScript's (the clause `exact` of
+    /// Returns whether a match in `text` is that of ECMA-262: if the flag u is set, which v implies in the dialect `Ecma`, or
+    /// if the pattern has no code point above U+FFFF, and neither has `text`, or the pattern matches outside of surrogate
+    /// pairs. Then a match in that dialect, under a table with the data of Unicode, is JavaScript's (the clause `exact` of
     /// [`find_returns_the_match_of_ecma`](crate::find_returns_the_match_of_ecma)).
     ///
-    /// Without u and v, JavaScript matches code units of UTF-16, of which a code point above U+FFFF has two. With u the
-    /// result is `false` for a pattern of [`Regex::from_unicode`] with a surrogate, since two of them may be a pair.
+    /// Without u and v, JavaScript matches code units of UTF-16, of which a code point above U+FFFF has two. A pattern
+    /// matches outside of these pairs if each literal and class matches only characters that are no surrogates and at most
+    /// U+FFFF, and each match has one, such as `\bfoo\b`, `\d+` or `(\w+)@(\w+)`. Patterns with `.`, `\W`, `[^a]` or a back
+    /// reference do not. With u the result is `false` for a pattern of [`Regex::from_unicode`] with a surrogate, since two of
+    /// them may be a pair.
     ///
     /// # Complexity
-    /// Linear in the length of `text`.
+    /// Linear in the length of `text`, or constant if the pattern matches outside of pairs.
     ///
     /// # Examples
     /// ```
@@ -476,12 +483,13 @@ impl Regex {
     /// assert!(rt; regex.is_exact_for("é"));
     /// assert!(rt; !regex.is_exact_for("😀"));
     /// assert!(rt; Regex::with_flags(alloc, "^.$", "u")?.is_exact_for("😀"));
+    /// assert!(rt; Regex::new(alloc, "\\bfoo\\b")?.is_exact_for("😀"));
     /// ```
     pub fn is_exact_for(&self, text: &str) -> bool
-        ensures { (dialect : Dialect) (setting : Setting) (pattern : Source) → IsCompiledFromIn dialect setting pattern self.now →
-            IsTrue result ↔ IsExactFor setting.flags pattern (chars text.now) }
+        ensures { (dialect : Dialect) (setting : Setting) (pattern : Source) (compiled : IsCompiledFromIn dialect setting pattern self.now) →
+            IsTrue result ↔ IsExactFor setting compiled.tree.pattern pattern (chars text.now) }
     {
-        self.exact && is_exact_text(text, self.flags().unicode)
+        self.exact && (self.outside_pairs || is_exact_text(text, self.flags().unicode))
     }
 
     /// Returns whether a search for all matches is known to take time linear in the length of the text.

@@ -1,4 +1,4 @@
--- Whether ECMA-262 reads the pattern of a Regex and a text as their code points.
+-- Whether matches of a Regex in a text are those of ECMA-262, of strings of UTF-16.
 use Rattle.std.specs.Prelude.{◌≡◌, ◌≤◌, ◌↔◌, ℕ, List, IsUtf8, chars}
 use Rattle.regress.specs.Compiled.{IsCompiledFromIn}
 use Rattle.regress.specs.declared.pattern.Regex.{Regex}
@@ -7,8 +7,8 @@ use Rattle.regress_front.specs.Source.{Source}
 use Rattle.regress_front.specs.Steps.{Setting}
 use Rattle.regress_front.specs.declared.parse.Dialect.{Dialect}
 
--- The result is 1 if it does, and 0 if it does not or the text is not UTF-8.
+-- The result is 1 if they are, and 0 if that is not known or the text is not UTF-8.
 pub record ExactResult (r : Regex) (text : List ℕ) (result : ℕ) : Type 0 where
   pub binary : result ≤ 1
-  pub exact : (dialect : Dialect) (setting : Setting) (pattern : Source) → IsCompiledFromIn dialect setting pattern r →
-      (result ≡ 1) ↔ (IsUtf8 text × IsExactFor setting.flags pattern (chars text))
+  pub exact : (dialect : Dialect) (setting : Setting) (pattern : Source) (compiled : IsCompiledFromIn dialect setting pattern r) →
+      (result ≡ 1) ↔ (IsUtf8 text × IsExactFor setting compiled.tree.pattern pattern (chars text))

@@ -102,7 +102,7 @@ pub fn test(alloc: Global, regex: &Regex, text: &[u8]) -> u32
     }
 }
 
-/// Returns whether ECMA-262 reads the pattern and a text as their code points ([`Regex::is_exact_for`]): 1 if so, else 0.
+/// Returns whether a match in a text is that of ECMA-262 ([`Regex::is_exact_for`]): 1 if so, else 0.
 /// It is 0 for a text that is not UTF-8.
 pub fn is_exact_for(regex: &Regex, text: &[u8]) -> u32
     ensures { ExactResult regex.now text.now result }

@@ -86,7 +86,7 @@ only_without_u (c ∷ text) is_text same =
 
 -- ---- with u
 
-by_itself : (u : ℕ) (units : List ℕ) → is_high_surrogate u ≡ false → code_points (u ∷ units) ≡ u ∷ code_points units
+pub by_itself : (u : ℕ) (units : List ℕ) → is_high_surrogate u ≡ false → code_points (u ∷ units) ≡ u ∷ code_points units
 unfolding code_points
 by_itself u [] none = refl
 by_itself u (v ∷ units) none = rw none refl
@@ -111,7 +111,7 @@ of_two_units c points is above others =
     ∙ ap (λ d. d ∷ code_points (code_units points)) (joined c above)
     ∙ ap (λ rest. c ∷ rest) others
 
-with_u : (points : List ℕ) → is_exact true points ≡ true → code_points (code_units points) ≡ points
+pub with_u : (points : List ℕ) → is_exact true points ≡ true → code_points (code_units points) ≡ points
 unfolding code_points
 with_u [] is = refl
 with_u (c ∷ points) is =

@@ -74,4 +74,5 @@ mod UnitAtoms
 mod UnitStarts
 mod UnitMatchers
 mod UnitPatterns
+mod UnitOffsets
 mod UnitSearches

@@ -2,7 +2,7 @@
 use Rattle.std.proofs.Common.{◌≡◌, ◌∙◌, ℕ, zero, suc, ◌+◌, ◌-◌, ◌<◌, ◌≤◌, true, List, All, length, slice_get, Option, Some, None, option_map, inl, inr, refl, sym, ap, add-one, arith}
 use Rattle.std.proofs.Math.ListN.{replicate}
 use Rattle.std.proofs.lemmas.Bool.{and_parts}
-use Rattle.std.proofs.lemmas.Option.{none-some, slice_get-get_or, slice_get_within}
+use Rattle.std.proofs.lemmas.Option.{none-some, same_Some, slice_get-get_or, slice_get_within}
 use Rattle.regress_tree.specs.Reading.{forwards, IsText}
 use Rattle.regress_tree.specs.Steps as Steps
 use Rattle.regress_tree.specs.Steps.{IsStateOf, dedup}
@@ -12,18 +12,19 @@ use Rattle.regress_syntax.specs.Grammar.{IsPattern}
 use Rattle.regress_syntax.specs.Productions.{Context}
 use Rattle.regress_syntax.specs.SameNames.{NoneConflict}
 use Rattle.regress_syntax.specs.Syntax.{Name, names, Pattern}
-use Rattle.regress_ecma.specs.Notation.{MatchResult}
+use Rattle.regress_ecma.specs.Notation.{MatchResult, MatchState}
 use Rattle.regress_ecma.specs.Assertions.{accept}
-use Rattle.regress_ecma.specs.CodeUnits.{code_units, found_in_units, in_units, unit_position}
+use Rattle.regress_ecma.specs.CodeUnits.{code_units, found_in_units, found_in_utf8, in_units, unit_position}
 use Rattle.regress_ecma.specs.Compared.{IsOfUnicode, state_on}
 use Rattle.regress_ecma.specs.Compile.{compile_disjunction, compile_pattern}
 use Rattle.regress_ecma.specs.CompiledClasses.{with_char_sets}
-use Rattle.regress_ecma.specs.Exec.{Found, match_at, or_later, first_match, builtin_exec}
+use Rattle.regress_ecma.specs.Exec.{Found, match_at, or_later, first_match, builtin_exec, found_in_bytes}
 use Rattle.regress_ecma.specs.SurrogatePairs.{is_outside, consumes, matches_outside_pairs}
 use Rattle.regress_ecma.proofs.CodeUnits.{trail}
 use Rattle.regress_ecma.proofs.EcmaMatching.{atoms_match}
 use Rattle.regress_ecma.proofs.InEcma.{names_same, pattern_in_ecma}
 use Rattle.regress_ecma.proofs.Theorem.{unset_everywhere}
+use Rattle.regress_ecma.proofs.UnitOffsets.{first_on, found-text, found-units, mapped_same}
 use Rattle.regress_ecma.proofs.UnitPatterns.{result_same}
 use Rattle.regress_ecma.proofs.UnitPositions.{units-longer, unit_position-length, unit_position-within, what_is_at, IsAt, IsOne, IsTwo}
 use Rattle.regress_ecma.proofs.UnitStarts.{pattern-fails}
@@ -158,3 +159,41 @@ pub exec_same : (ctx : Context) → ctx.dialect ≡ Ecma → IsOfUnicode ctx.set
 exec_same ctx ecma unicode with_u p t rest derived none outside text is_text =
     let parts = and_parts (is_outside ctx.setting.table (names p) p) (consumes ctx.setting.table (names p) p) outside in
     found_same ctx ecma unicode with_u p t rest derived none text is_text parts.0 parts.1
+
+-- ---- in UTF-8
+
+outcome_on : (text : List ℕ) (r : Option Steps.MatchState) (x : MatchState) → option_map (state_on text) r ≡ Some x → x.input ≡ text
+outcome_on text None x e = absurd (none-some x e)
+outcome_on text (Some s) x e = ap (λ (y : MatchState). y.input) (sym (same_Some (state_on text s) x e))
+
+module _ (ctx : Context) (ecma : ctx.dialect ≡ Ecma) (unicode : IsOfUnicode ctx.setting.table)
+    (with_u : ctx.setting.flags.unicode_sets ≡ true → ctx.setting.flags.unicode ≡ true) (p : Pattern) (t rest : Source) (derived : IsPattern ctx p t rest)
+    (none : NoneConflict p) (text : List ℕ) (is_text : IsText text) where
+  found_on : (k : ℕ) → k ≤ length text → (found : Found) → builtin_exec ctx.setting (with_char_sets ctx p t rest derived) text k ≡ Some found →
+      found.1.input ≡ text
+  found_on k within =
+      first_on text (match_at ctx.setting (with_char_sets ctx p t rest derived) text) (length text + 1 - k) k
+      (λ j above below x e.
+      outcome_on text _ x
+      (sym
+      (pattern_in_ecma ctx ecma unicode.maps with_u p t rest derived none text (in_range text is_text)
+      (atoms_match ctx.setting unicode.maps unicode.upper_keeps_words unicode.strings with_u (names p) text (in_range text is_text))
+      (length text + 1) (omega arith) j (omega (arith, below, within))) ∙ e))
+
+  pub exec_utf8 : (k : ℕ) → k ≤ length text →
+      option_map found_in_utf8 (builtin_exec ctx.setting (with_char_sets ctx p t rest derived) text k)
+      ≡ option_map found_in_bytes (builtin_exec ctx.setting (with_char_sets ctx p t rest derived) text k)
+  exec_utf8 k within = mapped_same found_in_utf8 found_in_bytes _ (λ found e. found-text text is_text found (found_on k within found e))
+
+  pub exec_units_utf8 : matches_outside_pairs ctx.setting.table p ≡ true → (k : ℕ) → k ≤ length text →
+      option_map found_in_utf8 (builtin_exec ctx.setting (with_char_sets ctx p t rest derived) (code_units text) (unit_position text k))
+      ≡ option_map found_in_bytes (builtin_exec ctx.setting (with_char_sets ctx p t rest derived) text k)
+  exec_units_utf8 outside k within =
+      ap (option_map found_in_utf8) (exec_same ctx ecma unicode with_u p t rest derived none outside text is_text k within)
+      ∙ mapped_twice (builtin_exec ctx.setting (with_char_sets ctx p t rest derived) text k)
+      ∙ mapped_same (λ found. found_in_utf8 (found_in_units text found)) found_in_bytes _
+      (λ found e. found-units text is_text found (found_on k within found e))
+    where
+      mapped_twice : (r : Option Found) → option_map found_in_utf8 (option_map (found_in_units text) r) ≡ option_map (λ found. found_in_utf8 (found_in_units text found)) r
+      mapped_twice None = refl
+      mapped_twice (Some found) = refl

@@ -187,8 +187,7 @@ module _ (setting : Setting) (all : List (Option Name)) (text : List ℕ) (i c :
       character-fails (is_in_class setting.table flags inverted members) (class_outside setting.table flags inverted members outside)
   atom-fails (class_set flags negated value) outside some =
       let parts = and_parts (length value.strings == 0) (not negated && are_outside_pairs (intervals_of (is_in_class setting.table flags false value.members))) outside in
-      let both = and_parts (length value.strings == 0) (not value.has_empty) some in
-      class_set-fails flags negated value.members value.strings value.has_empty parts.0 parts.1 both.1
+      class_set-fails flags negated value.members value.strings value.has_empty parts.0 parts.1 some
   atom-fails (string_property flags written) outside some = absurd (false≢true outside)
   atom-fails (back_reference flags to) outside some =
       reference-fails (is_joined to) (referred all to) _ outside (and_parts (length (referred all to) == 0) (not (is_joined to)) some).1

@@ -6,6 +6,7 @@ use Rattle.std.proofs.lemmas.List.Elements.{All-append, All-cons, All-head, All-
 use Rattle.std.proofs.lemmas.Option.{none-some, slice_get-get_or}
 use Rattle.std.specs.Char.{IsScalar}
 use Rattle.std.specs.Char.Escape.{encode_utf16}
+use Rattle.std.specs.Char.Utf16.{is_high_surrogate}
 use Rattle.regress_base.specs.Classes.{line_terminators, word_characters}
 use Rattle.regress_base.specs.Intervals.{Bounds, is_member, is_within}
 use Rattle.regress_base.specs.declared.types.AnchorType.{AnchorType}
@@ -76,6 +77,9 @@ terminators_outside c within = set_outside line_terminators refl c
 
 pub words_outside : IsOutside (is_member word_characters)
 words_outside c within = set_outside word_characters refl c
+
+pub scalar_not_high : (c : ℕ) → IsScalar c → is_high_surrogate c ≡ false
+scalar_not_high c s = grind (arith, nat_tests, s)
 
 -- ---- reads
 

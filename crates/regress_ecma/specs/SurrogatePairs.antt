@@ -67,8 +67,8 @@ module _ (table : Table) (all : List (Option Name)) where
   atom_consumes (boundary flags inverted) = false
   atom_consumes (class_escape flags kind negated) = true
   atom_consumes (class flags inverted members) = true
-  atom_consumes (class_set flags negated value) = length value.strings == 0 && not value.has_empty
-  atom_consumes (string_property flags written) = false
+  atom_consumes (class_set flags negated value) = not value.has_empty
+  atom_consumes (string_property flags written) = true
   -- with no group to refer to, one that is not joined matches nothing
   atom_consumes (back_reference flags to) = length (referred all to) == 0 && not (is_joined to)
 

@@ -8,10 +8,10 @@ ghost use Rattle.regress_syntax.specs.Grammar.{IsPattern};
 ghost use Rattle.regress_syntax.specs.Productions.{Context};
 ghost use Rattle.regress_syntax.specs.SameNames.{NoneConflict};
 ghost use Rattle.regress_syntax.specs.Syntax.{Pattern};
-ghost use Rattle.regress_ecma.specs.CodeUnits.{characters, code_units, found_in_units, is_exact, unit_position};
+ghost use Rattle.regress_ecma.specs.CodeUnits.{characters, code_units, found_in_units, found_in_utf8, is_exact, unit_position};
 ghost use Rattle.regress_ecma.specs.Compared.{IsOfUnicode};
 ghost use Rattle.regress_ecma.specs.CompiledClasses.{with_char_sets};
-ghost use Rattle.regress_ecma.specs.Exec.{builtin_exec};
+ghost use Rattle.regress_ecma.specs.Exec.{builtin_exec, found_in_bytes};
 ghost use Rattle.regress_ecma.specs.SurrogatePairs.{matches_outside_pairs};
 
 /// States the theorem that the characters which ECMA-262 reads of a string are the code points of which it has the code
@@ -36,10 +36,26 @@ pub fn characters_are_code_points()
 ///
 /// The function does nothing at run time; call it where a proof needs the theorem.
 pub fn code_units_have_the_same_matches()
-    ensures { (ctx : Context) → ctx.dialect ≡ Ecma → IsOfUnicode ctx.setting.table →
+    ensures same { (ctx : Context) → ctx.dialect ≡ Ecma → IsOfUnicode ctx.setting.table →
         (ctx.setting.flags.unicode_sets ≡ true → ctx.setting.flags.unicode ≡ true) →
         (p : Pattern) (t rest : Source) (derived : IsPattern ctx p t rest) → NoneConflict p →
         matches_outside_pairs ctx.setting.table p ≡ true → (text : List ℕ) → IsText text → (k : ℕ) → k ≤ length text →
         builtin_exec ctx.setting (with_char_sets ctx p t rest derived) (code_units text) (unit_position text k)
         ≡ option_map (found_in_units text) (builtin_exec ctx.setting (with_char_sets ctx p t rest derived) text k) }
+
+    // So it is the same match by its offsets in UTF-8.
+    ensures offsets { (ctx : Context) → ctx.dialect ≡ Ecma → IsOfUnicode ctx.setting.table →
+        (ctx.setting.flags.unicode_sets ≡ true → ctx.setting.flags.unicode ≡ true) →
+        (p : Pattern) (t rest : Source) (derived : IsPattern ctx p t rest) → NoneConflict p →
+        matches_outside_pairs ctx.setting.table p ≡ true → (text : List ℕ) → IsText text → (k : ℕ) → k ≤ length text →
+        option_map found_in_utf8 (builtin_exec ctx.setting (with_char_sets ctx p t rest derived) (code_units text) (unit_position text k))
+        ≡ option_map found_in_bytes (builtin_exec ctx.setting (with_char_sets ctx p t rest derived) text k) }
+
+    // These offsets are those of the code points before an index, of each pattern.
+    ensures characters { (ctx : Context) → ctx.dialect ≡ Ecma → IsOfUnicode ctx.setting.table →
+        (ctx.setting.flags.unicode_sets ≡ true → ctx.setting.flags.unicode ≡ true) →
+        (p : Pattern) (t rest : Source) (derived : IsPattern ctx p t rest) → NoneConflict p →
+        (text : List ℕ) → IsText text → (k : ℕ) → k ≤ length text →
+        option_map found_in_utf8 (builtin_exec ctx.setting (with_char_sets ctx p t rest derived) text k)
+        ≡ option_map found_in_bytes (builtin_exec ctx.setting (with_char_sets ctx p t rest derived) text k) }
 {}

@@ -1,12 +1,12 @@
-//! Tests of whether JavaScript reads a pattern and a text as code points. In UTF-16 a code point above U+FFFF is two code
-//! units, and with the flag u or v a pair of surrogates is one code point (ECMA-262, 22.2.3.3 and 22.2.7.2).
+//! Tests of whether a match in a text is JavaScript's. In UTF-16 a code point above U+FFFF is two code units, and with the
+//! flag u or v a pair of surrogates is one code point (ECMA-262, 22.2.3.3 and 22.2.7.2).
 
 use regress::{Flags, Options, Regex, Tables};
 use std::alloc::Global;
 use std::sync::Arc;
 use std::test::Fail;
 
-/// A pattern with JavaScript's letters for its flags, and whether it and a text are read so.
+/// A pattern with JavaScript's letters for its flags, a text, and whether a match is the same in JavaScript.
 #[derive(Clone, Copy)]
 struct Case {
     pattern: &'static str,
@@ -34,6 +34,30 @@ fn code_points_are_read_where_they_are_characters(rt: HostRuntime) -> Result<(),
             pattern: "a",
             letters: "i",
             text: "a\u{10000}",
+            is_exact: true,
+        },
+        Case {
+            pattern: "\\W",
+            letters: "",
+            text: "😀",
+            is_exact: false,
+        },
+        Case {
+            pattern: "[^a]",
+            letters: "",
+            text: "😀",
+            is_exact: false,
+        },
+        Case {
+            pattern: "\\B",
+            letters: "",
+            text: "a😀",
+            is_exact: false,
+        },
+        Case {
+            pattern: "[\\uD83D]",
+            letters: "",
+            text: "😀",
             is_exact: false,
         },
         Case {
@@ -76,6 +100,27 @@ fn code_points_are_read_where_they_are_characters(rt: HostRuntime) -> Result<(),
     for case in &cases {
         let regex = Regex::with_flags(rt.alloc(), case.pattern, case.letters)?;
         expect_eq!(rt; regex.is_exact_for(case.text), case.is_exact, "{}", case.pattern);
+    }
+    Ok(())
+}
+
+/// What V8 finds, whose indices of code units are byte offsets here.
+#[test]
+fn patterns_outside_of_pairs_match_as_in_v8(rt: HostRuntime) -> Result<(), Fail> {
+    let alloc = rt.alloc();
+    for (pattern, letters, text, start, end) in &[
+        ("\\bfoo\\b", "", "😀foo😀", 4, 7),
+        ("\\d+", "", "😀😀12", 8, 10),
+        ("(\\w+)@(\\w+)", "", "😀ab@cd", 4, 9),
+        ("a|b", "i", "😀B", 4, 5),
+        ("[x-z]{2}", "", "x😀yz", 5, 7),
+    ] {
+        let regex = Regex::with_flags(alloc, pattern, letters)?;
+        assert!(rt; regex.is_exact_for(text));
+        match regex.find(alloc, text)? {
+            Some(found) => expect_eq!(rt; found.range(), *start..*end, "{}", pattern),
+            None => assert!(rt; false, "{}", pattern),
+        }
     }
     Ok(())
 }

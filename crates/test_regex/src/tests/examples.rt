@@ -54,6 +54,7 @@ fn a_full_stop_matches_one_code_unit_without_u_in_javascript(rt: HostRuntime) ->
     assert!(rt; regex.is_exact_for("é"));
     assert!(rt; !regex.is_exact_for("😀"));
     assert!(rt; Regex::with_flags(alloc, "^.$", "u")?.is_exact_for("😀"));
+    assert!(rt; Regex::new(alloc, "\\bfoo\\b")?.is_exact_for("😀"));
     Ok(())
 }
 

@@ -2,9 +2,10 @@ use Rattle.std.proofs.Common.{◌+◌, ◌∙◌, [], ap, arith, chars, length, 
 use Rattle.regress_front.specs.Accepted.{own_context, own_context_in}
 use Rattle.regress_front.specs.declared.parse.Dialect.TheVariants.{Ecma}
 use Rattle.regress_ecma.specs.CompiledClasses.{with_char_sets}
+use Rattle.regress_ecma.specs.SurrogatePairs.{matches_outside_pairs}
 use Rattle.regress_ecma.specs.Exec.{found_in_bytes}
 use Rattle.regress_ecma.proofs.lemmas.Searches.{decoded, in_range}
-use Rattle.regress.proofs.EcmaLemmas.{finds_match, finds_match_from, finds_match_of, finds_matches_in}
+use Rattle.regress.proofs.EcmaLemmas.{finds_match, finds_match_from, finds_match_of, finds_matches_in, found_either_way}
 use Rattle.regress.proofs.ecma.find_returns_the_match_of_ecma.Goals as goal
 
 pub returns-clause-find : goal.returns-clause-find
@@ -29,6 +30,15 @@ returns-clause-in_ecma c setting unicode with_u pattern r compiled text utf8 =
 
 pub returns-clause-exact : goal.returns-clause-exact
 returns-clause-exact c setting unicode with_u pattern r compiled text utf8 exact =
+    let ctx = own_context_in Ecma setting compiled.tree.pattern in
+    let p = compiled.tree.pattern in
+    let accepted = compiled.tree.accepted in
     let same = c.characters_are_code_points.ensures.same setting.flags.unicode in
-    finds_matches_in setting compiled.tree.pattern r text pattern _ _ (same pattern exact.pattern) (same (chars text) exact.input)
-    (compiled.tree.accepted, returns-clause-in_ecma c setting unicode with_u pattern r compiled text utf8)
+    let units = c.code_units_have_the_same_matches.ensures in
+    let is_text = decoded text utf8 in
+    finds_matches_in setting p r text pattern _ _ _ (same pattern exact.pattern) accepted
+    (returns-clause-in_ecma c setting unicode with_u pattern r compiled text utf8)
+    (found_either_way setting (with_char_sets ctx p pattern [] accepted.derived) (chars text) (matches_outside_pairs setting.table p) exact.input
+    (c.characters_are_code_points.ensures.with_u (chars text) is_text) same
+    (units.characters ctx refl unicode with_u p pattern [] accepted.derived accepted.names (chars text) is_text)
+    (λ outside. units.offsets ctx refl unicode with_u p pattern [] accepted.derived accepted.names outside (chars text) is_text))

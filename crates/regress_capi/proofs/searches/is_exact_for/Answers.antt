@@ -9,7 +9,7 @@ returns-then-is_exact_for c = record {
   exact = λ dialect setting pattern compiled. (
     λ one. (
       c.in-Ok.ensures.cases.1,
-      subst (λ t. IsExactFor setting.flags pattern (chars t)) c.in-Ok.ensures.cases.0
+      subst (λ t. IsExactFor setting compiled.tree.pattern pattern (chars t)) c.in-Ok.ensures.cases.0
           ((c.is_exact_for.ensures dialect setting pattern compiled).0 c.if-is_exact_for.true),
     ),
     λ both. refl,
@@ -22,7 +22,7 @@ returns-else-is_exact_for c = record {
   exact = λ dialect setting pattern compiled. (
     λ one. absurd (omega (arith, one)),
     λ both. let is : c.is_exact_for.result ≡ true = (c.is_exact_for.ensures dialect setting pattern compiled).1
-        (subst (λ t. IsExactFor setting.flags pattern (chars t)) (sym c.in-Ok.ensures.cases.0) both.1) in
+        (subst (λ t. IsExactFor setting compiled.tree.pattern pattern (chars t)) (sym c.in-Ok.ensures.cases.0) both.1) in
         let bad : ⊥ = cc in absurd bad,
   );
 }

@@ -1,7 +1,9 @@
-use Rattle.std.proofs.Common.{◌∙◌, refl, sym, ap}
+use Rattle.std.proofs.Common.{◌≡◌, ◌∙◌, refl, sym, ap}
 use Rattle.std.specs.Arc.{arc_value}
 use Rattle.std.specs.Prelude.{IfErr}
 use Rattle.regress_ecma.specs.CodeUnits.{is_exact}
+use Rattle.regress_ecma.specs.SurrogatePairs.{matches_outside_pairs}
+use Rattle.regress_front.specs.Accepted.{OfAcceptedIn}
 use Rattle.regress_front.specs.Dialects.{flags_in_force}
 use Rattle.regress_front.specs.Meaning.{setting_of}
 use Rattle.regress_front.specs.Tree.{tree}
@@ -25,13 +27,17 @@ pub returns-clause-compiled : goal.returns-clause-compiled
 returns-clause-compiled c =
     let flags = flags_in_force c.args.options.dialect c.args.flags in
     let tables = arc_value c.args.tables.now in
-    let t = tree c.in_ok-compiled.compiled.node in
+    let t = tree c.in_ok-compiled.compiled.0.node in
     let made = c.in_ok-matcher.ensures in
     compiled c.args.options.dialect (setting_of flags tables) c.args.pattern.now t _
     (with_tables (λ ts. IsTreeOfIn c.args.options.dialect (setting_of flags ts) c.args.pattern.now t) c.deref.result.now tables c.deref.ensures
     c.in_ok-compiled.ensures.tree)
     made.tree (made.setting ∙ ap (λ f. setting_of f tables) c.in_ok-compiled.ensures.flags)
     (c.is_exact_source.ensures ∙ ap (λ f. is_exact f.unicode c.args.pattern.now) c.flags_in_force-in_force.ensures)
+    (with_tables
+    (λ ts. OfAcceptedIn c.args.options.dialect (setting_of flags ts) c.args.pattern.now
+    (λ p. c.in_ok-compiled.compiled.1 ≡ matches_outside_pairs (setting_of flags ts).table p))
+    c.deref.result.now tables c.deref.ensures c.in_ok-compiled.ensures.outside)
     c.in_ok-groups.ensures.all c.in_ok-groups.ensures.sorted
 
 pub returns-in_err-matcher-clause-failed : goal.returns-in_err-matcher-clause-failed
@@ -39,7 +45,7 @@ returns-in_err-matcher-clause-failed c =
     let flags = flags_in_force c.args.options.dialect c.args.flags in
     let tables = arc_value c.args.tables.now in
     let points = c.args.pattern.now in
-    let t = tree c.in_ok-compiled.compiled.node in
+    let t = tree c.in_ok-compiled.compiled.0.node in
     let is : IsTreeOfIn c.args.options.dialect (setting_of flags tables) points t =
     with_tables (λ ts. IsTreeOfIn c.args.options.dialect (setting_of flags ts) points t) c.deref.result.now tables c.deref.ensures c.in_ok-compiled.ensures.tree in
     too_long_is_due (setting_of flags tables) points c.args.options t is c.new.result c.in_err-matcher.field-0.0
@@ -49,7 +55,7 @@ pub returns-clause-find_linear_tree : goal.returns-clause-find_linear_tree
 returns-clause-find_linear_tree c =
     let flags = flags_in_force c.args.options.dialect c.args.flags in
     let tables = arc_value c.args.tables.now in
-    let t = tree c.in_ok-compiled.compiled.node in
+    let t = tree c.in_ok-compiled.compiled.0.node in
     let made = c.in_ok-matcher.ensures in
     let is : IsTreeOfIn c.args.options.dialect (setting_of flags tables) c.args.pattern.now t =
     with_tables (λ ts. IsTreeOfIn c.args.options.dialect (setting_of flags ts) c.args.pattern.now t) c.deref.result.now tables c.deref.ensures c.in_ok-compiled.ensures.tree in
