@@ -15,8 +15,9 @@
 
    A handle is a variable that regress_compile writes, and may be moved. It owns the compiled pattern, until
    regress_free frees it and makes it zero. A regress_matches is the same for matches, from regress_matches_new to
-   regress_matches_free. Everything else that a call allocates, with malloc, is freed before it returns. No call keeps a
-   pointer that it is given. A call must not be made in a signal handler.
+   regress_matches_free, and a regress_replaced for a text, from regress_replaced_new to regress_replaced_free.
+   Everything else that a call allocates, with malloc, is freed before it returns. No call keeps a pointer that it is
+   given. A call must not be made in a signal handler.
 
    Any number of threads may make calls at the same time, also with the same handle if its type in the call is const.
    Every other call with a handle must be the only one with it while it runs: order them by a lock, by a start or join
@@ -55,6 +56,11 @@ typedef struct regress_regex {
 typedef struct regress_matches {
     void *inside;
 } regress_matches;
+
+/* A text in which matches were replaced, and how many were. `inside` is as that of a handle. */
+typedef struct regress_replaced {
+    void *inside;
+} regress_replaced;
 
 /* Statuses. docs/c-api.md lists when each is returned, and what to do. Those of regress_front.h have the same
    numbers. */
@@ -145,6 +151,12 @@ uint32_t regress_replace_all_raw(regress_regex *handle, const uint8_t *text, siz
 uint32_t regress_replace_n_raw(regress_regex *handle, const uint8_t *text, size_t length, const uint8_t *replacement,
                                size_t replacement_length, size_t limit, uint8_t *out, size_t room, size_t *needed,
                                size_t *count);
+uint32_t regress_replaced_new_raw(regress_regex *handle, const uint8_t *text, size_t length,
+                                  const uint8_t *replacement, size_t replacement_length, size_t limit,
+                                  regress_replaced *replaced);
+uint32_t regress_replaced_write_raw(regress_replaced *replaced, uint8_t *out, size_t room, size_t *needed);
+size_t regress_replaced_count_raw(regress_replaced *replaced);
+void regress_replaced_free_raw(regress_replaced *replaced);
 uint32_t regress_expand_raw(regress_regex *handle, const uint8_t *text, size_t length, const size_t *spans,
                             size_t span_count, const uint8_t *replacement, size_t replacement_length, uint8_t *out,
                             size_t room, size_t *needed);
@@ -442,6 +454,58 @@ REGRESS_INLINE uint32_t regress_replace_n(const regress_regex *handle, const uin
     return regress_replace_n_raw(&own, REGRESS_OR(text, no_byte), length, REGRESS_OR(replacement, no_template),
                                  replacement_length, limit, REGRESS_OR(out, no_out), room,
                                  REGRESS_OR(needed, no_needed), count);
+}
+
+/* Replaces as regress_replace_n does, and writes `replaced`, which owns the text: no buffer is sized in advance, and
+   nothing is searched twice. What `replaced` had before is not freed. It needs neither the handle nor the text any more.
+
+   Returns OK, OUT_OF_STEPS, TOO_MUCH_MEMORY, MEMORY or BAD_INPUT. With OK `replaced` is written, also if there is no
+   match, and has to be freed by regress_replaced_free; else it is unchanged. */
+REGRESS_INLINE uint32_t regress_replaced_new(const regress_regex *handle, const uint8_t *text, size_t length,
+                                             const uint8_t *replacement, size_t replacement_length, size_t limit,
+                                             regress_replaced *replaced) {
+    regress_regex own;
+    uint8_t no_byte = 0, no_template = 0;
+    if (regress_is_zero(handle) || REGRESS_IS_MISSING(text, length)
+        || REGRESS_IS_MISSING(replacement, replacement_length) || !replaced) {
+        return REGRESS_BAD_INPUT;
+    }
+    own = *handle;
+    return regress_replaced_new_raw(&own, REGRESS_OR(text, no_byte), length, REGRESS_OR(replacement, no_template),
+                                    replacement_length, limit, replaced);
+}
+
+/* Writes the text, in UTF-8, to `out`, a buffer of `room` bytes.
+
+   Returns OK, ROOM or BAD_INPUT. `needed` is the length of the text in bytes with OK and ROOM, else 0, so a call with a
+   room of 0 asks for it. */
+REGRESS_INLINE uint32_t regress_replaced_write(const regress_replaced *replaced, uint8_t *out, size_t room,
+                                               size_t *needed) {
+    regress_replaced own;
+    size_t no_needed = 0;
+    uint8_t no_out = 0;
+    if (!replaced || !replaced->inside || REGRESS_IS_MISSING(out, room)) {
+        return regress_bad_input(needed);
+    }
+    own = *replaced;
+    return regress_replaced_write_raw(&own, REGRESS_OR(out, no_out), room, REGRESS_OR(needed, no_needed));
+}
+
+/* Returns how many matches are replaced in the text. */
+REGRESS_INLINE size_t regress_replaced_count(const regress_replaced *replaced) {
+    regress_replaced own;
+    if (!replaced || !replaced->inside) {
+        return 0;
+    }
+    own = *replaced;
+    return regress_replaced_count_raw(&own);
+}
+
+/* Frees the text, and makes the handle zero. It does nothing if that is zero, or if the pointer is NULL. */
+REGRESS_INLINE void regress_replaced_free(regress_replaced *replaced) {
+    if (replaced && replaced->inside) {
+        regress_replaced_free_raw(replaced);
+    }
 }
 
 /* Writes what a template expands to at a match, as regress_replace expands it, to `out`, a buffer of `room` bytes.

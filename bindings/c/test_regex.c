@@ -366,6 +366,66 @@ static void replaces_some(void) {
     regress_free(&regex);
 }
 
+static uint32_t kept(const regress_regex *regex, const char *text, const char *replacement, size_t limit,
+                     regress_replaced *made) {
+    return regress_replaced_new(regex, (const uint8_t *)text, strlen(text), (const uint8_t *)replacement,
+                                strlen(replacement), limit, made);
+}
+
+/* Writes the text of a handle. */
+static uint32_t kept_written(const regress_replaced *made, size_t room) {
+    memset(bytes, 0xA5, sizeof bytes);
+    return regress_replaced_write(made, bytes, room, &needed);
+}
+
+/* Returns whether the text with its first matches replaced is this one, and their number, and frees it. */
+static int keeps(const regress_regex *regex, const char *text, size_t limit, const char *expected, size_t count) {
+    regress_replaced made = {NULL};
+    int same = kept(regex, text, "<$1>", limit, &made) == REGRESS_OK && kept_written(&made, ROOM) == REGRESS_OK
+               && are_bytes(expected) && regress_replaced_count(&made) == count;
+    regress_replaced_free(&made);
+    return same && !made.inside;
+}
+
+/* The texts are those of `replaces_some`. */
+static void keeps_replaced(void) {
+    regress_regex regex;
+    regress_replaced made = {NULL}, none = {NULL};
+    CHECK(compiled("x|(y)", SMALL, &regex) == REGRESS_OK);
+    CHECK(keeps(&regex, "axbyx", 2, "a<>b<y>x", 2));
+    CHECK(keeps(&regex, "axbyx", 1, "a<>byx", 1));
+    CHECK(keeps(&regex, "axbyx", 0, "axbyx", 0));
+    CHECK(keeps(&regex, "axbyx", SIZE_MAX, "a<>b<y><>", 3));
+    CHECK(keeps(&regex, "ab", 2, "ab", 0));
+    CHECK(keeps(&regex, "", 2, "", 0));
+    CHECK(regress_replaced_new(&regex, NULL, 0, NULL, 0, 1, &made) == REGRESS_OK);
+    CHECK(regress_replaced_write(&made, NULL, 0, NULL) == REGRESS_OK);
+    regress_replaced_free(&made);
+    /* A text may be written more than once, also after a buffer that is too small, and needs no pattern. */
+    CHECK(kept(&regex, "axbyx", "<$1>", 2, &made) == REGRESS_OK);
+    CHECK(kept(&regex, "\xFF", "-", 2, &none) == REGRESS_BAD_INPUT && !none.inside);
+    CHECK(kept(&regex, "x", "\xFF", 2, &none) == REGRESS_BAD_INPUT && !none.inside);
+    CHECK(kept(&regex, "x", "-", 2, NULL) == REGRESS_BAD_INPUT);
+    CHECK(regress_replaced_new(&regex, NULL, 1, NULL, 0, 1, &none) == REGRESS_BAD_INPUT && !none.inside);
+    CHECK(regress_replaced_new(&regex, NULL, 0, NULL, 1, 1, &none) == REGRESS_BAD_INPUT && !none.inside);
+    regress_free(&regex);
+    CHECK(kept_written(&made, 7) == REGRESS_ROOM && needed == 8 && bytes[0] == 0xA5);
+    CHECK(regress_replaced_write(&made, NULL, 0, &needed) == REGRESS_ROOM && needed == 8);
+    CHECK(regress_replaced_write(&made, NULL, 1, &needed) == REGRESS_BAD_INPUT && needed == 0);
+    CHECK(kept_written(&made, 8) == REGRESS_OK && are_bytes("a<>b<y>x"));
+    CHECK(kept_written(&made, ROOM) == REGRESS_OK && are_bytes("a<>b<y>x"));
+    regress_replaced_free(&made);
+    regress_replaced_free(&made);
+    regress_replaced_free(NULL);
+    CHECK(kept_written(&made, ROOM) == REGRESS_BAD_INPUT && are_none());
+    CHECK(kept_written(NULL, ROOM) == REGRESS_BAD_INPUT && are_none());
+    CHECK(regress_replaced_count(&made) == 0 && regress_replaced_count(NULL) == 0);
+    CHECK(kept(&regex, "x", "-", 2, &none) == REGRESS_BAD_INPUT && !none.inside);
+    CHECK(compiled_within(&one_step, "(a*)*\\1b", &regex) == REGRESS_OK);
+    CHECK(kept(&regex, "aaaaaaaaaaaaaaaa", "c", 1, &none) == REGRESS_OUT_OF_STEPS && !none.inside);
+    regress_free(&regex);
+}
+
 static uint32_t expanded_at(const regress_regex *regex, const char *text, const size_t *numbers, size_t length,
                             const char *replacement, size_t room) {
     memset(bytes, 0xA5, sizeof bytes);
@@ -795,7 +855,20 @@ static void refuse_search(enum searching how, const char *pattern, const char *t
 }
 
 /* A call that writes a text, and what it writes. */
-enum writing { REPLACING, REPLACING_ALL, REPLACING_ONE, EXPANDING, ESCAPING };
+enum writing { REPLACING, REPLACING_ALL, REPLACING_ONE, KEEPING, EXPANDING, ESCAPING };
+
+/* Keeps a text with all matches replaced, and writes it. */
+static uint32_t kept_and_written(const regress_regex *regex, const char *text, const char *replacement) {
+    regress_replaced made = {NULL};
+    memset(bytes, 0xA5, sizeof bytes);
+    needed = 0;
+    uint32_t status = kept(regex, text, replacement, SIZE_MAX, &made);
+    if (status == REGRESS_OK) {
+        status = kept_written(&made, ROOM);
+    }
+    regress_replaced_free(&made);
+    return status;
+}
 
 static uint32_t written(enum writing how, regress_regex *regex) {
     switch (how) {
@@ -805,6 +878,8 @@ static uint32_t written(enum writing how, regress_regex *regex) {
         return all_replaced(regex, "-xyyxyy", "<$<a>$'>", ROOM);
     case REPLACING_ONE:
         return first_replaced(regex, "-xyyxyy", "<$<a>$'>", 1, ROOM);
+    case KEEPING:
+        return kept_and_written(regex, "-xyyxyy", "<$<a>$'>");
     case EXPANDING:
         return expanded_at(regex, "-xyyxyy", NUMBERS(1, 4, 2, 4), "<$<a>$'>", ROOM);
     default:
@@ -869,6 +944,7 @@ int main(void) {
     messages();
     replaces();
     replaces_some();
+    keeps_replaced();
     expands();
     splits();
     escapes();
@@ -890,6 +966,7 @@ int main(void) {
     refuse_text(REPLACING, "-<yyxyy>xyy");
     refuse_text(REPLACING_ALL, "-<yyxyy><yy>");
     refuse_text(REPLACING_ONE, "-<yyxyy>xyy");
+    refuse_text(KEEPING, "-<yyxyy><yy>");
     refuse_text(EXPANDING, "<yyxyy>");
     refuse_text(ESCAPING, "\\x31\\x20\\+\\x201\\x20\\x3d\\x202");
     refuse_differences("[k](?<a>x)|\\W(?<a>[s])\\k<a>", REGRESS_OK, 4);

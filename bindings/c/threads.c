@@ -36,6 +36,11 @@ static int calls(void) {
     wrong += regress_replace(&shared, bytes, length, NULL, 0, out, 64, &needed) != REGRESS_OK || needed != length - 10;
     size_t count;
     wrong += regress_replace_n(&shared, bytes, length, NULL, 0, 1, out, 64, &needed, &count) != REGRESS_OK || count != 1;
+    regress_replaced made = {NULL};
+    wrong += regress_replaced_new(&shared, bytes, length, (const uint8_t *)"$3.$2.$1", 8, 2, &made) != REGRESS_OK
+             || regress_replaced_write(&made, out, 64, &needed) != REGRESS_OK || regress_replaced_count(&made) != 2
+             || needed != strlen(replaced) || memcmp(out, replaced, needed) != 0;
+    regress_replaced_free(&made);
     wrong += regress_find(&shared, bytes, length, 0, spans, 16, &needed) != REGRESS_OK
              || regress_expand(&shared, bytes, length, spans, needed, (const uint8_t *)"$1", 2, out, 64, &needed)
                     != REGRESS_OK || needed != 4 || memcmp(out, "2024", 4) != 0;

@@ -688,20 +688,7 @@ static PyObject *encoded(const searcher_object *searcher, PyObject *string) {
 struct replacement {
     const uint8_t *text, *template;
     size_t length, template_length, limit;
-    int is_counted;
-    size_t count; /* how many are replaced */
 };
-
-/* One match is searched for in linear time with more patterns than several are. */
-static uint32_t replace(const searcher_object *searcher, struct replacement *by, uint8_t *out, size_t room,
-                        size_t *needed) {
-    if (!by->is_counted && by->limit == 1) {
-        return regress_replace(&searcher->regex, by->text, by->length, by->template, by->template_length, out, room,
-                               needed);
-    }
-    return regress_replace_n(&searcher->regex, by->text, by->length, by->template, by->template_length, by->limit, out,
-                             room, needed, &by->count);
-}
 
 /* Returns bytes that are UTF-8 in the type of the pattern. */
 static PyObject *decoded(const searcher_object *searcher, const char *bytes, size_t length) {
@@ -709,14 +696,72 @@ static PyObject *decoded(const searcher_object *searcher, const char *bytes, siz
                               : PyUnicode_FromStringAndSize(bytes, (Py_ssize_t)length);
 }
 
+/* Returns the text with its first match replaced. It is searched for in linear time with more patterns than several
+   matches are. If more room is needed than usually, the search is made again. */
+static PyObject *first_replaced(const searcher_object *searcher, const struct replacement *by) {
+    PyObject *result = NULL;
+    uint8_t *out = NULL;
+    size_t needed = 2 * by->length + by->template_length + 64;
+    uint32_t status = REGRESS_ROOM;
+    for (int call = 0; call < 2 && status == REGRESS_ROOM; call++) {
+        size_t room = needed;
+        PyMem_Free(out);
+        out = PyMem_Malloc(room);
+        if (!out) {
+            break;
+        }
+        PyThreadState *state = drop_gil((Py_ssize_t)by->length);
+        status = regress_replace(&searcher->regex, by->text, by->length, by->template, by->template_length, out, room,
+                                 &needed);
+        take_gil(state);
+    }
+    if (!out) {
+        PyErr_NoMemory();
+    } else if (status != REGRESS_OK) {
+        failed(searcher, status);
+    } else {
+        result = decoded(searcher, (const char *)out, needed);
+    }
+    PyMem_Free(out);
+    return result;
+}
+
+/* Returns the text with its first matches replaced, and their number in `count`. */
+static PyObject *several_replaced(const searcher_object *searcher, const struct replacement *by, Py_ssize_t *count) {
+    PyObject *result = NULL;
+    regress_replaced replaced = {NULL};
+    PyThreadState *state = drop_gil((Py_ssize_t)by->length);
+    uint32_t status = regress_replaced_new(&searcher->regex, by->text, by->length, by->template, by->template_length,
+                                           by->limit, &replaced);
+    take_gil(state);
+    if (status != REGRESS_OK) {
+        failed(searcher, status);
+        return NULL;
+    }
+    size_t length;
+    regress_replaced_write(&replaced, NULL, 0, &length);
+    uint8_t *out = PyMem_Malloc(length + 1);
+    if (!out) {
+        PyErr_NoMemory();
+    } else {
+        regress_replaced_write(&replaced, out, length, NULL);
+        result = decoded(searcher, (const char *)out, length);
+        *count = (Py_ssize_t)regress_replaced_count(&replaced);
+    }
+    PyMem_Free(out);
+    regress_replaced_free(&replaced);
+    return result;
+}
+
 /* replaced(template, string, limit, is_counted): the text with its first matches replaced; with is_counted the tuple of
    that and of their number */
 static PyObject *searcher_replaced(PyObject *self, PyObject *arguments) {
     const searcher_object *searcher = (searcher_object *)self;
-    PyObject *template, *string, *result = NULL;
-    Py_ssize_t limit;
+    PyObject *template, *string, *result;
+    Py_ssize_t limit, count = 0;
+    int is_counted;
     struct replacement by = {0};
-    if (!PyArg_ParseTuple(arguments, "OOnp", &template, &string, &limit, &by.is_counted)) {
+    if (!PyArg_ParseTuple(arguments, "OOnp", &template, &string, &limit, &is_counted)) {
         return NULL;
     }
     PyObject *text = encoded(searcher, string), *template_bytes = text ? encoded(searcher, template) : NULL;
@@ -729,32 +774,14 @@ static PyObject *searcher_replaced(PyObject *self, PyObject *arguments) {
     by.template = (const uint8_t *)PyBytes_AsString(template_bytes);
     by.template_length = (size_t)PyBytes_Size(template_bytes);
     by.limit = (size_t)limit;
-    uint8_t *out = NULL;
-    size_t needed = 2 * by.length + by.template_length + 64;
-    uint32_t status = REGRESS_ROOM;
-    /* If more room is needed, the search is made again. */
-    for (int call = 0; call < 2 && status == REGRESS_ROOM; call++) {
-        size_t room = needed;
-        PyMem_Free(out);
-        out = PyMem_Malloc(room);
-        if (!out) {
-            break;
-        }
-        PyThreadState *state = drop_gil((Py_ssize_t)by.length);
-        status = replace(searcher, &by, out, room, &needed);
-        take_gil(state);
-    }
-    if (!out) {
-        PyErr_NoMemory();
-    } else if (status != REGRESS_OK) {
-        failed(searcher, status);
+    if (!is_counted && limit == 1) {
+        result = first_replaced(searcher, &by);
     } else {
-        result = decoded(searcher, (const char *)out, needed);
-        if (result && by.is_counted) {
-            result = Py_BuildValue("Nn", result, (Py_ssize_t)by.count);
-        }
+        result = several_replaced(searcher, &by, &count);
     }
-    PyMem_Free(out);
+    if (result && is_counted) {
+        result = Py_BuildValue("Nn", result, count);
+    }
     Py_DECREF(text);
     Py_DECREF(template_bytes);
     return result;

@@ -615,7 +615,7 @@ class _Text:
 
 
 class _Regex(ctypes.Structure):
-    """The regress_regex and the regress_matches of regress.h."""
+    """The regress_regex, the regress_matches and the regress_replaced of regress.h."""
 
     _fields_ = [('inside', ctypes.c_void_p)]
 
@@ -733,18 +733,25 @@ def _listed(matches, width):
 
 def _replace(address, data, template, limit, is_counted):
     """Returns the bytes of a text with its first matches replaced by a template, and their number if it is asked for, or
-    the status of a failure. If more room is needed than usually, the search is made again."""
-    count = ctypes.c_size_t()
+    the status of a failure."""
     texts = _Regex(address), data, len(data), template, len(template)
-
-    def replace(*buffer):
-        # One match is searched for in linear time with more patterns than several are.
-        if not is_counted and limit == 1:
-            return _library.regress_replace_raw(*texts, *buffer)
-        return _library.regress_replace_n_raw(*texts, limit, *buffer, ctypes.byref(count))
-
-    status, out = _call(ctypes.c_char, 2 * len(data) + len(template) + 64, _OK, replace)
-    return (out, count.value) if status == _OK else status
+    if not is_counted and limit == 1:
+        # One match is searched for in linear time with more patterns than several are. If more room is needed than
+        # usually, the search is made again.
+        status, out = _call(ctypes.c_char, 2 * len(data) + len(template) + 64, _OK,
+                            lambda *buffer: _library.regress_replace_raw(*texts, *buffer))
+        return (out, 0) if status == _OK else status
+    replaced = _Regex()
+    status = _library.regress_replaced_new_raw(*texts, limit, ctypes.byref(replaced))
+    if status != _OK:
+        return status
+    try:
+        # The first call asks for the length.
+        status, out = _call(ctypes.c_char, 0, _OK, lambda *buffer: _library.regress_replaced_write_raw(
+            ctypes.byref(replaced), *buffer))
+        return (out, _library.regress_replaced_count_raw(ctypes.byref(replaced))) if status == _OK else status
+    finally:
+        _library.regress_replaced_free_raw(ctypes.byref(replaced))
 
 
 def _expand(address, data, spans, template):
@@ -950,7 +957,10 @@ def _load():
         'regress_matches_next_raw': (number, handle, signed, size, sizes),
         'regress_matches_free_raw': (None, handle),
         'regress_replace_raw': replacing,
-        'regress_replace_n_raw': (number, handle, data, size, data, size, size, octets, size, sizes, sizes),
+        'regress_replaced_new_raw': (number, handle, data, size, data, size, size, handle),
+        'regress_replaced_write_raw': (number, handle, octets, size, sizes),
+        'regress_replaced_count_raw': (size, handle),
+        'regress_replaced_free_raw': (None, handle),
         'regress_expand_raw': (number, handle, data, size, signed, size, data, size, octets, size, sizes),
         'regress_split_raw': (number, handle, data, size, size, handle),
         'regress_group_count_raw': (size, handle),

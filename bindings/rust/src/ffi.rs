@@ -32,6 +32,12 @@ struct RegressMatches {
     inside: *mut c_void,
 }
 
+/// A `regress_replaced` of the library.
+#[repr(C)]
+struct RegressReplaced {
+    inside: *mut c_void,
+}
+
 /// The `regress_limits` of the library. 0 is the default of each.
 #[repr(C)]
 pub(crate) struct Limits {
@@ -114,29 +120,24 @@ extern "C" {
         needed: *mut usize,
     ) -> u32;
 
-    fn regress_replace_all_raw(
-        handle: *mut RegressRegex,
-        text: *const u8,
-        length: usize,
-        replacement: *const u8,
-        replacement_length: usize,
-        out: *mut u8,
-        room: usize,
-        needed: *mut usize,
-    ) -> u32;
-
-    fn regress_replace_n_raw(
+    fn regress_replaced_new_raw(
         handle: *mut RegressRegex,
         text: *const u8,
         length: usize,
         replacement: *const u8,
         replacement_length: usize,
         limit: usize,
+        replaced: *mut RegressReplaced,
+    ) -> u32;
+
+    fn regress_replaced_write_raw(
+        replaced: *mut RegressReplaced,
         out: *mut u8,
         room: usize,
         needed: *mut usize,
-        count: *mut usize,
     ) -> u32;
+
+    fn regress_replaced_free_raw(replaced: *mut RegressReplaced);
 
     fn regress_expand_raw(
         handle: *mut RegressRegex,
@@ -242,18 +243,6 @@ extern "C" {
     ) -> u32;
 }
 
-/// The type of `regress_replace_raw` and of `regress_replace_all_raw`.
-type Replace = unsafe extern "C" fn(
-    *mut RegressRegex,
-    *const u8,
-    usize,
-    *const u8,
-    usize,
-    *mut u8,
-    usize,
-    *mut usize,
-) -> u32;
-
 /// A status with a result, which is empty unless the status says that there is one.
 pub(crate) struct Output<T> {
     pub(crate) status: u32,
@@ -329,6 +318,42 @@ impl MatchList {
     pub(crate) fn left(&mut self) -> usize {
         // SAFETY: it is alive.
         unsafe { regress_matches_left_raw(&mut self.matches) }
+    }
+}
+
+/// A text in which matches were replaced.
+struct ReplacedText {
+    replaced: RegressReplaced,
+}
+
+impl Drop for ReplacedText {
+    fn drop(&mut self) {
+        // SAFETY: regress_replaced_new_raw has written it, and it is not used afterwards.
+        unsafe { regress_replaced_free_raw(&mut self.replaced) }
+    }
+}
+
+impl ReplacedText {
+    /// Returns the text that a call keeps, or the status of the call if it fails.
+    fn written_by(call: impl FnOnce(*mut RegressReplaced) -> u32) -> Result<ReplacedText, u32> {
+        let mut replaced = RegressReplaced {
+            inside: ptr::null_mut(),
+        };
+        match call(&mut replaced) {
+            OK => Ok(ReplacedText { replaced }),
+            status => Err(status),
+        }
+    }
+
+    /// Writes the text.
+    fn write(&mut self) -> Output<u8> {
+        // The first call asks for its length.
+        with_room(0, |out: &mut [u8], needed| {
+            // SAFETY: it is alive, and the pointer and the length are those of a slice.
+            unsafe {
+                regress_replaced_write_raw(&mut self.replaced, out.as_mut_ptr(), out.len(), needed)
+            }
+        })
     }
 }
 
@@ -412,54 +437,49 @@ impl Handle {
         unsafe { regress_is_match_raw(&mut self.copy(), start_of(text), text.len()) }
     }
 
-    /// Writes a text with its first match replaced by a template.
+    /// Writes a text with its first match replaced by a template. One match is searched for in linear time with more
+    /// patterns than several are.
     pub(crate) fn replace(&self, text: &str, template: &str) -> Output<u8> {
-        self.write_replaced(regress_replace_raw, text, template)
-    }
-
-    /// Writes a text with all matches replaced by a template.
-    pub(crate) fn replace_all(&self, text: &str, template: &str) -> Output<u8> {
-        self.write_replaced(regress_replace_all_raw, text, template)
+        // If more is needed, the search is made a second time.
+        let room = 2 * text.len() + template.len() + 64;
+        with_room(room, |out: &mut [u8], needed| {
+            // SAFETY: as for `find`.
+            unsafe {
+                regress_replace_raw(
+                    &mut self.copy(),
+                    start_of(text),
+                    text.len(),
+                    start_of(template),
+                    template.len(),
+                    out.as_mut_ptr(),
+                    out.len(),
+                    needed,
+                )
+            }
+        })
     }
 
     /// Writes a text with its first matches replaced by a template, at most `limit`.
     pub(crate) fn replace_n(&self, text: &str, limit: usize, template: &str) -> Output<u8> {
-        let mut count = 0;
-        with_room(replaced_room(text, template), |out: &mut [u8], needed| {
-            // SAFETY: as for `find`.
-            unsafe {
-                regress_replace_n_raw(
-                    &mut self.copy(),
-                    start_of(text),
-                    text.len(),
-                    start_of(template),
-                    template.len(),
-                    limit,
-                    out.as_mut_ptr(),
-                    out.len(),
-                    needed,
-                    &mut count,
-                )
-            }
-        })
-    }
-
-    fn write_replaced(&self, replace: Replace, text: &str, template: &str) -> Output<u8> {
-        with_room(replaced_room(text, template), |out: &mut [u8], needed| {
-            // SAFETY: as for `find`.
-            unsafe {
-                replace(
-                    &mut self.copy(),
-                    start_of(text),
-                    text.len(),
-                    start_of(template),
-                    template.len(),
-                    out.as_mut_ptr(),
-                    out.len(),
-                    needed,
-                )
-            }
-        })
+        // SAFETY: as for `find`.
+        let replaced = ReplacedText::written_by(|replaced| unsafe {
+            regress_replaced_new_raw(
+                &mut self.copy(),
+                start_of(text),
+                text.len(),
+                start_of(template),
+                template.len(),
+                limit,
+                replaced,
+            )
+        });
+        match replaced {
+            Ok(mut replaced) => replaced.write(),
+            Err(status) => Output {
+                status,
+                items: Vec::new(),
+            },
+        }
     }
 
     /// Writes what a template expands to at a match in a text, with these spans.
@@ -560,12 +580,6 @@ pub(crate) fn differences(pattern: &str, flags: u32) -> Output<Difference> {
             )
         }
     })
-}
-
-/// Returns the room that is mostly enough for a text with matches replaced. If more is needed, the search is made a
-/// second time.
-fn replaced_room(text: &str, template: &str) -> usize {
-    2 * text.len() + template.len() + 64
 }
 
 /// Returns a number of words that most trees do not exceed, so that the first call writes them.

@@ -277,7 +277,7 @@ impl Regex {
         replacement: impl Replacer,
     ) -> Result<Cow<'t, str>, SearchError> {
         if let Some(template) = replacement.template() {
-            return replace::written(text, self.handle().replace_all(text, template));
+            return replace::written(text, self.handle().replace_n(text, usize::MAX, template));
         }
         let matches = self.find_all(text)?;
         Ok(replace::replaced(text, &matches, replacement))

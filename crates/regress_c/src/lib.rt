@@ -7,4 +7,5 @@ mod entry_differences;
 mod entry_matches;
 mod entry_regex;
 mod entry_replace;
+mod entry_replaced;
 mod entry_spans;

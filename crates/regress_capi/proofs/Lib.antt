@@ -7,6 +7,8 @@ mod ListLemmas
 mod LooseValues
 mod PutLemmas
 mod ReplaceLemmas
+mod ReplacedHandleValues
+mod ReplacedLemmas
 mod ResultLemmas
 mod SearchLemmas
 mod SpannedLemmas

@@ -11,6 +11,7 @@ pub mod ExactResults
 pub mod CompileResults
 pub mod TextResults
 pub mod ReplaceResults
+pub mod ReplacedResults
 pub mod ExpandResults
 pub mod EscapeResults
 pub mod BoundResults
