@@ -5,6 +5,7 @@ mod HandleValues
 mod ListHandleValues
 mod ListLemmas
 mod LooseValues
+mod PointerValues
 mod PutLemmas
 mod ReplaceLemmas
 mod ReplacedHandleValues

@@ -1,36 +1,22 @@
 -- The machine values of a `ListHandle`. Assumes `Logic`.
-use Rattle.std.proofs.Common.{◌≡◌, List, [], ◌∷◌, ◌++◌, refl, subst, lit<}
-use lib.Dec.{T}
-use mathlib.Core.Bool.{true, ◌&&◌}
+use Rattle.std.proofs.Common.{◌≡◌, List, [], ◌∷◌, ◌++◌, refl, subst}
 use seplogic.Ra.Ura.{Ura}
-use mir.Val.{Val, vstruct, vcons, vnil, of_list, has_ty, WT}
-use mir.Syntax.{ty_ptr}
+use mir.Val.{Val, vstruct, of_list}
 use types.Logic.{Logic}
 use types.Kit.{Item, Goal, Seq, Step, step, ‵, ◌$◌, drop, fsplit, fjoin, fpick, fpack, feq_i, feq_l}
 use denote.RattleType.{Valss}
 use denote.Builtin.{RawPtr}
-use denote.RawPtr.{Ptr, block_ptr, null_ptr, ptr_val}
+use denote.RawPtr.{Ptr, ptr_val}
 use denote.Steps.{nothing}
 use denote.Struct.Struct.{within}
 use denote.Struct.Owning.{shape}
-use Rattle.std.specs.Prelude.{Option, None, Some}
+use Rattle.std.specs.Prelude.{Option}
 use Rattle.regress_capi.specs.Handles.{owned}
 use Rattle.regress_capi.specs.declared.match_list.MatchList.{MatchList}
 use Rattle.regress_capi.specs.contracts.match_list.MatchList as held
 use Rattle.regress_capi.specs.declared.list_handle.ListHandle.{ListHandle}
 use Rattle.regress_capi.specs.contracts.list_handle.ListHandle as handle
-
--- the machine value
-abbrev pub alone : Ptr → Val
-alone p = vstruct (vcons (ptr_val p) vnil)
-
-pub alone_good : (p : Ptr) → T (has_ty ty_ptr (ptr_val p) && true) × WT (alone p)
-alone_good (block_ptr b o) = (tt, (tt, tt))
-alone_good null_ptr = (tt, (record { fits = lit< tt }, tt))
-
-pub some_of : (v : Option MatchList) → (v ≡ None → ⊥) → (x : MatchList) × (v ≡ Some x)
-some_of None some = absurd (some refl)
-some_of (Some x) some = (x, refl)
+use Rattle.regress_capi.proofs.PointerValues.{alone}
 
 module _ {M : Type 1} {𝓤 : Ura M} {𝓛 : Logic 𝓤} {A : Type 0} {Γ : List (Item 𝓤)} {G : Goal 𝓤 𝓛.H} where
   pub handle_in : A → (p : Ptr) (x : Option MatchList) → Step A 𝓛 (‵ (handle.the_row.own_val (record { at = p; value = x }) (alone p ∷ [])) ∷ Γ) G (‵ (owned held.the_row p x) ∷ Γ) G

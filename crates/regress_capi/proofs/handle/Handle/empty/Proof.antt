@@ -13,7 +13,8 @@ use denote.Triple.Walked.{walk_of}
 use Rattle.std.proofs.raw_atomic.Walks.{proved, leaves}
 use Rattle.std.specs.Prelude.{Option, None}
 use Rattle.regress.specs.declared.pattern.Regex.{Regex}
-use Rattle.regress_capi.proofs.HandleValues.{alone, alone_good, handle_in}
+use Rattle.regress_capi.proofs.PointerValues.{alone, alone_good}
+use Rattle.regress_capi.proofs.HandleValues.{handle_in}
 use Rattle.regress_capi.specs.contracts.handle.Handle.empty as f
 use Rattle.regress_capi.proofs.handle.Handle.empty.Statement.{statement}
 use Rattle.regress_capi.proofs.handle.Handle.empty.Code as code

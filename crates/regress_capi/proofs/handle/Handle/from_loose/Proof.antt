@@ -27,7 +27,8 @@ use Rattle.std_alloc.specs.Box.Ownership.{box_owns}
 use Rattle.regress.specs.declared.pattern.Regex.{Regex}
 use Rattle.regress.specs.contracts.pattern.Regex as held
 use Rattle.regress_capi.proofs.LooseValues.{both, Loose, loose_good, loose_out}
-use Rattle.regress_capi.proofs.HandleValues.{alone, alone_good, handle_in}
+use Rattle.regress_capi.proofs.PointerValues.{alone, alone_good}
+use Rattle.regress_capi.proofs.HandleValues.{handle_in}
 use Rattle.regress_capi.specs.contracts.handle.Handle.from_loose as f
 use Rattle.regress_capi.proofs.handle.Handle.from_loose.Statement.{statement}
 use Rattle.regress_capi.proofs.handle.Handle.from_loose.Code as code

@@ -31,7 +31,8 @@ use Rattle.regress.specs.declared.pattern.Regex.{Regex}
 use Rattle.regress.specs.contracts.pattern.Regex as held
 use Rattle.regress_capi.specs.contracts.handle.Handle as handle
 use Rattle.regress_capi.proofs.LooseValues.{both, al, loose_good, loose_in}
-use Rattle.regress_capi.proofs.HandleValues.{alone, alone_good, some_of, handle_out}
+use Rattle.regress_capi.proofs.PointerValues.{alone, alone_good, some_of}
+use Rattle.regress_capi.proofs.HandleValues.{handle_out}
 use Rattle.regress_capi.specs.contracts.handle.Handle.into_loose as f
 use Rattle.regress_capi.proofs.handle.Handle.into_loose.Statement.{statement}
 use Rattle.regress_capi.proofs.handle.Handle.into_loose.Code as code

@@ -13,7 +13,8 @@ use denote.Triple.Walked.{walk_of}
 use Rattle.std.proofs.raw_atomic.Walks.{proved, leaves}
 use Rattle.std.specs.Prelude.{Option, None}
 use Rattle.regress_capi.specs.declared.match_list.MatchList.{MatchList}
-use Rattle.regress_capi.proofs.ListHandleValues.{alone, alone_good, handle_in}
+use Rattle.regress_capi.proofs.PointerValues.{alone, alone_good}
+use Rattle.regress_capi.proofs.ListHandleValues.{handle_in}
 use Rattle.regress_capi.specs.contracts.list_handle.ListHandle.empty as f
 use Rattle.regress_capi.proofs.list_handle.ListHandle.empty.Statement.{statement}
 use Rattle.regress_capi.proofs.list_handle.ListHandle.empty.Code as code

@@ -27,7 +27,8 @@ use Rattle.std_alloc.specs.Box.Ownership.{box_owns}
 use Rattle.regress_capi.specs.declared.match_list.MatchList.{MatchList}
 use Rattle.regress_capi.specs.contracts.match_list.MatchList as held
 use Rattle.regress_capi.proofs.LooseValues.{both, Loose, loose_good, loose_out}
-use Rattle.regress_capi.proofs.ListHandleValues.{alone, alone_good, handle_in}
+use Rattle.regress_capi.proofs.PointerValues.{alone, alone_good}
+use Rattle.regress_capi.proofs.ListHandleValues.{handle_in}
 use Rattle.regress_capi.specs.contracts.list_handle.ListHandle.from_loose as f
 use Rattle.regress_capi.proofs.list_handle.ListHandle.from_loose.Statement.{statement}
 use Rattle.regress_capi.proofs.list_handle.ListHandle.from_loose.Code as code

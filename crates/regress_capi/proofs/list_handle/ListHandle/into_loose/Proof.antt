@@ -31,7 +31,8 @@ use Rattle.regress_capi.specs.declared.match_list.MatchList.{MatchList}
 use Rattle.regress_capi.specs.contracts.match_list.MatchList as held
 use Rattle.regress_capi.specs.contracts.list_handle.ListHandle as handle
 use Rattle.regress_capi.proofs.LooseValues.{both, al, loose_good, loose_in}
-use Rattle.regress_capi.proofs.ListHandleValues.{alone, alone_good, some_of, handle_out}
+use Rattle.regress_capi.proofs.PointerValues.{alone, alone_good, some_of}
+use Rattle.regress_capi.proofs.ListHandleValues.{handle_out}
 use Rattle.regress_capi.specs.contracts.list_handle.ListHandle.into_loose as f
 use Rattle.regress_capi.proofs.list_handle.ListHandle.into_loose.Statement.{statement}
 use Rattle.regress_capi.proofs.list_handle.ListHandle.into_loose.Code as code

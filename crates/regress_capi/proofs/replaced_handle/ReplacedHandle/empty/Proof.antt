@@ -13,7 +13,8 @@ use denote.Triple.Walked.{walk_of}
 use Rattle.std.proofs.raw_atomic.Walks.{proved, leaves}
 use Rattle.std.specs.Prelude.{Option, None}
 use Rattle.regress_capi.specs.declared.replaced_text.ReplacedText.{ReplacedText}
-use Rattle.regress_capi.proofs.ReplacedHandleValues.{alone, alone_good, handle_in}
+use Rattle.regress_capi.proofs.PointerValues.{alone, alone_good}
+use Rattle.regress_capi.proofs.ReplacedHandleValues.{handle_in}
 use Rattle.regress_capi.specs.contracts.replaced_handle.ReplacedHandle.empty as f
 use Rattle.regress_capi.proofs.replaced_handle.ReplacedHandle.empty.Statement.{statement}
 use Rattle.regress_capi.proofs.replaced_handle.ReplacedHandle.empty.Code as code

@@ -27,7 +27,8 @@ use Rattle.std_alloc.specs.Box.Ownership.{box_owns}
 use Rattle.regress_capi.specs.declared.replaced_text.ReplacedText.{ReplacedText}
 use Rattle.regress_capi.specs.contracts.replaced_text.ReplacedText as held
 use Rattle.regress_capi.proofs.LooseValues.{both, Loose, loose_good, loose_out}
-use Rattle.regress_capi.proofs.ReplacedHandleValues.{alone, alone_good, handle_in}
+use Rattle.regress_capi.proofs.PointerValues.{alone, alone_good}
+use Rattle.regress_capi.proofs.ReplacedHandleValues.{handle_in}
 use Rattle.regress_capi.specs.contracts.replaced_handle.ReplacedHandle.from_loose as f
 use Rattle.regress_capi.proofs.replaced_handle.ReplacedHandle.from_loose.Statement.{statement}
 use Rattle.regress_capi.proofs.replaced_handle.ReplacedHandle.from_loose.Code as code

@@ -31,7 +31,8 @@ use Rattle.regress_capi.specs.declared.replaced_text.ReplacedText.{ReplacedText}
 use Rattle.regress_capi.specs.contracts.replaced_text.ReplacedText as held
 use Rattle.regress_capi.specs.contracts.replaced_handle.ReplacedHandle as handle
 use Rattle.regress_capi.proofs.LooseValues.{both, al, loose_good, loose_in}
-use Rattle.regress_capi.proofs.ReplacedHandleValues.{alone, alone_good, some_of, handle_out}
+use Rattle.regress_capi.proofs.PointerValues.{alone, alone_good, some_of}
+use Rattle.regress_capi.proofs.ReplacedHandleValues.{handle_out}
 use Rattle.regress_capi.specs.contracts.replaced_handle.ReplacedHandle.into_loose as f
 use Rattle.regress_capi.proofs.replaced_handle.ReplacedHandle.into_loose.Statement.{statement}
 use Rattle.regress_capi.proofs.replaced_handle.ReplacedHandle.into_loose.Code as code
