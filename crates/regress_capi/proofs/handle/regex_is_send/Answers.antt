@@ -35,7 +35,7 @@ regex_is_send =
       search (sendable, crosses, core.crosses, maps.crosses) depth 40 fits 20000,
       (
         matcher_is_send,
-        (search (sendable, crosses, core.crosses, maps.crosses) depth 40 fits 20000, (search sendable, (search sendable, tt))),
+        (search (sendable, crosses, core.crosses, maps.crosses) depth 40 fits 20000, (search sendable, (search sendable, (search sendable, tt)))),
       ),
     )
 
