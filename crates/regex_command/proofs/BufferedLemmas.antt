@@ -16,7 +16,7 @@ IfOk_then (Err e) h f = tt
 module _ (input old start between new : Option (List ℕ)) (empty : start ≡ append_known old []) (kept : Keeps between new) where
   does_through : (dialect : Dialect) (flags : Flags) (text : List ℕ) (action : Action) (found : Bool) →
       Does dialect flags text action input start between found → Does dialect flags text action input old new found
-  does_through dialect flags text (search job multiline files) found h =
+  does_through dialect flags text (search job form files) found h =
       let walked = h.2 in
       let all = walked.2.2 in
       let written = all.2 in (

@@ -13,6 +13,7 @@ use Rattle.regex_lines.specs.declared.unread.Unread as code
 use Rattle.regex_lines.specs.declared.unread.UnreadPath as code_path
 use Rattle.regex_options.specs.Plain.{FileList, Job}
 use Rattle.regex_options.specs.Request.{Action, Ask, apply, escape, explain, help, lint, search, show}
+use Rattle.regex_options.specs.declared.task.InputForm.{InputForm}
 use Rattle.regress.specs.Compiled.{IsCompiledIn}
 use Rattle.regress_front.specs.declared.parse.Dialect.{Dialect}
 use Rattle.regress_tree.specs.Steps.{Setting}
@@ -61,7 +62,7 @@ until costly r job inputs lost old new unread (TooLong name) may some = (unread,
 
 -- what is known where nothing is found
 quiet_at : (none quiet : Type 0) (action : Action) → IsQuietAt none quiet action → none → IsQuietAt ⊤ quiet action
-quiet_at none quiet (search job multiline files) h is = λ _. h is
+quiet_at none quiet (search job form files) h is = λ _. h is
 quiet_at none quiet (show view) h is = h
 quiet_at none quiet lint h is = h
 quiet_at none quiet (explain form) h is = h
@@ -71,31 +72,31 @@ quiet_none none quiet (help text) h is = h
 quiet_none none quiet (escape string) h is = h
 quiet_none none quiet (apply request) h is = quiet_at none quiet request.action h is
 
-module _ (dialect : Dialect) (setting : Setting) (text : List ℕ) (job : Job) (multiline : Bool) (files : FileList) (input old new : Option (List ℕ)) where
+module _ (dialect : Dialect) (setting : Setting) (text : List ℕ) (job : Job) (form : InputForm) (files : FileList) (input old new : Option (List ℕ)) where
   module _ (r : Regex) (compiled : IsCompiledIn dialect setting text r) (walked : Found) (is_found : IsFound files walked) where
     abbrev inputs : List Input
-    inputs = inputs_of job multiline walked.several walked.files input
+    inputs = inputs_of job form walked.several walked.files input
 
     module _ (any : Bool) (unread : List Unread) where
       -- all inputs, at the end of a search
       pub prints_all : (result : Result Bool Failure) → is_complete job any (are_read walked.unread unread) ≡ is_ok result →
           IfOk result (λ found. found ≡ any || changes job) → WritesInputs r job inputs old new unread any →
-          IfOk result (PrintsAll dialect setting text job multiline files input old new)
+          IfOk result (PrintsAll dialect setting text job form files input old new)
       prints_all (Ok found) complete is writes = (r, compiled, (walked, is_found, (any, is, (unread, complete, writes))))
       prints_all (Err failure) complete is writes = tt
 
       pub prints_incomplete : (same : Type 0) (result : Result Bool Failure) → is_complete job any (are_read walked.unread unread) ≡ is_ok result →
           IfErr result (λ failure. failure ≡ Incomplete) → WritesInputs r job inputs old new unread any →
-          IfErr result (λ failure. OrOutput (same ⊎ PrintsFirst dialect setting text job multiline files input old new failure) failure)
+          IfErr result (λ failure. OrOutput (same ⊎ PrintsFirst dialect setting text job form files input old new failure) failure)
       prints_incomplete same (Ok found) complete is writes = tt
       prints_incomplete same (Err failure) complete is writes =
-          subst (λ f. OrOutput (same ⊎ PrintsFirst dialect setting text job multiline files input old new f) f) (sym is)
+          subst (λ f. OrOutput (same ⊎ PrintsFirst dialect setting text job form files input old new f) f) (sym is)
           (inr (inr (r, compiled, (walked, is_found, (any || changes job, (any, refl, (unread, complete, writes)))))))
 
     -- the first lines, before a failure
     pub prints_first : (costly same : Type 0) (unread : List Unread) (failure : Failure) → IsSearchFailure costly failure →
         OrOutput (WritesSomeOf r job inputs old new unread) failure →
-        OrOutput (same ⊎ PrintsFirst dialect setting text job multiline files input old new failure) failure
+        OrOutput (same ⊎ PrintsFirst dialect setting text job form files input old new failure) failure
     prints_first costly same unread failure may (inl output) = inl output
     prints_first costly same unread failure may (inr some) =
         inr (inr (r, compiled, (walked, is_found, until costly r job inputs walked.unread old new unread failure may some)))

@@ -37,8 +37,8 @@ are_parts form patterns = not form.fixed && (form.lines || form.words || are_sev
 
 -- several patterns are searched for, but not replaced or shown
 abbrev pub takes_several : Action → Bool
-takes_several (search (matching s colors) multiline files) = true
-takes_several (search (replacing p) multiline files) = false
+takes_several (search (matching s colors) form files) = true
+takes_several (search (replacing p) form files) = false
 takes_several (show view) = false
 takes_several lint = false
 takes_several (explain form) = false

@@ -4,6 +4,7 @@ use Rattle.std.specs.Io.KnownBytes.{Appends}
 use Rattle.std.specs.List.{Any, FoldsTo}
 use Rattle.regex_options.specs.Plain.{FileList, Job, matching, replacing, Source, in_argument, in_file}
 use Rattle.regex_options.specs.Request.{Action, Ask, Request, apply, escape, explain, help, lint, search, show}
+use Rattle.regex_options.specs.declared.task.InputForm.{InputForm}
 use Rattle.regex_options.specs.declared.request.View.{View}
 use Rattle.regress.specs.Compiled.{IsCompiledIn}
 use Rattle.regress.specs.Failures.{IsTooLarge}
@@ -127,7 +128,7 @@ module _ (r : Regex) (job : Job) (inputs : List Input) (lost : List Unread) wher
   SearchesUntil Incomplete old new = (found : Bool) × Searches old new false found
   SearchesUntil failure old new = (unread : List Unread) × WritesSomeOf r job inputs old new unread
 
-module _ (dialect : Dialect) (setting : Setting) (text : List ℕ) (job : Job) (multiline : Bool) (files : FileList) where
+module _ (dialect : Dialect) (setting : Setting) (text : List ℕ) (job : Job) (form : InputForm) (files : FileList) where
   -- P holds of files that are found.
   abbrev pub OfFound : (P : Found → Type 0) → Type 0
   OfFound P = (walked : Found) × IsFound files walked × P walked
@@ -136,13 +137,13 @@ module _ (dialect : Dialect) (setting : Setting) (text : List ℕ) (job : Job) (
   abbrev pub PrintsAll : (input old new : Option (List ℕ)) → (found : Bool) → Type 0
   PrintsAll input old new found =
       (r : Regex) × IsCompiledIn dialect setting text r
-      × OfFound (λ walked. Searches r job (inputs_of job multiline walked.several walked.files input) walked.unread old new true found)
+      × OfFound (λ walked. Searches r job (inputs_of job form walked.several walked.files input) walked.unread old new true found)
 
   -- What was searched before a failure.
   abbrev pub PrintsFirst : (input old new : Option (List ℕ)) → Failure → Type 0
   PrintsFirst input old new failure =
       (r : Regex) × IsCompiledIn dialect setting text r
-      × OfFound (λ walked. SearchesUntil r job (inputs_of job multiline walked.several walked.files input) walked.unread failure old new)
+      × OfFound (λ walked. SearchesUntil r job (inputs_of job form walked.several walked.files input) walked.unread failure old new)
 
 -- a text, escaped, on a line
 abbrev pub PrintsEscaped : (old new : Option (List ℕ)) → (text : List ℕ) → Type 0
@@ -163,23 +164,23 @@ module _ (dialect : Dialect) (flags : Flags) (text : List ℕ) where
   -- What is written for a pattern: the output of a search, a tree, a report, or an explanation. `found` states whether
   -- something is found, the pattern is accepted, or for a report, there is nothing to report.
   abbrev pub Does : Action → (input old new : Option (List ℕ)) → (found : Bool) → Type 0
-  Does (search job multiline files) input old new found =
-      PrintsAll dialect (setting_in dialect flags) text job multiline files input old new found
+  Does (search job form files) input old new found =
+      PrintsAll dialect (setting_in dialect flags) text job form files input old new found
   Does (show view) input old new found = Took old new (IsTreeOutput found (view_of view dialect flags text))
   Does lint input old new found = Took old new (IsReport dialect found (setting_in dialect flags) text)
   Does (explain form) input old new found = Took old new (IsExplanationIn dialect form found (setting_in dialect flags) text)
 
   -- What may be written before a failure: what a search writes before it, or the first of two trees.
   abbrev pub Begins : Action → (input old new : Option (List ℕ)) → Failure → Type 0
-  Begins (search job multiline files) input old new failure =
-      PrintsFirst dialect (setting_in dialect flags) text job multiline files input old new failure
+  Begins (search job form files) input old new failure =
+      PrintsFirst dialect (setting_in dialect flags) text job form files input old new failure
   Begins (show view) input old new failure = Took old new (IsFirstOutput (view_of view dialect flags text))
   Begins lint input old new failure = ⊥
   Begins (explain form) input old new failure = ⊥
 
   -- A failure is due: a syntax error only for a search or a report whose pattern is rejected.
   abbrev pub MayFailAt : Action → Failure → Type 0
-  MayFailAt (search job multiline files) failure = IsDue dialect (setting_in dialect flags) text failure
+  MayFailAt (search job form files) failure = IsDue dialect (setting_in dialect flags) text failure
   MayFailAt (show view) failure = IsShowFailure (view_of view dialect flags text) failure
   MayFailAt lint failure = MayFailToLint dialect (setting_in dialect flags) (chars text) failure
   MayFailAt (explain form) failure = MayFailToExplain dialect form (setting_in dialect flags) text failure
@@ -194,7 +195,7 @@ Prints input old new found (apply request) =
 -- Nothing is written to standard error where something is found, unless the search shows nothing: then messages of inputs
 -- that are not read may be.
 abbrev pub IsQuietFound : (quiet : Type 0) → Action → Type 0
-IsQuietFound quiet (search job multiline files) = is_silent job ≡ false → quiet
+IsQuietFound quiet (search job form files) = is_silent job ≡ false → quiet
 IsQuietFound quiet (show view) = quiet
 IsQuietFound quiet lint = quiet
 IsQuietFound quiet (explain form) = quiet
@@ -207,7 +208,7 @@ IsQuietIfFound quiet (apply request) = IsQuietFound quiet request.action
 -- Nothing is written to standard error, unless a pattern is rejected that is to be shown or explained: then its syntax
 -- error is. Of a search this is known if it selects nothing.
 abbrev pub IsQuietAt : (none quiet : Type 0) → Action → Type 0
-IsQuietAt none quiet (search job multiline files) = none → quiet
+IsQuietAt none quiet (search job form files) = none → quiet
 IsQuietAt none quiet (show view) = IsQuietFor view.format quiet
 IsQuietAt none quiet lint = quiet
 IsQuietAt none quiet (explain form) = ⊤
@@ -233,7 +234,7 @@ MayFail (apply request) failure =
 
 -- the exit status if nothing is found: 2 if that means that the pattern is rejected
 abbrev pub status_of_none : Action → ℕ
-status_of_none (search job multiline files) = 1
+status_of_none (search job form files) = 1
 status_of_none (show view) = 2
 status_of_none lint = 1
 status_of_none (explain form) = 2

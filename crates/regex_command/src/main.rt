@@ -34,9 +34,9 @@ use regex_lines::{
     report, report_paths, report_unread, search_all,
 };
 use regex_options::{
-    Action, Arguments, Asked, COMMANDS, OPTIONS, Output, ParseError, Request, Search, Shown, Task,
-    Topic, UsageError, View, allows_color, color_setting, interpret, parse_arguments, parse_colors,
-    topic_text, write_usage_error,
+    Action, Arguments, Asked, COMMANDS, OPTIONS, OptionEntry, Output, ParseError, Request, Search,
+    Shown, Task, Topic, UsageError, View, allows_color, color_setting, interpret, parse_arguments,
+    parse_colors, topic_text, write_usage_error,
 };
 use regress_arguments::{ArgumentsError, arguments};
 use regress_display::Request as TreeRequest;
@@ -47,6 +47,9 @@ use std::env::Env;
 use std::fs::Files;
 use std::io::{BufWriter, IsTerminal, Read, Write};
 use std::process::ExitCode;
+
+/// The options. In the frame of a function the table would be too large.
+static TABLE: [OptionEntry; 41] = OPTIONS;
 
 fn main(rt: HostRuntime) -> ExitCode {
     let out = rt.stdout();
@@ -93,14 +96,44 @@ fn run_words<R: Env + Files + AllocGlobal, I: Read + Drop, W: Write + Drop, E: W
         colors: &colors,
         at_once: terminal,
     };
+    run_for(rt, words, output, input, out, err)
+}
+
+/// Runs the program with these arguments, for an output of this kind.
+fn run_for<R: Files + AllocGlobal, I: Read + Drop, W: Write + Drop, E: Write>(
+    rt: &R,
+    words: &[String],
+    output: Output<'_>,
+    input: I,
+    out: W,
+    err: &mut E,
+) -> u8
+    ensures known { result ≤ 2 }
+{
     let arguments = Arguments {
         commands: &COMMANDS,
-        options: &OPTIONS,
+        options: &[],
         words,
         output,
     };
-    let (status, _) = run_buffered(rt, arguments, input, out, err);
-    status
+    run_with_options(rt, arguments, input, out, err)
+}
+
+/// Runs the program with these arguments and the options of `regex`.
+fn run_with_options<R: Files + AllocGlobal, I: Read + Drop, W: Write + Drop, E: Write>(
+    rt: &R,
+    arguments: Arguments<'_>,
+    input: I,
+    out: W,
+    err: &mut E,
+) -> u8
+    ensures known { result ≤ 2 }
+{
+    let arguments = Arguments {
+        options: &TABLE,
+        ..arguments
+    };
+    run_buffered(rt, arguments, input, out, err).0
 }
 
 /// Runs `run_arguments` with a buffered output, and returns the exit status, and the output if it has all that was written.
@@ -339,9 +372,9 @@ fn print_search<'a, R: Files + AllocGlobal, I: Read + Drop, W: Write, E: Write>(
     err: &mut E,
 ) -> Result<bool, Failure<'a>>
     ensures all { IfOk result (PrintsAll wanted.entry.pattern.dialect (setting_in wanted.entry.pattern.dialect wanted.entry.pattern.flags) wanted.entry.pattern.text.now (job wanted.entry.search.task)
-        wanted.entry.search.multiline (file_list wanted.entry.search.files) (I.remaining input) (W.contents out.old) (W.contents out.new)) }
+        wanted.entry.search.form (file_list wanted.entry.search.files) (I.remaining input) (W.contents out.old) (W.contents out.new)) }
     ensures first { IfErr result (λ failure. OrOutput ((out.new ≡ out.old) ⊎ PrintsFirst wanted.entry.pattern.dialect (setting_in wanted.entry.pattern.dialect wanted.entry.pattern.flags) wanted.entry.pattern.text.now
-        (job wanted.entry.search.task) wanted.entry.search.multiline (file_list wanted.entry.search.files) (I.remaining input) (W.contents out.old) (W.contents out.new) failure) failure) }
+        (job wanted.entry.search.task) wanted.entry.search.form (file_list wanted.entry.search.files) (I.remaining input) (W.contents out.old) (W.contents out.new) failure) failure) }
     ensures due { IfErr result (IsDue wanted.entry.pattern.dialect (setting_in wanted.entry.pattern.dialect wanted.entry.pattern.flags) wanted.entry.pattern.text.now) }
     ensures quiet { result ≡ Ok true → is_silent (job wanted.entry.search.task) ≡ false → err.new ≡ err.old }
     ensures quiet_none { result ≡ Ok false → err.new ≡ err.old }
@@ -363,13 +396,13 @@ fn print_search<'a, R: Files + AllocGlobal, I: Read + Drop, W: Write, E: Write>(
 /// Returns the search in the files that are found.
 fn search_in<'w, 'a: 'w>(search: Search<'a>, walked: &'w Found) -> FileSearch<'w>
     ensures task { result.task ≡ search.entry.task }
-    ensures multiline { result.multiline ≡ search.entry.multiline }
+    ensures form { result.form ≡ search.entry.form }
     ensures files { map string_bytes result.files.now ≡ (found_of walked.now).files }
     ensures several { result.several ≡ (found_of walked.now).several }
 {
     FileSearch {
         task: search.task,
-        multiline: search.multiline,
+        form: search.form,
         at_once: search.at_once,
         files: &walked.files,
         several: walked.several,

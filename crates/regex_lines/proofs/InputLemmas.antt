@@ -10,7 +10,7 @@ use Rattle.std.proofs.lemmas.List.{drop-drop, get_or-drop, get_or-map, length-dr
 use Rattle.regress_arguments.proofs.lemmas.Output.{appends_both}
 use Rattle.regex_lines.proofs.FoldLemmas.{stays}
 use Rattle.regress.specs.declared.pattern.Regex.{Regex}
-use Rattle.regex_lines.specs.Searched.{AddsInput, Input, IsInputStep, IsSearchedInput, IsUnreadInput, Result, WritesInputs, WritesSomeOf, bytes_of, following, has_ended, left_after, named_inputs, nothing, Named, SearchesFirst}
+use Rattle.regex_lines.specs.Searched.{AddsInput, Input, IsInputStep, IsSearchedInput, IsUnreadInput, Result, WritesInputs, WritesSomeOf, bytes_of, following, has_ended, left_after, named_inputs, nothing, Named, PrintsLines, printed}
 use Rattle.regex_lines.specs.Unread.{Unread}
 use Rattle.regex_options.specs.Plain.{Job}
 
@@ -79,21 +79,21 @@ module _ (r : Regex) (job : Job) (inputs : List Input) (before : Option (List �
             written = appends_both before between after sofar.bytes took.0 sofar.written took.2;
           }
       one_more goes_on is more (inr (first, added, none)) = record {
-        bytes = sofar.bytes ++ first.0.written;
-        steps = further (record { any = any || is; unread = more; written = sofar.bytes ++ first.0.written }) goes_on
+        bytes = sofar.bytes ++ printed job first.0;
+        steps = further (record { any = any || is; unread = more; written = sofar.bytes ++ printed job first.0 }) goes_on
             (inr (record {
               progress = first.0;
               searched = first.1;
               unread = more;
               added = added;
-              next = λ j. record { any = same any is none j; unread = more; written = sofar.bytes ++ first.0.written };
+              next = λ j. record { any = same any is none j; unread = more; written = sofar.bytes ++ printed job first.0 };
             }));
-        written = appends_both before between after sofar.bytes first.0.written sofar.written first.2;
+        written = appends_both before between after sofar.bytes (printed job first.0) sofar.written first.2;
       }
 
-      pub some_of : SearchesFirst r job (following any input.0) input.1 between after → WritesSomeOf r job inputs before after unread
+      pub some_of : PrintsLines r job (following any input.0) input.1 between after → WritesSomeOf r job inputs before after unread
       some_of first = (
-        sofar.bytes ++ first.0.written,
+        sofar.bytes ++ printed job first.0,
         record {
           before = take i inputs;
           others = input ∷ drop (suc i) inputs;
@@ -101,11 +101,11 @@ module _ (r : Regex) (job : Job) (inputs : List Input) (before : Option (List �
           result = reached;
           steps = sofar.steps;
           unread_are = refl;
-          more = first.0.written;
+          more = printed job first.0;
           begun = (first.0, first.1, refl);
           is = refl;
         },
-        appends_both before between after sofar.bytes first.0.written sofar.written first.2,
+        appends_both before between after sofar.bytes (printed job first.0) sofar.written first.2,
       )
 
 module _ (place : (file : List ℕ) → Named) (files : List (String Global)) (inputs : List Input) where

@@ -1,14 +1,14 @@
 -- The lines of an input are searched one after another.
 use Rattle.std.proofs.Common.{◌≡◌, inr, ℕ, Bool, true, false, List, [], ◌∷◌, ◌++◌, Option, Some, None, refl, sym, ap, subst, append-nil, ◌∙◌}
-use Rattle.std.specs.Prelude.{Result, Ok, Err, IfErr, nat_lt}
-use Rattle.std.specs.Io.KnownBytes.{Appends, IsAtEnd}
+use Rattle.std.specs.Prelude.{Result, Ok, Err, IfErr, if◌then◌else◌, nat_lt}
+use Rattle.std.specs.Io.KnownBytes.{Appends, IsAtEnd, Keeps, append_known}
 use Rattle.std.specs.List.{FoldsTo}
 use Rattle.std.proofs.lemmas.Fn.{FoldsTo-push}
-use Rattle.regress_arguments.proofs.lemmas.Output.{appends_both}
+use Rattle.regress_arguments.proofs.lemmas.Output.{appends_both, appends_through}
 use Rattle.regress_arguments.specs.Output.{Took}
 use Rattle.regress.specs.declared.pattern.Regex.{Regex}
 use Rattle.regex_lines.specs.Ending.{OrOutput}
-use Rattle.regex_lines.specs.Searched.{WritesInput, Line as TextLine, Named, AreLinesOf, IsStep, Progress, SearchesAll, SearchesFirst, at_start, is_over, written_at_end}
+use Rattle.regex_lines.specs.Searched.{WritesInput, Line as TextLine, Named, AreLinesOf, IsStep, PrintsLines, Progress, SearchesAll, SearchesFirst, SearchesLines, at_start, is_in_place, is_over, printed, written_at_end}
 use Rattle.regex_lines.specs.Window.{IsNextLine, Window, first_window}
 use Rattle.regex_options.specs.Plain.{Job}
 use Rattle.regex_lines.specs.Reading.{IsRead, is_ended, is_last}
@@ -22,6 +22,17 @@ use Rattle.regex_lines.proofs.WindowLemmas.{IsAt, Further, next_line, starts}
 appends_nothing : (known : Option (List ℕ)) → Appends known known []
 appends_nothing None = tt
 appends_nothing (Some bytes) = sym (append-nil bytes)
+
+-- what is printed of lines that are written to a file, or are not
+printed_nothing : (job : Job) (p : Progress) → is_in_place job ≡ true → printed job p ≡ []
+printed_nothing job p in_place = ap (λ b. if b then [] else p.written) in_place
+
+printed_written : (job : Job) (p : Progress) → is_in_place job ≡ false → printed job p ≡ p.written
+printed_written job p plain = ap (λ b. if b then [] else p.written) plain
+
+either_way : (b : Bool) (xs : List ℕ) → (if b then xs else xs) ≡ xs
+either_way true xs = refl
+either_way false xs = refl
 
 -- the lines and those after them
 whole_of : (multiline : Bool) (old : Option (List ℕ)) (lines : List TextLine) (are : AreLinesOf multiline old false lines) →
@@ -62,9 +73,61 @@ module _ (r : Regex) (job : Job) (place : Named) (old before : Option (List ℕ)
   pub nothing_first : SearchesFirst r job place old before before
   nothing_first = (at_start, record { lines = []; are = stopped place.multiline old old [] (begins place.multiline old); steps = refl }, appends_nothing before)
 
-  pub whole : (between after : Option (List ℕ)) (n : ℕ) → SearchesAll r job place old before between n →
+  -- the same where nothing is printed yet
+  pub nothing_printed : PrintsLines r job place old before before
+  nothing_printed = (
+    at_start,
+    record { lines = []; are = stopped place.multiline old old [] (begins place.multiline old); steps = refl },
+    subst (Appends before before) (sym (either_way (is_in_place job) [])) (appends_nothing before),
+  )
+
+  -- The lines are printed as they are written.
+  pub first_printed : is_in_place job ≡ false → (after : Option (List ℕ)) → SearchesFirst r job place old before after → PrintsLines r job place old before after
+  first_printed plain after first = (first.0, first.1, subst (Appends before after) (sym (printed_written job first.0 plain)) first.2)
+
+  -- Of all lines the first ones are printed.
+  pub all_printed : is_in_place job ≡ false → (after : Option (List ℕ)) (n : ℕ) → SearchesAll r job place old before after n → PrintsLines r job place old before after
+  all_printed plain after n all =
+      let are = all.1.are in
+      first_printed plain after (
+        all.0,
+        record {
+          lines = all.1.lines;
+          are = record {
+            text = are.text;
+            known = are.known;
+            others = are.others;
+            whole = are.whole;
+            all = λ is. let bad : ⊥ = cc is in absurd bad;
+          };
+          steps = all.1.steps;
+        },
+        all.3,
+      )
+
+  -- The lines were written through a buffer, which was empty at the start.
+  pub through_buffer : (start between after : Option (List ℕ)) (n : ℕ) → start ≡ append_known before [] → Keeps between after →
+      SearchesAll r job place old start between n → SearchesAll r job place old before after n
+  through_buffer start between after n empty kept all =
+      (all.0, all.1, all.2, appends_through before start between after empty kept all.0.written all.3)
+
+  -- The lines are in a file, and what is shown at the end is printed.
+  pub rewritten : is_in_place job ≡ true → (after : Option (List ℕ)) (n : ℕ) → SearchesLines r job place old n →
+      Appends before after (written_at_end job place n) → WritesInput r job place old before after (nat_lt 0 n)
+  rewritten in_place after n all end = (
+    written_at_end job place n,
+    record {
+      progress = all.0;
+      searched = all.1;
+      some = ap (nat_lt 0) (sym all.2);
+      is = ap (written_at_end job place) (sym all.2) ∙ ap (λ front. front ++ written_at_end job place all.0.selected) (sym (printed_nothing job all.0 in_place));
+    },
+    end,
+  )
+
+  pub whole : is_in_place job ≡ false → (between after : Option (List ℕ)) (n : ℕ) → SearchesAll r job place old before between n →
       Appends between after (written_at_end job place n) → WritesInput r job place old before after (nat_lt 0 n)
-  whole between after n all end =
+  whole plain between after n all end =
       let p = all.0 in
       let bytes = p.written ++ written_at_end job place n in (
         bytes,
@@ -72,7 +135,7 @@ module _ (r : Regex) (job : Job) (place : Named) (old before : Option (List ℕ)
           progress = p;
           searched = all.1;
           some = ap (nat_lt 0) (sym all.2);
-          is = ap (λ k. p.written ++ written_at_end job place k) (sym all.2);
+          is = ap (λ k. p.written ++ written_at_end job place k) (sym all.2) ∙ ap (λ front. front ++ written_at_end job place p.selected) (sym (printed_written job p plain));
         },
         appends_both before between after p.written (written_at_end job place n) all.3 end,
       )

@@ -2,7 +2,7 @@
 use Rattle.std.proofs.Common.{◌≡◌, inl, inr, Bool, List, Option, ℕ, sym, subst}
 use Rattle.std.specs.Prelude.{Result, Ok, Err, IfOk, IfErr}
 use Rattle.regex_lines.specs.Ending.{IsInputFailure, IsSearchFailure, OrOutput}
-use Rattle.regex_lines.specs.Searched.{AddsInput, Named, SearchesFirst}
+use Rattle.regex_lines.specs.Searched.{AddsInput, Named, PrintsLines}
 use Rattle.regex_lines.specs.Unread.{IsSkipped, Unread}
 use Rattle.regex_lines.specs.declared.failure.Failure.{Failure}
 use Rattle.regex_lines.specs.declared.failure.Failure.TheVariants.{Argument, Memory, Output, Closed, Syntax, TooLarge, OutOfSteps, Unreadable, Incomplete, PatternNotUtf8, TooLong}
@@ -11,7 +11,7 @@ use Rattle.regress.specs.declared.pattern.Regex.{Regex}
 
 module _ (costly : Type 0) (r : Regex) (job : Job) (place : Named) (input before after : Option (List ℕ)) (old new : List Unread) where
   abbrev Begun : Type 0
-  Begun = SearchesFirst r job place input before after
+  Begun = PrintsLines r job place input before after
 
   -- what is known of the result for an input
   pub record Ends (result : Result Bool Failure) : Type 0 where

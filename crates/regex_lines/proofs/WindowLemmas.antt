@@ -7,7 +7,7 @@ use Rattle.std.specs.declared.alloc.Global.{Global}
 use Rattle.std.proofs.lemmas.List.{drop-append-le, drop-drop, length-map, take_all}
 use Rattle.regex_options.specs.Plain.{Job}
 use Rattle.regress.specs.declared.pattern.Regex.{Regex}
-use Rattle.regex_lines.specs.Searched.{AreNear, IsFound, IsNear, IsNearStep, IsSearchedLine, Line, Named, Progress, at_start, colors_of, context_of, is_apart, is_enough, last_of, lines_after, lines_before, separator}
+use Rattle.regex_lines.specs.Searched.{AreNear, IsAccepted, IsFound, IsNear, IsNearStep, IsSearchedLine, Line, Named, Progress, at_start, colors_of, context_of, is_apart, is_enough, last_of, lines_after, lines_before, separator}
 use Rattle.regex_lines.proofs.FoldLemmas.{one_further}
 use Rattle.regex_lines.specs.Window.{IsCounted, IsInFront, IsNextLine, IsOther, IsShown, Window, first_window, separator_of}
 
@@ -84,10 +84,10 @@ module _ (r : Regex) (job : Job) (place : Named) where
           subst (λ n. IsFound r job place (is_enough job n) (p.lines + 1) line selected count bytes) (sym is.selected)
           (subst (λ n. IsFound r job place (is_enough job w.selected) (n + 1) line selected count bytes) (sym is.number) found)
 
-      if_selected : (count : ℕ) (bytes : List ℕ) → IsFound r job place (is_enough job w.selected) (w.number + 1) line true count bytes →
+      if_selected : IsAccepted place.encoding line.bytes → (count : ℕ) (bytes : List ℕ) → IsFound r job place (is_enough job w.selected) (w.number + 1) line true count bytes →
           IsShown r job place true w line.bytes count bytes new added →
           Further p line new added
-      if_selected count bytes found ((front, (before, near, front_is), added_is), new_is) =
+      if_selected accepted count bytes found ((front, (before, near, front_is), added_is), new_is) =
           let apart = separator_of job place w in
           let q : Progress = record {
             lines = p.lines + 1;
@@ -99,6 +99,7 @@ module _ (r : Regex) (job : Job) (place : Named) where
           record {
             next = q;
             searched = record {
+              accepted = accepted;
               selected = true;
               count = count;
               bytes = bytes;
@@ -123,14 +124,15 @@ module _ (r : Regex) (job : Job) (place : Named) where
             written = ap (λ bytes. p.written ++ bytes) (sym (added_is ∙ ap (λ front. front ++ bytes) front_is ∙ append_assoc apart before bytes));
           }
 
-      if_other : (count : ℕ) (bytes : List ℕ) → IsFound r job place (is_enough job w.selected) (w.number + 1) line false count bytes →
+      if_other : IsAccepted place.encoding line.bytes → (count : ℕ) (bytes : List ℕ) → IsFound r job place (is_enough job w.selected) (w.number + 1) line false count bytes →
           IsOther r job place w line.bytes new added →
           Further p line new added
-      if_other count bytes found (inl (due, near, new_is)) =
+      if_other accepted count bytes found (inl (due, near, new_is)) =
           let q : Progress = record p { lines = p.lines + 1; due = p.due - 1; written = p.written ++ added } in
           record {
             next = q;
             searched = record {
+              accepted = accepted;
               selected = false;
               count = count;
               bytes = bytes;
@@ -147,11 +149,12 @@ module _ (r : Regex) (job : Job) (place : Named) where
             });
             written = refl;
           }
-      if_other count bytes found (inr (due, none, new_is)) =
+      if_other accepted count bytes found (inr (due, none, new_is)) =
           let q : Progress = record p { lines = p.lines + 1; hidden = p.hidden ++ line.bytes ∷ [] } in
           record {
             next = q;
             searched = record {
+              accepted = accepted;
               selected = false;
               count = count;
               bytes = bytes;
@@ -174,13 +177,13 @@ module _ (r : Regex) (job : Job) (place : Named) where
           more_left_out : (n few all more : ℕ) → few ≡ all - (all - n) → more ≡ all + 1 → ltb n (few + 1) ≡ ltb n more
           more_left_out n few all more few_is more_is = grind (arith, nat_tests)
 
-      either : (selected : Bool) (count : ℕ) (bytes : List ℕ) → IsFound r job place (is_enough job w.selected) (w.number + 1) line selected count bytes →
+      either : IsAccepted place.encoding line.bytes → (selected : Bool) (count : ℕ) (bytes : List ℕ) → IsFound r job place (is_enough job w.selected) (w.number + 1) line selected count bytes →
           IsShown r job place selected w line.bytes count bytes new added → Further p line new added
-      either true count bytes found shown = if_selected count bytes found shown
-      either false count bytes found shown = if_other count bytes found shown
+      either accepted true count bytes found shown = if_selected accepted count bytes found shown
+      either accepted false count bytes found shown = if_other accepted count bytes found shown
 
       pub next_line : IsNextLine r job place w line new added → Further p line new added
-      next_line next = either next.selected next.count next.bytes next.found next.shown
+      next_line next = either next.accepted next.selected next.count next.bytes next.found next.shown
 
 -- Nothing is written in front of a selected line where no separator is, and no line is in the window.
 pub nothing_in_front : (r : Regex) (job : Job) (place : Named) (w : Window) (apart : Bool) →

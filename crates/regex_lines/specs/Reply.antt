@@ -1,5 +1,5 @@
 -- What is written for a line: the texts in which a pattern is searched, lines, matches, and matches as JSON (RFC 8259).
-use Rattle.std.specs.Prelude.{◌≡◌, ℕ, zero, suc, ◌+◌, ◌-◌, Bool, not, List, [], ◌∷◌, ◌++◌, All, drop, if◌then◌else◌, length, map, nat_lt, take, ◌==◌, codes, slice_range, flat_map, Option, Some, None, ◌↔◌, true, false, IsTrue}
+use Rattle.std.specs.Prelude.{◌≡◌, ℕ, zero, suc, ◌+◌, ◌-◌, Bool, not, List, [], ◌∷◌, ◌++◌, All, drop, if◌then◌else◌, length, map, nat_lt, take, ◌==◌, codes, slice_range, flat_map, Option, Some, None, is_some, ◌||◌, ◌↔◌, true, false, IsTrue}
 use Rattle.std.specs.Str.{is_utf8}
 use Rattle.std.specs.Str.Lossy.{utf8_invalid_len, utf8_valid_len}
 use Rattle.std.specs.Fmt.{decimal}
@@ -182,6 +182,15 @@ match_count (f ∷ fs) = length f.matches + match_count fs
 abbrev pub IsReplacedCount : Regex → (texts : List Run) → (limit : Option ℕ) → (count : ℕ) → Type 0
 IsReplacedCount r texts limit count = (found : List TextMatches) × AreSearched r texts found × (count ≡ at_most limit (match_count found))
 
+-- for how many a line with these texts counts: for the matches that are replaced if these are counted, and else for 1
+abbrev pub CountsFor : Regex → (counts : Bool) → (texts : List Run) → (limit : Option ℕ) → (count : ℕ) → Type 0
+CountsFor r true texts limit count = IsReplacedCount r texts limit count
+CountsFor r false texts limit count = count ≡ 1
+
+-- whether the lines are written: if matches are counted, only to files that are rewritten
+abbrev pub writes_lines : Replacement → Bool
+writes_lines p = not p.counts || is_some p.in_place
+
 module _ (r : Regex) (template : List ℕ) where
   -- The text with its matches replaced, or with the first ones up to a limit, and how many more may be replaced after it.
   abbrev pub ReplacesUpTo : (limit : Option ℕ) → (text out : List ℕ) → (left : Option ℕ) → Type 0
@@ -201,16 +210,20 @@ module _ (r : Regex) (line : List ℕ) where
   abbrev pub ShowsReplaced : (texts : List Run) → (ended : Bool) → Replacement → (bytes : List ℕ) → Type 0
   ShowsReplaced texts ended p bytes = (out : List ℕ) × IsReplacedFrom p.template p.limit 0 texts out × (bytes ≡ out ++ feed_if ended)
 
-  -- The line is replaced, or only the matches are counted that would be.
-  abbrev pub Replaces : (counts : Bool) → (texts : List Run) → (ended : Bool) → Replacement → (count : ℕ) → (bytes : List ℕ) → Type 0
-  Replaces false texts ended p count bytes = (count ≡ 1) × ShowsReplaced texts ended p bytes
-  Replaces true texts ended p count bytes = IsReplacedCount r texts p.limit count × (bytes ≡ [])
+  -- the same, if the line is written
+  abbrev pub ShowsReplacedIf : (written : Bool) → (texts : List Run) → (ended : Bool) → Replacement → (bytes : List ℕ) → Type 0
+  ShowsReplacedIf true texts ended p bytes = ShowsReplaced texts ended p bytes
+  ShowsReplacedIf false texts ended p bytes = bytes ≡ []
+
+  -- Its matches are replaced, or counted, or both.
+  abbrev pub Replaces : (texts : List Run) → (ended : Bool) → Replacement → (count : ℕ) → (bytes : List ℕ) → Type 0
+  Replaces texts ended p count bytes = CountsFor r p.counts texts p.limit count × ShowsReplacedIf (writes_lines p) texts ended p bytes
 
   -- Whether the line is selected by these texts, for how many it counts then, and what is written for it.
   abbrev pub IsReplyIn : (texts : List Run) → (ended : Bool) → Job → (prefix : List ℕ) → (selected : Bool) → (count : ℕ) → (bytes : List ℕ) → Type 0
   IsReplyIn texts ended (matching s colors) prefix selected count bytes =
       IsSelected r texts s.invert selected × (count ≡ 1) × ShowsIf r line texts selected s.shown (line_paint_in colors false s.invert) prefix bytes
-  IsReplyIn texts ended (replacing p) prefix selected count bytes = (selected ≡ true) × Replaces p.counts texts ended p count bytes
+  IsReplyIn texts ended (replacing p) prefix selected count bytes = (selected ≡ true) × Replaces texts ended p count bytes
 
   -- the same for the texts of the line
   abbrev pub IsReply : (ended : Bool) → Job → (prefix : List ℕ) → (selected : Bool) → (count : ℕ) → (bytes : List ℕ) → Type 0

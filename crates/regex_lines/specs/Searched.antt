@@ -1,11 +1,15 @@
 -- What is written for an input, and for all inputs.
-use Rattle.std.specs.Prelude.{ℕ, Bool, List, ◌≡◌, ◌-◌, true, false, [], ◌∷◌, ◌++◌, length, take, drop, slice_index, if◌then◌else◌, ◌==◌, Option, IfSome, ◌⊎◌, ◌+◌, ◌<◌, ◌&&◌, ◌||◌, Some, None, bytes_eq, codes, nat_le, nat_lt}
+use Rattle.std.specs.Prelude.{⊤, ℕ, Bool, List, ◌≡◌, ◌-◌, true, false, [], ◌∷◌, ◌++◌, length, take, drop, slice_index, if◌then◌else◌, ◌==◌, Option, IfSome, is_some, ◌⊎◌, ◌+◌, ◌<◌, ◌&&◌, ◌||◌, Some, None, bytes_eq, codes, nat_le, nat_lt}
 use Rattle.std.specs.List.{FoldsTo}
 use Rattle.std.specs.Fmt.{decimal}
+use Rattle.std.specs.Str.{IsUtf8}
 use Rattle.std.specs.Io.KnownBytes.{Appends}
 use Rattle.regex_options.specs.Colors.{Colors}
 use Rattle.regex_options.specs.Plain.{Job, matching, replacing}
 use Rattle.regex_options.specs.declared.task.Context.{Context}
+use Rattle.regex_options.specs.declared.task.Encoding.{Encoding}
+use Rattle.regex_options.specs.declared.task.Encoding.TheVariants.{Bytes, Utf8}
+use Rattle.regex_options.specs.declared.task.InputForm.{InputForm}
 use Rattle.regex_options.specs.declared.task.FileNames.TheVariants.{IfSeveral, Always, Never}
 use Rattle.regex_options.specs.declared.task.FileNames.{FileNames}
 use Rattle.regex_options.specs.declared.task.Shown.TheVariants.{Lines, Matches, Json, Count, Names, Nothing}
@@ -20,12 +24,13 @@ use Rattle.regex_lines.specs.declared.paint.Part.TheVariants.{Name, Number, Sepa
 use Rattle.regex_lines.specs.declared.place.Place.{Place}
 
 -- the name of an input, whether it is shown in front of each line, whether a zero byte is after it, whether the input is one
--- line, and whether a line of an earlier input is selected
+-- line, what its lines are, and whether a line of an earlier input is selected
 pub record Named : Type 0 where
   pub name : List ℕ
   pub in_front : Bool
   pub null : Bool
   pub multiline : Bool
+  pub encoding : Encoding
   pub follows : Bool
 
 -- `-` is standard input.
@@ -42,7 +47,8 @@ named place = record {
   name = input_name place.file.now;
   in_front = place.in_front;
   null = place.null;
-  multiline = place.multiline;
+  multiline = place.form.multiline;
+  encoding = place.form.encoding;
   follows = place.follows;
 }
 
@@ -53,6 +59,11 @@ has_line_feed bytes = slice_index bytes (length bytes - 1) == 10
 -- the bytes without a line feed at their end
 abbrev pub without_line_feed : List ℕ → List ℕ
 without_line_feed bytes = if has_line_feed bytes then take (length bytes - 1) bytes else bytes
+
+-- A line may be searched: with UTF-8 as the encoding it is UTF-8.
+abbrev pub IsAccepted : Encoding → (line : List ℕ) → Type 0
+IsAccepted Bytes line = ⊤
+IsAccepted Utf8 line = IsUtf8 line
 
 -- a line without its line feed, and whether a line feed ends it
 pub record Line : Type 0 where
@@ -96,6 +107,14 @@ pub record Progress : Type 0 where
   pub due : ℕ
   pub hidden : List (List ℕ)
   pub written : List ℕ
+
+-- what is printed of the lines: nothing if they are written to a file
+abbrev pub is_in_place : Job → Bool
+is_in_place (matching s colors) = false
+is_in_place (replacing p) = is_some p.in_place
+
+abbrev pub printed : Job → Progress → List ℕ
+printed job p = if is_in_place job then [] else p.written
 
 abbrev pub at_start : Progress
 at_start = record { lines = 0; selected = 0; due = 0; hidden = []; written = [] }
@@ -260,6 +279,7 @@ module _ (r : Regex) (job : Job) (place : Named) where
 
   -- One line further, and it is searched unless enough lines are selected.
   pub record IsSearchedLine (p : Progress) (line : Line) (q : Progress) : Type 0 where
+    pub accepted : IsAccepted place.encoding line.bytes
     pub selected : Bool
     pub count : ℕ
     pub bytes : List ℕ
@@ -283,9 +303,17 @@ module _ (r : Regex) (job : Job) where
   SearchesAll place input old new selected =
       (p : Progress) × IsSearched place input true p × (p.selected ≡ selected) × Appends old new p.written
 
+  -- the same, whatever was written
+  abbrev pub SearchesLines : Named → (input : Option (List ℕ)) → (selected : ℕ) → Type 0
+  SearchesLines place input selected = (p : Progress) × IsSearched place input true p × (p.selected ≡ selected)
+
   -- the first lines of an input were searched
   abbrev pub SearchesFirst : Named → (input old new : Option (List ℕ)) → Type 0
   SearchesFirst place input old new = (p : Progress) × IsSearched place input false p × Appends old new p.written
+
+  -- the first lines of an input were searched, and what is printed of them was written
+  abbrev pub PrintsLines : Named → (input old new : Option (List ℕ)) → Type 0
+  PrintsLines place input old new = (p : Progress) × IsSearched place input false p × Appends old new (printed job p)
 
 -- an input: its name, and its bytes if they are known
 abbrev pub Input : Type 0
@@ -322,12 +350,13 @@ has_nulls (matching s colors) = s.null
 has_nulls (replacing p) = false
 
 -- how an input is shown
-abbrev pub place_of : Job → (multiline several : Bool) → (file : List ℕ) → Named
-place_of job multiline several file = record {
+abbrev pub place_of : Job → InputForm → (several : Bool) → (file : List ℕ) → Named
+place_of job form several file = record {
   name = input_name file;
   in_front = shows_names job several;
   null = has_nulls job;
-  multiline = multiline;
+  multiline = form.multiline;
+  encoding = form.encoding;
   follows = false;
 }
 
@@ -336,8 +365,8 @@ abbrev pub following : (any : Bool) → Named → Named
 following any place = record place { follows = any }
 
 -- the files, as they are shown
-abbrev pub inputs_of : Job → (multiline several : Bool) → (files : List (List ℕ)) → (input : Option (List ℕ)) → List Input
-inputs_of job multiline several files input = named_inputs (place_of job multiline several) files input
+abbrev pub inputs_of : Job → InputForm → (several : Bool) → (files : List (List ℕ)) → (input : Option (List ℕ)) → List Input
+inputs_of job form several files input = named_inputs (place_of job form several) files input
 
 -- whether a line was selected, which inputs were not read, and what was written
 pub record Result : Type 0 where
@@ -362,12 +391,12 @@ has_ended (matching s colors) any = reaches s.max_count 0 || (any && is_nothing 
 has_ended (replacing p) any = false
 
 module _ (r : Regex) (job : Job) where
-  -- what is written for an input: what its lines yield, and what is shown at its end
+  -- what is printed for an input: what its lines yield, and what is shown at its end
   pub record IsWritten (place : Named) (input : Option (List ℕ)) (any : Bool) (bytes : List ℕ) : Type 0 where
     pub progress : Progress
     pub searched : IsSearched r job place input true progress
     pub some : any ≡ nat_lt 0 progress.selected
-    pub is : bytes ≡ progress.written ++ written_at_end job place progress.selected
+    pub is : bytes ≡ printed job progress ++ written_at_end job place progress.selected
 
   abbrev pub WritesInput : Named → (input old new : Option (List ℕ)) → (any : Bool) → Type 0
   WritesInput place input old new any = Took old new (IsWritten place input any)
@@ -377,7 +406,7 @@ module _ (r : Regex) (job : Job) where
   abbrev pub AddsInput : Named → (input old new : Option (List ℕ)) → (unread_old unread_new : List Unread) → (any : Bool) → Type 0
   AddsInput place input old new unread_old unread_new any =
       (WritesInput place input old new any × (unread_new ≡ unread_old))
-      ⊎ (SearchesFirst r job place input old new × IsAdded place.name unread_old unread_new × (any ≡ false))
+      ⊎ (PrintsLines r job place input old new × IsAdded place.name unread_old unread_new × (any ≡ false))
 
   -- One input further, and it is searched.
   pub record IsSearchedInput (before : Result) (input : Input) (after : Result) : Type 0 where
@@ -392,7 +421,7 @@ module _ (r : Regex) (job : Job) where
     pub searched : IsSearched r job (following before.any input.0) input.1 false progress
     pub unread : List Unread
     pub added : IsAdded input.0.name before.unread unread
-    pub next : after ≡ record { any = before.any; unread = unread; written = before.written ++ progress.written }
+    pub next : after ≡ record { any = before.any; unread = unread; written = before.written ++ printed job progress }
 
   -- One input further: it is passed over if the search ended before it.
   pub record IsInputStep (before : Result) (input : Input) (after : Result) : Type 0 where
@@ -407,7 +436,7 @@ module _ (r : Regex) (job : Job) where
   -- what is written for the first lines of the first input, if there is one
   abbrev pub IsBegun : (any : Bool) → List Input → (bytes : List ℕ) → Type 0
   IsBegun any [] bytes = bytes ≡ []
-  IsBegun any (input ∷ others) bytes = (p : Progress) × IsSearched r job (following any input.0) input.1 false p × (bytes ≡ p.written)
+  IsBegun any (input ∷ others) bytes = (p : Progress) × IsSearched r job (following any input.0) input.1 false p × (bytes ≡ printed job p)
 
   -- what is written for the first inputs, of which these were not read, and the first lines of the next one
   pub record IsFirst (inputs : List Input) (unread : List Unread) (bytes : List ℕ) : Type 0 where

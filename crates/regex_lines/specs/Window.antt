@@ -2,7 +2,7 @@
 use Rattle.std.specs.Prelude.{◌≡◌, ◌⊎◌, ℕ, ◌+◌, ◌-◌, ◌<◌, ◌≤◌, Bool, true, false, List, [], ◌∷◌, ◌++◌, length, map, nat_lt, if◌then◌else◌, ◌==◌}
 use Rattle.regex_options.specs.Plain.{Job}
 use Rattle.regress.specs.declared.pattern.Regex.{Regex}
-use Rattle.regex_lines.specs.Searched.{AreNear, IsFound, IsNear, Line, Named, colors_of, context_of, is_enough, last_of, lines_after, lines_before, separator}
+use Rattle.regex_lines.specs.Searched.{AreNear, IsAccepted, IsFound, IsNear, Line, Named, colors_of, context_of, is_enough, last_of, lines_after, lines_before, separator}
 use Rattle.regex_lines.specs.declared.window.Window as code
 
 -- The numbers of lines and of selected lines or matches, how many lines are shown after the last selected one, the last lines since
@@ -76,6 +76,7 @@ module _ (r : Regex) (job : Job) (place : Named) where
 
   -- The next line was searched, and this was written.
   pub record IsNextLine (old : Window) (line : Line) (new : Window) (added : List ℕ) : Type 0 where
+    pub accepted : IsAccepted place.encoding line.bytes
     pub selected : Bool
     pub count : ℕ
     pub bytes : List ℕ

@@ -3,7 +3,7 @@ ghost use Rattle.std.specs.Prelude.{◌≡◌, ⊤, []};
 ghost use Rattle.regex_lines.specs.Ending.{IsLate, IsOutputFailure, IsInputFailure, IsSearchFailure, MayFailToRead, unaccepted};
 ghost use Rattle.regex_lines.specs.declared.failure.Failure.TheVariants.{Output};
 
-use crate::unread::{Unread, UnreadPath, reason_of, text_of};
+use crate::unread::{Unread, UnreadPath, reason_of, write_reason};
 use regress::{Error, SearchError};
 use regress_arguments::{write_visible, write_with_caret};
 use regress_parse::PlacedFault;
@@ -138,7 +138,8 @@ pub fn report_paths<E: Write>(unread: &[UnreadPath], err: &mut E)
 /// Writes the message of an input that is not read.
 fn write_unread<E: Write>(unread: Unread<'_>, err: &mut E) -> io::Result<()> {
     write_name(unread.name, err)?;
-    writeln!(err, "{}", text_of(unread.reason))
+    write_reason(unread.reason, err)?;
+    err.write_all(b"\n")
 }
 
 /// Writes what is in front of a message about an input.

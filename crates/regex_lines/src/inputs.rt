@@ -1,17 +1,18 @@
 //! The files that are searched, or standard input.
-ghost use Rattle.std.specs.Prelude.{◌≡◌, [], IfOk, IfErr, None, map, string_bytes};
+ghost use Rattle.std.specs.Prelude.{◌≡◌, [], IfOk, IfErr, None, false, is_some, map, string_bytes, true};
 ghost use Rattle.regex_lines.specs.Ending.{IsCostly, IsInputFailure, IsSearchFailure, OrOutput};
 ghost use Rattle.regex_lines.specs.Left.{left_of};
-ghost use Rattle.regex_lines.specs.Searched.{AddsInput, WritesInput, WritesInputs, WritesSomeOf, bytes_of, following, has_nulls, has_ended, inputs_of, left_after, named, place_of, shows_names, SearchesFirst};
+ghost use Rattle.regex_lines.specs.Searched.{AddsInput, WritesInput, WritesInputs, WritesSomeOf, bytes_of, following, has_nulls, has_ended, inputs_of, is_in_place, left_after, named, place_of, shows_names, PrintsLines};
 ghost use Rattle.regex_lines.specs.Unread.{IsSkipped, all_unread};
 ghost use Rattle.regex_options.specs.Plain.{job};
 
 use crate::failure::{Failure, read_failure};
 use crate::place::{Place, is_standard};
+use crate::rewriting::{rewrite_file, unwritten};
 use crate::searcher::Searcher;
 use crate::searching::{InputSearch, reaches, search_lines, write_end};
 use crate::unread::Unread;
-use regex_options::{FileNames, Shown, Task};
+use regex_options::{FileNames, InputForm, Shown, Task};
 use regress::Regex;
 use std::fs::{File, Files};
 use std::io::{self, BufRead, BufReader, Read, Write};
@@ -30,8 +31,8 @@ pub struct Searched<'a> {
 pub struct FileSearch<'a> {
     /// What is done with each line.
     pub task: Task<'a>,
-    /// Whether a text is searched as one, and not line by line.
-    pub multiline: bool,
+    /// How an input is read.
+    pub form: InputForm,
     /// Whether each line is written at once, and not with those after it.
     pub at_once: bool,
     /// The names of the files.
@@ -55,9 +56,9 @@ pub fn search_all<'a, R: Files + AllocGlobal, I: Read + Drop, W: Write>(
     out: &mut W,
 ) -> Searched<'a>
     ensures all { IfOk result.result (WritesInputs regex.now (job search.entry.task)
-        (inputs_of (job search.entry.task) search.entry.multiline search.entry.several (map string_bytes search.entry.files.now) (I.remaining input)) (W.contents out.old) (W.contents out.new) (all_unread result.unread)) }
+        (inputs_of (job search.entry.task) search.entry.form search.entry.several (map string_bytes search.entry.files.now) (I.remaining input)) (W.contents out.old) (W.contents out.new) (all_unread result.unread)) }
     ensures first { IfErr result.result (OrOutput (WritesSomeOf regex.now (job search.entry.task)
-        (inputs_of (job search.entry.task) search.entry.multiline search.entry.several (map string_bytes search.entry.files.now) (I.remaining input)) (W.contents out.old) (W.contents out.new) (all_unread result.unread))) }
+        (inputs_of (job search.entry.task) search.entry.form search.entry.several (map string_bytes search.entry.files.now) (I.remaining input)) (W.contents out.old) (W.contents out.new) (all_unread result.unread))) }
     ensures failed { IfErr result.result (IsSearchFailure (IsCostly regex.now)) }
 {
     let searcher = Searcher::new(rt.alloc(), regex);
@@ -77,9 +78,9 @@ fn search_files<'a, R: Files, I: Read + Drop, W: Write>(
 ) -> Result<bool, Failure<'a>>
     requires none { unread.old.items ≡ [] }
     ensures all { IfOk result (WritesInputs searcher.now.regex.now (job search.entry.task)
-        (inputs_of (job search.entry.task) search.entry.multiline search.entry.several (map string_bytes search.entry.files.now) (I.remaining input)) (W.contents out.old) (W.contents out.new) (all_unread unread.new)) }
+        (inputs_of (job search.entry.task) search.entry.form search.entry.several (map string_bytes search.entry.files.now) (I.remaining input)) (W.contents out.old) (W.contents out.new) (all_unread unread.new)) }
     ensures first { IfErr result (OrOutput (WritesSomeOf searcher.now.regex.now (job search.entry.task)
-        (inputs_of (job search.entry.task) search.entry.multiline search.entry.several (map string_bytes search.entry.files.now) (I.remaining input)) (W.contents out.old) (W.contents out.new) (all_unread unread.new))) }
+        (inputs_of (job search.entry.task) search.entry.form search.entry.several (map string_bytes search.entry.files.now) (I.remaining input)) (W.contents out.old) (W.contents out.new) (all_unread unread.new))) }
     ensures failed { IfErr result (IsSearchFailure (IsCostly searcher.now.regex.now)) }
 {
     let mut left = Some(input);
@@ -101,14 +102,14 @@ fn search_files<'a, R: Files, I: Read + Drop, W: Write>(
 
 /// Returns how an input is shown after others, of which a line may be selected.
 fn place_of<'a>(search: FileSearch<'a>, file: &'a str, any: bool) -> Place<'a>
-    ensures shown { named result ≡ following any (place_of (job search.entry.task) search.entry.multiline search.entry.several file.now) }
+    ensures shown { named result ≡ following any (place_of (job search.entry.task) search.entry.form search.entry.several file.now) }
     ensures file { result.file.now ≡ file.now }
 {
     Place {
         file,
         in_front: shows_names(search.task, search.several),
         null: has_nulls(search.task),
-        multiline: search.multiline,
+        form: search.form,
         follows: any,
     }
 }
@@ -159,7 +160,7 @@ fn search_next<'a, R: Files, I: Read + Drop, W: Write>(
 ) -> Result<bool, Failure<'a>>
     ensures all { IfOk result (AddsInput search.entry.searcher.now.regex.now (job search.entry.task) (named search.entry.place) (bytes_of search.entry.place.file.now (left_of I.remaining left.old))
         (W.contents out.old) (W.contents out.new) (all_unread unread.old) (all_unread unread.new)) }
-    ensures first { IfErr result (OrOutput (SearchesFirst search.entry.searcher.now.regex.now (job search.entry.task) (named search.entry.place) (bytes_of search.entry.place.file.now (left_of I.remaining left.old)) (W.contents out.old) (W.contents out.new))) }
+    ensures first { IfErr result (OrOutput (PrintsLines search.entry.searcher.now.regex.now (job search.entry.task) (named search.entry.place) (bytes_of search.entry.place.file.now (left_of I.remaining left.old)) (W.contents out.old) (W.contents out.new))) }
     ensures kept { IfErr result (λ _. all_unread unread.new ≡ all_unread unread.old) }
     ensures failed { IfErr result (IsSearchFailure (IsCostly search.entry.searcher.now.regex.now)) }
     ensures after { left_of I.remaining left.new ≡ left_after search.entry.place.file.now (left_of I.remaining left.old) }
@@ -171,7 +172,17 @@ fn search_next<'a, R: Files, I: Read + Drop, W: Write>(
     }
 }
 
-/// Searches what is left of standard input.
+/// Returns the suffix of the originals, if files are rewritten.
+fn in_place(task: Task<'_>) -> Option<&str>
+    ensures { is_some result ≡ is_in_place (job task.entry) }
+{
+    match task {
+        Task::Match(..) => None,
+        Task::Replace(replacement) => replacement.in_place,
+    }
+}
+
+/// Searches what is left of standard input, or adds it to those that are not read if files are rewritten.
 fn search_left<'a, I: Read + Drop, W: Write>(
     search: InputSearch<'_, 'a>,
     left: Option<I>,
@@ -180,7 +191,28 @@ fn search_left<'a, I: Read + Drop, W: Write>(
 ) -> Result<bool, Failure<'a>>
     ensures all { IfOk result (AddsInput search.entry.searcher.now.regex.now (job search.entry.task) (named search.entry.place) (left_of I.remaining left)
         (W.contents out.old) (W.contents out.new) (all_unread unread.old) (all_unread unread.new)) }
-    ensures first { IfErr result (OrOutput (SearchesFirst search.entry.searcher.now.regex.now (job search.entry.task) (named search.entry.place) (left_of I.remaining left) (W.contents out.old) (W.contents out.new))) }
+    ensures first { IfErr result (OrOutput (PrintsLines search.entry.searcher.now.regex.now (job search.entry.task) (named search.entry.place) (left_of I.remaining left) (W.contents out.old) (W.contents out.new))) }
+    ensures kept { IfErr result (λ _. all_unread unread.new ≡ all_unread unread.old) }
+    ensures failed { IfErr result (IsSearchFailure (IsCostly search.entry.searcher.now.regex.now)) }
+{
+    let name = search.place.name();
+    match in_place(search.task) {
+        Some(_) => skip(unwritten(search), name, unread),
+        None => search_taken(search, left, out, unread),
+    }
+}
+
+/// Searches what is left of standard input.
+fn search_taken<'a, I: Read + Drop, W: Write>(
+    search: InputSearch<'_, 'a>,
+    left: Option<I>,
+    out: &mut W,
+    unread: &mut Vec<Unread<'a>>,
+) -> Result<bool, Failure<'a>>
+    requires { is_in_place (job search.task) ≡ false }
+    ensures all { IfOk result (AddsInput search.entry.searcher.now.regex.now (job search.entry.task) (named search.entry.place) (left_of I.remaining left)
+        (W.contents out.old) (W.contents out.new) (all_unread unread.old) (all_unread unread.new)) }
+    ensures first { IfErr result (OrOutput (PrintsLines search.entry.searcher.now.regex.now (job search.entry.task) (named search.entry.place) (left_of I.remaining left) (W.contents out.old) (W.contents out.new))) }
     ensures kept { IfErr result (λ _. all_unread unread.new ≡ all_unread unread.old) }
     ensures failed { IfErr result (IsSearchFailure (IsCostly search.entry.searcher.now.regex.now)) }
 {
@@ -190,7 +222,7 @@ fn search_left<'a, I: Read + Drop, W: Write>(
     }
 }
 
-/// Searches a file, or adds it to those that are not read.
+/// Searches or rewrites a file.
 fn search_file<'a, R: Files, W: Write>(
     rt: &R,
     search: InputSearch<'_, 'a>,
@@ -199,7 +231,48 @@ fn search_file<'a, R: Files, W: Write>(
 ) -> Result<bool, Failure<'a>>
     ensures all { IfOk result (AddsInput search.entry.searcher.now.regex.now (job search.entry.task) (named search.entry.place) None
         (W.contents out.old) (W.contents out.new) (all_unread unread.old) (all_unread unread.new)) }
-    ensures first { IfErr result (OrOutput (SearchesFirst search.entry.searcher.now.regex.now (job search.entry.task) (named search.entry.place) None (W.contents out.old) (W.contents out.new))) }
+    ensures first { IfErr result (OrOutput (PrintsLines search.entry.searcher.now.regex.now (job search.entry.task) (named search.entry.place) None (W.contents out.old) (W.contents out.new))) }
+    ensures kept { IfErr result (λ _. all_unread unread.new ≡ all_unread unread.old) }
+    ensures failed { IfErr result (IsSearchFailure (IsCostly search.entry.searcher.now.regex.now)) }
+{
+    match in_place(search.task) {
+        Some(suffix) => rewrite_next(rt, search, suffix, out, unread),
+        None => open_file(rt, search, out, unread),
+    }
+}
+
+/// Rewrites a file, or adds it to those that are not read.
+fn rewrite_next<'a, R: Files, W: Write>(
+    rt: &R,
+    search: InputSearch<'_, 'a>,
+    suffix: &str,
+    out: &mut W,
+    unread: &mut Vec<Unread<'a>>,
+) -> Result<bool, Failure<'a>>
+    requires { is_in_place (job search.task) ≡ true }
+    ensures all { IfOk result (AddsInput search.entry.searcher.now.regex.now (job search.entry.task) (named search.entry.place) None
+        (W.contents out.old) (W.contents out.new) (all_unread unread.old) (all_unread unread.new)) }
+    ensures first { IfErr result (OrOutput (PrintsLines search.entry.searcher.now.regex.now (job search.entry.task) (named search.entry.place) None (W.contents out.old) (W.contents out.new))) }
+    ensures kept { IfErr result (λ _. all_unread unread.new ≡ all_unread unread.old) }
+    ensures failed { IfErr result (IsSearchFailure (IsCostly search.entry.searcher.now.regex.now)) }
+{
+    match rewrite_file(rt, search, suffix, out) {
+        Ok(any) => Ok(any),
+        Err(failure) => skip(failure, search.place.name(), unread),
+    }
+}
+
+/// Searches a file, or adds it to those that are not read.
+fn open_file<'a, R: Files, W: Write>(
+    rt: &R,
+    search: InputSearch<'_, 'a>,
+    out: &mut W,
+    unread: &mut Vec<Unread<'a>>,
+) -> Result<bool, Failure<'a>>
+    requires { is_in_place (job search.task) ≡ false }
+    ensures all { IfOk result (AddsInput search.entry.searcher.now.regex.now (job search.entry.task) (named search.entry.place) None
+        (W.contents out.old) (W.contents out.new) (all_unread unread.old) (all_unread unread.new)) }
+    ensures first { IfErr result (OrOutput (PrintsLines search.entry.searcher.now.regex.now (job search.entry.task) (named search.entry.place) None (W.contents out.old) (W.contents out.new))) }
     ensures kept { IfErr result (λ _. all_unread unread.new ≡ all_unread unread.old) }
     ensures failed { IfErr result (IsSearchFailure (IsCostly search.entry.searcher.now.regex.now)) }
 {
@@ -217,9 +290,10 @@ fn search_input<'a, I: Read + Drop, W: Write>(
     out: &mut W,
     unread: &mut Vec<Unread<'a>>,
 ) -> Result<bool, Failure<'a>>
+    requires { is_in_place (job search.task) ≡ false }
     ensures all { IfOk result (AddsInput search.entry.searcher.now.regex.now (job search.entry.task) (named search.entry.place) (I.remaining input)
         (W.contents out.old) (W.contents out.new) (all_unread unread.old) (all_unread unread.new)) }
-    ensures first { IfErr result (OrOutput (SearchesFirst search.entry.searcher.now.regex.now (job search.entry.task) (named search.entry.place) (I.remaining input) (W.contents out.old) (W.contents out.new))) }
+    ensures first { IfErr result (OrOutput (PrintsLines search.entry.searcher.now.regex.now (job search.entry.task) (named search.entry.place) (I.remaining input) (W.contents out.old) (W.contents out.new))) }
     ensures kept { IfErr result (λ _. all_unread unread.new ≡ all_unread unread.old) }
     ensures failed { IfErr result (IsSearchFailure (IsCostly search.entry.searcher.now.regex.now)) }
 {
@@ -255,8 +329,9 @@ fn read_input<'a, I: Read + Drop, W: Write>(
     input: I,
     out: &mut W,
 ) -> Result<bool, Failure<'a>>
+    requires { is_in_place (job search.task) ≡ false }
     ensures all { IfOk result (WritesInput search.entry.searcher.now.regex.now (job search.entry.task) (named search.entry.place) (I.remaining input) (W.contents out.old) (W.contents out.new)) }
-    ensures first { IfErr result (OrOutput (SearchesFirst search.entry.searcher.now.regex.now (job search.entry.task) (named search.entry.place) (I.remaining input) (W.contents out.old) (W.contents out.new))) }
+    ensures first { IfErr result (OrOutput (PrintsLines search.entry.searcher.now.regex.now (job search.entry.task) (named search.entry.place) (I.remaining input) (W.contents out.old) (W.contents out.new))) }
     ensures failed { IfErr result (IsInputFailure (IsCostly search.entry.searcher.now.regex.now)) }
 {
     match BufReader::new(search.searcher.alloc, input) {
@@ -271,8 +346,9 @@ fn search_reader<'a, B: BufRead, W: Write>(
     reader: &mut B,
     out: &mut W,
 ) -> Result<bool, Failure<'a>>
+    requires { is_in_place (job search.task) ≡ false }
     ensures all { IfOk result (WritesInput search.entry.searcher.now.regex.now (job search.entry.task) (named search.entry.place) (B.Read.remaining reader.old) (W.contents out.old) (W.contents out.new)) }
-    ensures first { IfErr result (OrOutput (SearchesFirst search.entry.searcher.now.regex.now (job search.entry.task) (named search.entry.place) (B.Read.remaining reader.old) (W.contents out.old) (W.contents out.new))) }
+    ensures first { IfErr result (OrOutput (PrintsLines search.entry.searcher.now.regex.now (job search.entry.task) (named search.entry.place) (B.Read.remaining reader.old) (W.contents out.old) (W.contents out.new))) }
     ensures failed { IfErr result (IsInputFailure (IsCostly search.entry.searcher.now.regex.now)) }
 {
     let selected = search_lines(search, reader, out)?;

@@ -11,6 +11,7 @@ mod prefix;
 mod printing;
 mod reading;
 mod reply;
+mod rewriting;
 mod runs;
 mod searcher;
 mod searching;

@@ -2,18 +2,20 @@
 ghost use Rattle.std.specs.Prelude.{◌≡◌};
 ghost use Rattle.regex_lines.specs.Searched.{is_standard};
 
+use regex_options::InputForm;
+
 /// The name among files that denotes standard input.
 pub(crate) const STANDARD_INPUT: &str = "-";
 
-/// An input, whether its name is shown in front of each line, whether a zero byte is after it, whether it is one line, and
-/// whether a line of an earlier input is selected.
+/// An input, whether its name is shown in front of each line, whether a zero byte is after it, how it is read, and whether
+/// a line of an earlier input is selected.
 #[derive(Clone, Copy)]
 pub(crate) struct Place<'a> {
     /// The name of the file, or that of standard input.
     pub(crate) file: &'a str,
     pub(crate) in_front: bool,
     pub(crate) null: bool,
-    pub(crate) multiline: bool,
+    pub(crate) form: InputForm,
     pub(crate) follows: bool,
 }
 

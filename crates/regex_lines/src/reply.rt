@@ -5,7 +5,7 @@ ghost use Rattle.regex_options.specs.Plain.{job, replacement as replacement_of};
 ghost use Rattle.regex_lines.specs.Ending.{IsCostly, IsSearchError};
 ghost use Rattle.regex_lines.specs.InLine.{AreInLine, AreInText, HasMatch, needs_matches, shown_by};
 ghost use Rattle.regex_lines.specs.Near.{ShowsNear, ShowsNearBy, plain};
-ghost use Rattle.regex_lines.specs.Reply.{IsReplacedCount, IsReplacedFrom, IsReply, IsReplyIn, IsSelected, MatchesIn, ReplacesUpTo, Shows, ShowsIf, ShowsReplaced, at_most, ended, feed_if, match_count, matches_shown, AreSearched, matches_of, run_of, texts_of, utf8_runs, whole};
+ghost use Rattle.regex_lines.specs.Reply.{IsReplacedCount, IsReplacedFrom, IsReply, IsReplyIn, IsSelected, MatchesIn, ReplacesUpTo, Shows, ShowsIf, ShowsReplaced, ShowsReplacedIf, CountsFor, at_most, ended, feed_if, match_count, matches_shown, AreSearched, matches_of, run_of, texts_of, utf8_runs, whole, writes_lines};
 ghost use Rattle.regex_lines.specs.Paint.{line_paint_in, line_paint_of, paint_of, painted, painted_rest};
 ghost use Rattle.regex_lines.specs.Prefix.{text_of};
 
@@ -179,15 +179,10 @@ fn reply_in(
         Task::Match(selection, colors) => {
             selected(searcher, show_of(selection, colors, false), prefix, line)
         }
-        Task::Replace(replacement) if replacement.counts => Ok(Reply {
-            selected: true,
-            count: replaced_count(searcher, replacement.limit, line.texts)?,
-            bytes: Vec::new(searcher.alloc),
-        }),
         Task::Replace(replacement) => Ok(Reply {
             selected: true,
-            count: 1,
-            bytes: replaced(searcher, replacement, line)?,
+            count: count_for(searcher, replacement, line.texts)?,
+            bytes: replaced_if(searcher, replacement, line)?,
         }),
     }
 }
@@ -439,6 +434,47 @@ fn add_match(
     add_painted(paint, text.as_bytes(), to)?;
     to.push(b'\n')?;
     Ok(())
+}
+
+/// Returns for how many a line with these texts counts.
+fn count_for(
+    searcher: &Searcher<'_>,
+    replacement: Replacement<'_>,
+    texts: &[Run<'_>],
+) -> Result<u64, SearchError>
+    ensures count { IfOk result (λ count. CountsFor searcher.now.regex.now replacement.entry.counts (map run_of texts.now) replacement.entry.limit count) }
+    ensures failed { IfErr result (IsSearchError (IsCostly searcher.now.regex.now)) }
+{
+    if replacement.counts {
+        replaced_count(searcher, replacement.limit, texts)
+    } else {
+        Ok(1)
+    }
+}
+
+/// Returns whether the lines are written: if matches are counted, only to files that are rewritten.
+fn writes_lines(replacement: Replacement<'_>) -> bool
+    ensures { result ≡ writes_lines (replacement_of replacement.entry) }
+{
+    !replacement.counts || replacement.in_place.is_some()
+}
+
+/// Returns the line with the matches in its texts replaced, if it is written.
+fn replaced_if(
+    searcher: &Searcher<'_>,
+    replacement: Replacement<'_>,
+    line: Line<'_>,
+) -> Result<Vec<u8>, SearchError>
+    requires { AreInLine (length line.bytes.now) 0 (map run_of line.texts.now) }
+    ensures replaced { IfOk result (λ bytes. ShowsReplacedIf searcher.now.regex.now line.entry.bytes.now (writes_lines (replacement_of replacement.entry))
+        (map run_of line.entry.texts.now) line.entry.ended (replacement_of replacement.entry) bytes.items) }
+    ensures failed { IfErr result (IsSearchError (IsCostly searcher.now.regex.now)) }
+{
+    if writes_lines(replacement) {
+        replaced(searcher, replacement, line)
+    } else {
+        Ok(Vec::new(searcher.alloc))
+    }
 }
 
 /// Returns how many matches in the texts are replaced.

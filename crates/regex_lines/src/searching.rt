@@ -7,7 +7,7 @@ ghost use Rattle.regress_arguments.specs.Output.{Took};
 ghost use Rattle.regex_lines.specs.Ending.{IsCostly, IsInputFailure, OrOutput};
 ghost use Rattle.regex_options.specs.Colors.{plain_colors};
 ghost use Rattle.regex_options.specs.Plain.{job};
-ghost use Rattle.regex_lines.specs.Searched.{AreNear, IsFound, IsNear, colors_of, named, SearchesAll, SearchesFirst, context_of, lines_after, lines_before, prefix_of, is_enough, is_over, needs_one, reaches, separator, shown_at_end, written_at_end};
+ghost use Rattle.regex_lines.specs.Searched.{AreNear, IsAccepted, IsFound, IsNear, colors_of, named, SearchesAll, SearchesFirst, context_of, lines_after, lines_before, prefix_of, is_enough, is_over, needs_one, reaches, separator, shown_at_end, written_at_end};
 ghost use Rattle.regex_lines.specs.Window.{IsCounted, IsInFront, IsNextLine, IsOther, IsShown, separator_of, window_of};
 
 use crate::failure::{Failure, read_failure};
@@ -18,10 +18,12 @@ use crate::printing::{write_at, write_bytes};
 use crate::reading::{Next, is_ended, is_last, read_next};
 use crate::reply::{Reply, near, reply_to};
 use crate::searcher::Searcher;
+use crate::unread::{Reason, Unread};
 use crate::window::Window;
-use regex_options::{Colors, Context, Shown, Task};
+use regex_options::{Colors, Context, Encoding, Shown, Task};
 use std::alloc::{AllocError, Global};
 use std::io::{BufRead, Write};
+use std::str;
 
 /// What is done with the lines of an input.
 #[derive(Clone, Copy)]
@@ -134,10 +136,10 @@ fn next_line<'a, B: BufRead>(
     place: Place<'a>,
     line: &mut Vec<u8>,
 ) -> Result<Next, Failure<'a>>
-    ensures read { IfOk result (IsRead place.entry.multiline (B.Read.remaining reader.old) (B.Read.remaining reader.new) line.new.items) }
+    ensures read { IfOk result (IsRead place.entry.form.multiline (B.Read.remaining reader.old) (B.Read.remaining reader.new) line.new.items) }
     ensures failed { IfErr result (IsInputFailure ⊥) }
 {
-    match read_next(reader, place.multiline, line) {
+    match read_next(reader, place.form.multiline, line) {
         Ok(next) => Ok(next),
         Err(error) => Err(read_failure(error, place.name())),
     }
@@ -159,11 +161,36 @@ fn search_line<'a, W: Write>(
     ensures failed { IfErr result (IsInputFailure (IsCostly search.entry.searcher.now.regex.now)) }
     ensures untouched { IfErr result (OrOutput (out.new ≡ out.old)) }
 {
+    accept(search, window.number + 1, line)?;
     let reply = found(search, window, line, ended)?;
     if reply.selected {
         show_selected(search, window, reply, out)
     } else {
         show_other(search, window, line, out)
+    }
+}
+
+/// Checks that the line with this number may be searched.
+///
+/// # Errors
+/// Returns that the line is not UTF-8, if it has to be.
+fn accept<'a>(search: InputSearch<'_, 'a>, number: u64, line: &[u8]) -> Result<(), Failure<'a>>
+    ensures accepted { OnOk result (IsAccepted search.entry.place.form.encoding line.now) }
+    ensures refused { IfErr result (λ _. IsAccepted search.entry.place.form.encoding line.now → ⊥) }
+    ensures failed { IfErr result (IsInputFailure (IsCostly search.entry.searcher.now.regex.now)) }
+{
+    match search.place.form.encoding {
+        Encoding::Bytes => Ok(()),
+        Encoding::Utf8 => match str::from_utf8(line) {
+            Ok(_) => Ok(()),
+            Err(error) => Err(Failure::Unreadable(Unread {
+                name: search.place.name(),
+                reason: Reason::LineNotUtf8 {
+                    number,
+                    offset: error.valid_up_to(),
+                },
+            })),
+        },
     }
 }
 

@@ -1,6 +1,6 @@
 //! Inputs that are not read.
 
-use std::io::ErrorKind;
+use std::io::{self, ErrorKind, Write};
 
 /// An input that is not read, or not to its end.
 #[derive(Clone, Copy)]
@@ -46,6 +46,17 @@ pub enum Reason {
     Directory,
     /// Its name is not UTF-8.
     NotUtf8,
+    /// This line is not UTF-8 from this byte offset on.
+    LineNotUtf8 {
+        /// The number of the line, which counts from 1.
+        number: u64,
+        /// The offset in the line.
+        offset: usize,
+    },
+    /// It is to be rewritten, and is no regular file.
+    NotRegular,
+    /// It can't be rewritten.
+    Unwritten,
     /// Another error.
     Other,
 }
@@ -60,13 +71,18 @@ pub(crate) fn reason_of(kind: ErrorKind) -> Reason {
     }
 }
 
-/// Returns what a message says of a reason.
-pub(crate) fn text_of(reason: Reason) -> &'static str {
+/// Writes what a message says of a reason.
+pub(crate) fn write_reason<E: Write>(reason: Reason, to: &mut E) -> io::Result<()> {
     match reason {
-        Reason::NotFound => "No such file or directory",
-        Reason::Denied => "Permission denied",
-        Reason::Directory => "Is a directory",
-        Reason::NotUtf8 => "the name is not UTF-8",
-        Reason::Other => "can't be read",
+        Reason::NotFound => to.write_all(b"No such file or directory"),
+        Reason::Denied => to.write_all(b"Permission denied"),
+        Reason::Directory => to.write_all(b"Is a directory"),
+        Reason::NotUtf8 => to.write_all(b"the name is not UTF-8"),
+        Reason::LineNotUtf8 { number, offset } => {
+            write!(to, "line {number} is not UTF-8, at byte offset {offset}")
+        }
+        Reason::NotRegular => to.write_all(b"not a regular file"),
+        Reason::Unwritten => to.write_all(b"can't be rewritten"),
+        Reason::Other => to.write_all(b"can't be read"),
     }
 }

@@ -15,19 +15,22 @@ use Rattle.regex_options.specs.declared.given.Options.{Options}
 use Rattle.regex_options.specs.declared.table.Switch.{Switch}
 use Rattle.regex_options.specs.declared.table.Switch.TheVariants.{Help, Version, IgnoreCase, Fixed, WholeLines, WholeWords, Multiline, Recursive, LineBuffered, Binary, Invert, FileNames, Null, Numbers, Shown, Json, Stage, Small, Html}
 use Rattle.regex_options.specs.declared.table.Value.{Value}
-use Rattle.regex_options.specs.declared.table.Value.TheVariants.{Pattern, File, Flags as FlagLetters, Dialect as DialectName, Count, Replacements, Context, Color as When, Text, Include, Exclude}
+use Rattle.regex_options.specs.declared.table.Value.TheVariants.{Pattern, File, Flags as FlagLetters, Dialect as DialectName, Count, Replacements, Context, Color as When, Text, Include, Exclude, InPlace, Encoding as EncodingName}
+use Rattle.regex_options.specs.declared.task.Encoding.{Encoding}
+use Rattle.regex_options.specs.declared.task.Encoding.TheVariants.{Bytes, Utf8}
 use Rattle.regex_options.specs.declared.task.FileNames.TheVariants.{IfSeveral}
 use Rattle.regex_options.specs.declared.task.Shown.TheVariants.{Lines}
 use Rattle.regex_options.specs.declared.task.Side.{Side}
 use Rattle.regex_options.specs.declared.task.Side.TheVariants.{Before, After, Both}
 
--- the options, and the texts that they have: the pattern of the last option, the text of a page, and the glob of the last
--- option
+-- the options, and the texts that they have: the pattern of the last option, the text of a page, the glob of the last
+-- option, and the suffix of the originals of files that are rewritten
 pub record Given : Type 0 where
   pub options : Options
   pub pattern : Option Source
   pub text : Option (List ℕ)
   pub glob : Option NameGlob
+  pub in_place : Option (List ℕ)
 
 abbrev pub no_options : Options
 no_options = record {
@@ -39,7 +42,7 @@ no_options = record {
   selection = record { invert = false; file_names = IfSeveral; null = false; numbers = false; shown = Lines; max_count = None; context = None };
   around = record { before = None; after = None; both = None };
   max_replacements = None;
-  multiline = false;
+  input = record { multiline = false; encoding = Bytes };
   recursive = false;
   line_buffered = false;
   json = false;
@@ -50,7 +53,7 @@ no_options = record {
 }
 
 abbrev pub nothing_given : Given
-nothing_given = record { options = no_options; pattern = None; text = None; glob = None }
+nothing_given = record { options = no_options; pattern = None; text = None; glob = None; in_place = None }
 
 -- what the options specify, as the code represents it
 abbrev pub given_by : code.Given → Given
@@ -59,6 +62,7 @@ given_by given = record {
   pattern = option_map source given.pattern;
   text = option_map (λ text. text.now) given.text;
   glob = option_map name_glob given.glob;
+  in_place = option_map (λ suffix. suffix.now) given.in_place;
 }
 
 -- the options with one more
@@ -69,7 +73,7 @@ switched IgnoreCase o = record o { flags = record o.flags { icase = true } }
 switched Fixed o = record o { form = record o.form { fixed = true } }
 switched WholeLines o = record o { form = record o.form { lines = true } }
 switched WholeWords o = record o { form = record o.form { words = true } }
-switched Multiline o = record o { multiline = true }
+switched Multiline o = record o { input = record o.input { multiline = true } }
 switched Recursive o = record o { recursive = true }
 switched LineBuffered o = record o { line_buffered = true }
 switched Binary o = o
@@ -102,6 +106,16 @@ dialect_of name =
 
 abbrev pub with_dialect : (name : List ℕ) → Options → Option Options
 with_dialect name o = option_map (λ dialect. record o { dialect = dialect }) (dialect_of name)
+
+-- an encoding by its name
+abbrev pub encoding_of : List ℕ → Option Encoding
+encoding_of name =
+    if bytes_eq name (codes "utf-8") then Some Utf8
+    else if bytes_eq name (codes "bytes") then Some Bytes
+    else None
+
+abbrev pub with_encoding : (name : List ℕ) → Options → Option Options
+with_encoding name o = option_map (λ encoding. record o { input = record o.input { encoding = encoding } }) (encoding_of name)
 
 -- the number that decimal digits denote, if it has 64 bits
 abbrev pub count_of : List ℕ → Option ℕ
@@ -150,10 +164,12 @@ valued Pattern text given = Some (with_pattern (in_argument text) given)
 valued File text given = Some (with_pattern (in_file text) given)
 valued FlagLetters text given = option_map (λ options. record given { options = options }) (with_flags text given.options)
 valued DialectName text given = option_map (λ options. record given { options = options }) (with_dialect text given.options)
+valued EncodingName text given = option_map (λ options. record given { options = options }) (with_encoding text given.options)
 valued Count text given = option_map (λ options. record given { options = options }) (with_count text given.options)
 valued Replacements text given = option_map (λ options. record given { options = options }) (with_replacements text given.options)
 valued (Context side) text given = option_map (λ options. record given { options = options }) (with_context side text given.options)
 valued When text given = option_map (λ options. record given { options = options }) (with_color text given.options)
 valued Text text given = Some (record given { text = Some text })
+valued InPlace text given = Some (record given { in_place = Some text })
 valued Include text given = Some (with_glob text true given)
 valued Exclude text given = Some (with_glob text false given)

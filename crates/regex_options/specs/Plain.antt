@@ -16,16 +16,17 @@ use Rattle.regex_options.specs.declared.task.Selection.{Selection}
 use Rattle.regex_options.specs.declared.task.Task.TheVariants.{Match, Replace}
 use Rattle.regex_options.specs.declared.task.Task.{Task}
 
--- how matches are replaced: by the expansion of a template, in each line at most this many if there is a limit; and whether
--- only how many are replaced is shown
+-- how matches are replaced: by the expansion of a template, in each line at most this many if there is a limit; whether how
+-- many are replaced is shown; and the suffix of the originals if files are rewritten
 pub record Replacement : Type 0 where
   pub template : List ℕ
   pub limit : Option ℕ
   pub counts : Bool
+  pub in_place : Option (List ℕ)
 
 -- the same as the code represents it
 abbrev pub replacement : code_replacement.Replacement → Replacement
-replacement r = record { template = r.template.now; limit = r.limit; counts = r.counts }
+replacement r = record { template = r.template.now; limit = r.limit; counts = r.counts; in_place = option_map (λ suffix. suffix.now) r.in_place }
 
 -- selected lines are shown, in these colors if there are any, or matches are replaced
 pub data Job : Type 0 where

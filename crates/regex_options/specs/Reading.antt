@@ -130,10 +130,14 @@ module _ (options : List OptionEntry) (command : Command) (word : List ℕ) wher
       else if is_valued (find (has_letter c) options) then with_found (unless_empty cs) r (find (has_letter c) options)
       else on_ok (with_letters cs) (with_found None r (find (has_letter c) options))
 
+  -- `--NAME`, or a hyphen and letters
+  abbrev pub with_option : Reading → Result Reading UsageError
+  with_option r = if starts_with (λ b c. b == c) word (codes "--") then with_long (drop 2 word) r else with_letters (letters_of word) r
+
   -- an option, or the argument that the last one awaits
   abbrev pub with_awaited : Option Argument → Reading → Result Reading UsageError
   with_awaited (Some argument) r = with_value argument word word r
-  with_awaited None r = if starts_with (λ b c. b == c) word (codes "--") then with_long (drop 2 word) r else with_letters (letters_of word) r
+  with_awaited None r = with_option r
 
   abbrev pub with_word : Reading → Result Reading UsageError
   with_word r = with_awaited r.awaits r

@@ -39,6 +39,7 @@ use Rattle.regex_options.specs.declared.source.PatternForm.{PatternForm}
 use Rattle.regex_options.specs.declared.source.Patterns.{Patterns}
 use Rattle.regex_options.specs.declared.table.OptionEntry.{OptionEntry}
 use Rattle.regex_options.specs.declared.task.Context.{Context}
+use Rattle.regex_options.specs.declared.task.InputForm.{InputForm}
 use Rattle.regex_options.specs.declared.task.Selection.{Selection}
 use Rattle.regex_options.specs.declared.task.Shown.{Shown}
 use Rattle.regex_options.specs.declared.task.Shown.TheVariants as shows
@@ -54,9 +55,9 @@ asked_form Lines = lines
 asked_form (Page text) = page (option_map (λ text. text.now) text)
 
 -- What to do with a pattern: a job for the lines of files, or of standard input if there are none; a tree to show, a report
--- on what may match otherwise than in ECMA-262, or an explanation. With `multiline` a text is one line.
+-- on what may match otherwise than in ECMA-262, or an explanation.
 pub data Action : Type 0 where
-  search : Job → (multiline : Bool) → FileList → Action
+  search : Job → InputForm → FileList → Action
   show : View → Action
   lint : Action
   explain : Form → Action
@@ -87,7 +88,7 @@ parsed_as (Line l) = line l.entry (words_of l.words)
 
 -- what to do with a pattern, as the code represents it
 abbrev pub action : code_action.Action → Action
-action (Search s) = search (job s.task) s.multiline (file_list s.files)
+action (Search s) = search (job s.task) s.form (file_list s.files)
 action (Show view) = show view
 action Lint = lint
 action (Explain form) = explain (asked_form form)
@@ -188,21 +189,26 @@ is_count shows.Names = false
 is_count shows.Nothing = false
 
 -- how `replace` replaces matches with these options
-abbrev pub replacement_of : Options → (template : List ℕ) → Replacement
-replacement_of options template = record { template = template; limit = options.max_replacements; counts = is_count options.selection.shown }
+abbrev pub replacement_of : Given → (template : List ℕ) → Replacement
+replacement_of given template = record {
+  template = template;
+  limit = given.options.max_replacements;
+  counts = is_count given.options.selection.shown;
+  in_place = given.in_place;
+}
 
 -- how `split` does
 abbrev pub feeds : Replacement
-feeds = record { template = codes "\n"; limit = None; counts = false }
+feeds = record { template = codes "\n"; limit = None; counts = false; in_place = None }
 
 -- The files are searched. For `replace` the template is in front of them.
-abbrev pub replaced_in : Options → FileList → (names : List (List ℕ)) → Result Action UsageError
-replaced_in options rest [] = Err (missing (codes "TEMPLATE"))
-replaced_in options rest (template ∷ names) =
-    Ok (search (replacing (replacement_of options template)) options.multiline (record rest { names = names }))
+abbrev pub replaced_in : Given → FileList → (names : List (List ℕ)) → Result Action UsageError
+replaced_in given rest [] = Err (missing (codes "TEMPLATE"))
+replaced_in given rest (template ∷ names) =
+    Ok (search (replacing (replacement_of given template)) given.options.input (record rest { names = names }))
 
-abbrev pub replace_of : Options → (rest : FileList) → Result Action UsageError
-replace_of options rest = replaced_in options rest rest.names
+abbrev pub replace_of : Given → (rest : FileList) → Result Action UsageError
+replace_of given rest = replaced_in given rest rest.names
 
 -- no argument is left
 abbrev pub no_more : List (List ℕ) → Result ⊤ UsageError
@@ -217,9 +223,9 @@ alone action args = on_ok (λ _. Ok action) (no_more args)
 -- feed.
 abbrev pub action_of : Screen → Operation → Given → (rest : FileList) → Result Action UsageError
 action_of screen operations.Match given rest =
-    Ok (search (matching (selection_of given.options) (colors_in screen given.options.color)) given.options.multiline rest)
-action_of screen operations.Replace given rest = replace_of given.options rest
-action_of screen operations.Split given rest = Ok (search (replacing feeds) given.options.multiline rest)
+    Ok (search (matching (selection_of given.options) (colors_in screen given.options.color)) given.options.input rest)
+action_of screen operations.Replace given rest = replace_of given rest
+action_of screen operations.Split given rest = Ok (search (replacing feeds) given.options.input rest)
 action_of screen operations.Parse given rest = alone (show (view_in given.options (printed_format given.options.json))) rest.names
 action_of screen operations.Draw given rest = alone (show (view_in given.options Svg)) rest.names
 action_of screen operations.Lint given rest = alone lint rest.names

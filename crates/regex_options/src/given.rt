@@ -4,7 +4,7 @@ ghost use Rattle.regex_options.specs.Given.{given_by, nothing_given};
 
 use crate::files::NameGlob;
 use crate::source::{PatternForm, PatternSource};
-use crate::task::{FileNames, Selection, Shown};
+use crate::task::{Encoding, FileNames, InputForm, Selection, Shown};
 use regress_base::types::Flags;
 use regress_display::Stage;
 use regress_lexer::Dialect;
@@ -39,8 +39,8 @@ pub(crate) struct Options {
     pub(crate) around: Around,
     /// How many matches of a line are replaced at most.
     pub(crate) max_replacements: Option<u64>,
-    /// Whether a text is searched as one, and not line by line.
-    pub(crate) multiline: bool,
+    /// How an input is read.
+    pub(crate) input: InputForm,
     /// Whether files are searched for in directories.
     pub(crate) recursive: bool,
     /// Whether each line is written at once.
@@ -65,6 +65,8 @@ pub(crate) struct Given<'a> {
     pub(crate) text: Option<&'a str>,
     /// The glob of the last option, if that has one.
     pub(crate) glob: Option<NameGlob<'a>>,
+    /// If files are rewritten, the suffix of their originals.
+    pub(crate) in_place: Option<&'a str>,
 }
 
 /// What is specified where no option is given.
@@ -97,7 +99,10 @@ pub(crate) fn nothing_given() -> Given<'static>
                 both: None,
             },
             max_replacements: None,
-            multiline: false,
+            input: InputForm {
+                multiline: false,
+                encoding: Encoding::Bytes,
+            },
             recursive: false,
             line_buffered: false,
             json: false,
@@ -109,5 +114,6 @@ pub(crate) fn nothing_given() -> Given<'static>
         pattern: None,
         text: None,
         glob: None,
+        in_place: None,
     }
 }

@@ -30,4 +30,6 @@ pub use request::{
 };
 pub use source::{PatternForm, PatternSource, Patterns};
 pub use table::{Argument, OPTIONS, OptionEntry, Scope, Sets, Switch, Value};
-pub use task::{Context, FileNames, Replacement, Selection, Shown, Side, Task};
+pub use task::{
+    Context, Encoding, FileNames, InputForm, Replacement, Selection, Shown, Side, Task,
+};

@@ -1,7 +1,7 @@
 //! Parses options.
 ghost use Rattle.std.specs.Prelude.{◌≡◌, ◌<◌, ◌++◌, ◌∷◌, [], OnOk, drop, find, length, map, option_map, slice_index, string_bytes};
 ghost use Rattle.regex_options.specs.Given.{given_by};
-ghost use Rattle.regex_options.specs.Reading.{is_option, lacked, listed, letters_of, noted, options_of, reading_of, start, unless_empty, without_lists, words_of, used, with_letters, with_long, with_switch, with_value, with_word, without_value};
+ghost use Rattle.regex_options.specs.Reading.{is_option, lacked, listed, letters_of, noted, options_of, reading_of, start, unless_empty, without_lists, words_of, used, with_letters, with_long, with_option, with_switch, with_value, with_word, without_value};
 ghost use Rattle.regex_options.specs.Table.{has_letter, has_long};
 ghost use Rattle.regex_options.specs.Plain.{IsParsed, first_error, name_glob, plain_result, source, usage_error};
 
@@ -181,10 +181,22 @@ fn read_word<'a>(
 {
     match reading.awaits {
         Some(argument) => with_value(argument, word, word, reading),
-        None => match word.strip_prefix("--") {
-            Some(long) => with_long(options, command, word, long, reading),
-            None => with_letters(options, command, word, letters_of(word), reading),
-        },
+        None => with_option(options, command, reading, word),
+    }
+}
+
+/// Adds the option that an argument names, or those of its letters.
+fn with_option<'a>(
+    options: &[OptionEntry],
+    command: Command,
+    reading: Reading<'a>,
+    word: &'a str,
+) -> Result<Reading<'a>, UsageError<'a>>
+    ensures { plain_result reading_of result ≡ with_option options.now command word.now (reading_of reading.entry) }
+{
+    match word.strip_prefix("--") {
+        Some(long) => with_long(options, command, word, long, reading),
+        None => with_letters(options, command, word, letters_of(word), reading),
     }
 }
 

@@ -16,7 +16,7 @@ use crate::help::Topic;
 use crate::reading::{Reading, Words, read_options};
 use crate::source::{PatternForm, PatternSource, Patterns};
 use crate::table::OptionEntry;
-use crate::task::{Context, Replacement, Selection, Shown, Task};
+use crate::task::{Context, InputForm, Replacement, Selection, Shown, Task};
 use regress_base::types::Flags;
 use regress_display::{Format, Stage};
 use regress_lexer::Dialect;
@@ -75,8 +75,8 @@ pub enum Form<'a> {
 pub struct Search<'a> {
     /// What is done with each line.
     pub task: Task<'a>,
-    /// Whether a text is searched as one, and not line by line.
-    pub multiline: bool,
+    /// How an input is read.
+    pub form: InputForm,
     /// Whether each line is written at once, and not with those after it.
     pub at_once: bool,
     /// The files.
@@ -364,7 +364,7 @@ fn read_action<'a>(
     let options = given.options;
     let args = rest.names;
     let form = LineForm {
-        multiline: options.multiline,
+        input: options.input,
         at_once: options.line_buffered || output.at_once,
     };
     match operation {
@@ -373,7 +373,7 @@ fn read_action<'a>(
             Task::Match(selection_of(options), colors_in(options.color, output)),
             rest,
         )),
-        Operation::Replace => replace_of(form, options, rest),
+        Operation::Replace => replace_of(form, given, rest),
         Operation::Split => Ok(search_for(form, Task::Replace(FEEDS), rest)),
         Operation::Parse => alone(
             Action::Show(view_in(options, printed_format(options.json))),
@@ -390,24 +390,26 @@ const FEEDS: Replacement<'static> = Replacement {
     template: "\n",
     limit: None,
     counts: false,
+    in_place: None,
 };
 
 /// Parses a template, and the files after it.
 fn replace_of<'a>(
     form: LineForm,
-    options: Options,
+    given: Given<'a>,
     rest: FileList<'a>,
 ) -> Result<Action<'a>, UsageError<'a>>
-    requires { form.multiline ≡ options.multiline }
-    ensures { plain_result action result ≡ replace_of options (file_list rest.entry) }
+    requires { form.input ≡ given.options.input }
+    ensures { plain_result action result ≡ replace_of (given_by given.entry) (file_list rest.entry) }
 {
     match rest.names {
         [template, names @ ..] => {
             let files = FileList { names, ..rest };
             let replacement = Replacement {
                 template: template.as_str(),
-                limit: options.max_replacements,
-                counts: matches!(options.selection.shown, Shown::Count),
+                limit: given.options.max_replacements,
+                counts: matches!(given.options.selection.shown, Shown::Count),
+                in_place: given.in_place,
             };
             Ok(search_for(form, Task::Replace(replacement), files))
         }
@@ -516,16 +518,16 @@ fn paints(color: Option<Color>, terminal: bool) -> bool
 /// How lines are read and written.
 #[derive(Clone, Copy)]
 struct LineForm {
-    multiline: bool,
+    input: InputForm,
     at_once: bool,
 }
 
 fn search_for<'a>(form: LineForm, task: Task<'a>, files: FileList<'a>) -> Action<'a>
-    ensures { action result ≡ search (job task.entry) form.multiline (file_list files.entry) }
+    ensures { action result ≡ search (job task.entry) form.input (file_list files.entry) }
 {
     Action::Search(Search {
         task,
-        multiline: form.multiline,
+        form: form.input,
         at_once: form.at_once,
         files,
     })

@@ -5,7 +5,7 @@ ghost use Rattle.regex_options.specs.Given.{switched};
 use crate::given::Options;
 use crate::source::PatternForm;
 use crate::table::Switch;
-use crate::task::Selection;
+use crate::task::{InputForm, Selection};
 use regress_base::types::Flags;
 
 /// Returns the options with one more.
@@ -52,7 +52,10 @@ pub(crate) fn switched(switch: Switch, options: Options) -> Options
             ..options
         },
         Switch::Multiline => Options {
-            multiline: true,
+            input: InputForm {
+                multiline: true,
+                ..options.input
+            },
             ..options
         },
         Switch::Recursive => Options {

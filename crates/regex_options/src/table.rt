@@ -99,6 +99,10 @@ pub enum Value {
     Count,
     /// How many matches of a line are replaced at most.
     Replacements,
+    /// Files are rewritten, with the suffix of their originals.
+    InPlace,
+    /// The encoding of inputs.
+    Encoding,
     /// How many lines around selected ones are shown.
     Context(Side),
     /// When the output is in color.
@@ -273,7 +277,7 @@ const OF_EXPLAIN: Scope = Scope {
 };
 
 /// The options, in the order of the help.
-pub const OPTIONS: [OptionEntry; 39] = [
+pub const OPTIONS: [OptionEntry; 41] = [
     OptionEntry {
         short: Some("-e"),
         long: Some("regexp"),
@@ -394,6 +398,18 @@ pub const OPTIONS: [OptionEntry; 39] = [
         }),
         scope: OF_LINES,
         line: "      --exclude GLOB        search no files whose name GLOB matches; of several\n                            GLOB the last one that matches takes effect\n",
+    },
+    OptionEntry {
+        short: None,
+        long: Some("encoding"),
+        sets: Sets::Value(Argument {
+            value: Value::Encoding,
+            name: "ENCODING",
+            default: None,
+            kind: "ENCODING (utf-8 or bytes)",
+        }),
+        scope: OF_LINES,
+        line: "      --encoding ENCODING   utf-8: a line that is not UTF-8 is an error; bytes,\n                            the default: its bytes that are not match nowhere\n",
     },
     OptionEntry {
         short: Some("-a"),
@@ -524,6 +540,18 @@ pub const OPTIONS: [OptionEntry; 39] = [
         }),
         scope: OF_REPLACE,
         line: "      --max-replacements NUM  replace at most NUM matches of each line, the\n                            first ones\n",
+    },
+    OptionEntry {
+        short: None,
+        long: Some("in-place"),
+        sets: Sets::Value(Argument {
+            value: Value::InPlace,
+            name: "SUFFIX",
+            default: Some(""),
+            kind: "SUFFIX",
+        }),
+        scope: OF_REPLACE,
+        line: "      --in-place[=SUFFIX]   rewrite each FILE; with SUFFIX the original is kept\n                            under its name with SUFFIX after it\n",
     },
     OptionEntry {
         short: Some("-l"),

@@ -11,6 +11,24 @@ pub enum Task<'a> {
     Replace(Replacement<'a>),
 }
 
+/// How an input is read.
+#[derive(Clone, Copy)]
+pub struct InputForm {
+    /// Whether it is searched as one text, and not line by line.
+    pub multiline: bool,
+    /// What its lines are.
+    pub encoding: Encoding,
+}
+
+/// What lines are.
+#[derive(Clone, Copy)]
+pub enum Encoding {
+    /// Bytes: in a line that is not UTF-8 those that are not match nowhere.
+    Bytes,
+    /// UTF-8: another line is an error.
+    Utf8,
+}
+
 /// How matches are replaced.
 #[derive(Clone, Copy)]
 pub struct Replacement<'a> {
@@ -18,8 +36,10 @@ pub struct Replacement<'a> {
     pub template: &'a str,
     /// How many matches of a line are replaced at most, the first ones: all by default.
     pub limit: Option<u64>,
-    /// Whether only how many matches are replaced is shown.
+    /// Whether how many matches are replaced is shown, and not the lines.
     pub counts: bool,
+    /// If files are rewritten, the suffix with which the original of each is kept: none is if it is empty.
+    pub in_place: Option<&'a str>,
 }
 
 /// Which lines are selected, and what is shown of them.

@@ -1,13 +1,13 @@
 //! What options with an argument set.
 ghost use Rattle.std.specs.Prelude.{◌≡◌, option_map};
-ghost use Rattle.regex_options.specs.Given.{around_with, color_of, count_of, dialect_of, given_by, valued, with_color, with_context, with_count, with_dialect, with_flags, with_glob, with_pattern, with_replacements};
+ghost use Rattle.regex_options.specs.Given.{around_with, color_of, count_of, dialect_of, encoding_of, given_by, valued, with_color, with_context, with_count, with_dialect, with_encoding, with_flags, with_glob, with_pattern, with_replacements};
 ghost use Rattle.regex_options.specs.Plain.{source};
 
 use crate::files::NameGlob;
 use crate::given::{Around, Color, Given, Options};
 use crate::source::PatternSource;
 use crate::table::Value;
-use crate::task::{Selection, Side};
+use crate::task::{Encoding, InputForm, Selection, Side};
 use regress_arguments::parse_flags;
 use regress_base::types::Flags;
 use regress_lexer::Dialect;
@@ -23,6 +23,10 @@ pub(crate) fn valued<'a>(value: Value, text: &'a str, given: Given<'a>) -> Optio
             text: Some(text),
             ..given
         }),
+        Value::InPlace => Some(Given {
+            in_place: Some(text),
+            ..given
+        }),
         Value::Include => Some(with_glob(text, true, given)),
         Value::Exclude => Some(with_glob(text, false, given)),
         Value::Flags => Some(Given {
@@ -31,6 +35,10 @@ pub(crate) fn valued<'a>(value: Value, text: &'a str, given: Given<'a>) -> Optio
         }),
         Value::Dialect => Some(Given {
             options: with_dialect(given.options, text)?,
+            ..given
+        }),
+        Value::Encoding => Some(Given {
+            options: with_encoding(given.options, text)?,
             ..given
         }),
         Value::Count => Some(Given {
@@ -104,6 +112,30 @@ fn dialect_of(name: &str) -> Option<Dialect>
     match name {
         "regress" => Some(Dialect::Regress),
         "ecma" => Some(Dialect::Ecma),
+        _ => None,
+    }
+}
+
+/// Sets the encoding of inputs by its name.
+fn with_encoding(options: Options, name: &str) -> Option<Options>
+    ensures { result ≡ with_encoding name.now options }
+{
+    let encoding = encoding_of(name)?;
+    Some(Options {
+        input: InputForm {
+            encoding,
+            ..options.input
+        },
+        ..options
+    })
+}
+
+fn encoding_of(name: &str) -> Option<Encoding>
+    ensures { result ≡ encoding_of name.now }
+{
+    match name {
+        "utf-8" => Some(Encoding::Utf8),
+        "bytes" => Some(Encoding::Bytes),
         _ => None,
     }
 }

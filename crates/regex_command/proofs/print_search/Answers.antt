@@ -21,7 +21,7 @@ returns-in-Ok-clause-all g c =
     let walked = c.in_ok-walked.walked in
     let task = job wanted.task in
     let input = g.I.Read.remaining c.args.input in
-    let inputs = inputs_of task wanted.multiline walked.several (found_of walked).files input in
+    let inputs = inputs_of task wanted.form walked.several (found_of walked).files input in
     let old = g.W.Write.contents c.args.out.now in
     let between = g.W.Write.contents c.search_all-result.new.out in
     let new = g.W.Write.contents c.flush-flushed.new.out in
@@ -32,15 +32,15 @@ returns-in-Ok-clause-all g c =
     subst (λ (x : Job × List Input). WritesInputs r x.0 x.1 old between unread any)
     (λ j. (
       job (search.ensures.task j),
-      inputs_of (job (search.ensures.task j)) (search.ensures.multiline j) (search.ensures.several j) (search.ensures.files j) input,
+      inputs_of (job (search.ensures.task j)) (search.ensures.form j) (search.ensures.several j) (search.ensures.files j) input,
     ))
     (subst (λ result. IfOk result (WritesInputs r (job search.result.task)
-    (inputs_of (job search.result.task) search.result.multiline search.result.several (map string_bytes search.result.files.now) input) old between unread))
+    (inputs_of (job search.result.task) search.result.form search.result.several (map string_bytes search.result.files.now) input) old between unread))
     c.in-Ok.is c.search_all-result.ensures.all) in
     let read : c.are_read.result ≡ are_read (found_of walked).unread unread =
     c.are_read.ensures ∙ ap (λ items. are_read (map unread_path items) (map unread_of c.deref-in-Ok-2.result.now)) c.deref-in-Ok.ensures.value
     ∙ ap (λ items. are_read (found_of walked).unread (map unread_of items)) c.deref-in-Ok-2.ensures.value in
-    prints_all dialect setting c.args.wanted.pattern.text.now task wanted.multiline (file_list wanted.files) input old new r c.in_ok-regex.ensures.own.compiled
+    prints_all dialect setting c.args.wanted.pattern.text.now task wanted.form (file_list wanted.files) input old new r c.in_ok-regex.ensures.own.compiled
     (found_of walked) c.in_ok-walked.ensures any unread c.found.result (sym (ap (is_complete task any) read) ∙ c.found.ensures.complete) c.found.ensures.found
     (all.0, all.1, appends_kept old between new all.0 all.2 c.flush-flushed.ensures.kept)
 
@@ -53,7 +53,7 @@ returns-in-Ok-clause-first g c =
     let walked = c.in_ok-walked.walked in
     let task = job wanted.task in
     let input = g.I.Read.remaining c.args.input in
-    let inputs = inputs_of task wanted.multiline walked.several (found_of walked).files input in
+    let inputs = inputs_of task wanted.form walked.several (found_of walked).files input in
     let old = g.W.Write.contents c.args.out.now in
     let between = g.W.Write.contents c.search_all-result.new.out in
     let new = g.W.Write.contents c.flush-flushed.new.out in
@@ -64,15 +64,15 @@ returns-in-Ok-clause-first g c =
     subst (λ (x : Job × List Input). WritesInputs r x.0 x.1 old between unread any)
     (λ j. (
       job (search.ensures.task j),
-      inputs_of (job (search.ensures.task j)) (search.ensures.multiline j) (search.ensures.several j) (search.ensures.files j) input,
+      inputs_of (job (search.ensures.task j)) (search.ensures.form j) (search.ensures.several j) (search.ensures.files j) input,
     ))
     (subst (λ result. IfOk result (WritesInputs r (job search.result.task)
-    (inputs_of (job search.result.task) search.result.multiline search.result.several (map string_bytes search.result.files.now) input) old between unread))
+    (inputs_of (job search.result.task) search.result.form search.result.several (map string_bytes search.result.files.now) input) old between unread))
     c.in-Ok.is c.search_all-result.ensures.all) in
     let read : c.are_read.result ≡ are_read (found_of walked).unread unread =
     c.are_read.ensures ∙ ap (λ items. are_read (map unread_path items) (map unread_of c.deref-in-Ok-2.result.now)) c.deref-in-Ok.ensures.value
     ∙ ap (λ items. are_read (found_of walked).unread (map unread_of items)) c.deref-in-Ok-2.ensures.value in
-    prints_incomplete dialect setting c.args.wanted.pattern.text.now task wanted.multiline (file_list wanted.files) input old new r
+    prints_incomplete dialect setting c.args.wanted.pattern.text.now task wanted.form (file_list wanted.files) input old new r
     c.in_ok-regex.ensures.own.compiled (found_of walked) c.in_ok-walked.ensures any unread (c.flush-flushed.new.out ≡ c.args.out.now) c.found.result
     (sym (ap (is_complete task any) read) ∙ c.found.ensures.complete) c.found.ensures.failed
     (all.0, all.1, appends_kept old between new all.0 all.2 c.flush-flushed.ensures.kept)
@@ -114,7 +114,7 @@ returns-clause-first g c =
     let walked = c.in_ok-walked.walked in
     let task = job wanted.task in
     let input = g.I.Read.remaining c.args.input in
-    let inputs = inputs_of task wanted.multiline walked.several (found_of walked).files input in
+    let inputs = inputs_of task wanted.form walked.several (found_of walked).files input in
     let old = g.W.Write.contents c.args.out.now in
     let between = g.W.Write.contents c.search_all-result.new.out in
     let new = g.W.Write.contents c.flush-flushed.new.out in
@@ -126,14 +126,14 @@ returns-clause-first g c =
     subst (λ (x : Job × List Input). OrOutput (WritesSomeOf r x.0 x.1 old between unread) failure)
     (λ j. (
       job (search.ensures.task j),
-      inputs_of (job (search.ensures.task j)) (search.ensures.multiline j) (search.ensures.several j) (search.ensures.files j) input,
+      inputs_of (job (search.ensures.task j)) (search.ensures.form j) (search.ensures.several j) (search.ensures.files j) input,
     ))
     (subst (λ result. IfErr result (OrOutput (WritesSomeOf r (job search.result.task)
-    (inputs_of (job search.result.task) search.result.multiline search.result.several (map string_bytes search.result.files.now) input) old between unread)))
+    (inputs_of (job search.result.task) search.result.form search.result.several (map string_bytes search.result.files.now) input) old between unread)))
     c.in-Err.is c.search_all-result.ensures.first) in
-    subst (λ failure. OrOutput (same ⊎ PrintsFirst dialect setting text task wanted.multiline (file_list wanted.files) input old new failure) failure)
+    subst (λ failure. OrOutput (same ⊎ PrintsFirst dialect setting text task wanted.form (file_list wanted.files) input old new failure) failure)
     (sym c.detached.ensures)
-    (prints_first dialect setting text task wanted.multiline (file_list wanted.files) input old new r c.in_ok-regex.ensures.own.compiled (found_of walked)
+    (prints_first dialect setting text task wanted.form (file_list wanted.files) input old new r c.in_ok-regex.ensures.own.compiled (found_of walked)
     c.in_ok-walked.ensures (IsCostly r) same unread failure
     (subst (λ result. IfErr result (IsSearchFailure (IsCostly r))) c.in-Err.is c.search_all-result.ensures.failed)
     (or_output (WritesSomeOf r task inputs old between unread) (WritesSomeOf r task inputs old new unread) failure first

@@ -10,7 +10,7 @@ pub returns-clause-first : goal.returns-clause-first
 returns-clause-first g c =
     let search = c.args.search in
     let task = job search.task in
-    let inputs = inputs_of task search.multiline search.several (map string_bytes search.files.now) (g.I.Read.remaining c.args.input) in
+    let inputs = inputs_of task search.form search.several (map string_bytes search.files.now) (g.I.Read.remaining c.args.input) in
     let old = g.W.Write.contents c.args.out.now in
     let new = g.W.Write.contents c.search_files-result.new.out in
     subst (λ r. IfErr c.search_files-result.result (OrOutput (WritesSomeOf r task inputs old new (all_unread c.search_files-result.new.unread))))

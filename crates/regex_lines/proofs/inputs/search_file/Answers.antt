@@ -1,27 +1,9 @@
-use Rattle.std.proofs.Common.{inr, None, subst}
-use Rattle.regex_lines.specs.Searched.{named}
-use Rattle.regex_lines.specs.Unread.{IsSkipped, all_unread}
-use Rattle.regex_options.specs.Plain.{job}
-use Rattle.regex_lines.proofs.SearchLemmas.{nothing_first}
-use Rattle.regex_lines.proofs.SkipLemmas.{skipped}
+use Rattle.std.proofs.Common.{◌∙◌, ap, sym}
+use Rattle.std.specs.Prelude.{is_some}
 use Rattle.regex_lines.proofs.inputs.search_file.Goals as goal
 
-pub returns-in-Err-clause-all : goal.returns-in-Err-clause-all
-returns-in-Err-clause-all g c =
-    let r = c.args.search.searcher.now.regex.now in
-    let task = job c.args.search.task in
-    let place = named c.args.search.place in
-    let out = g.W.Write.contents c.args.out.now in
-    (skipped ⊥ r task place None out out (all_unread c.args.unread.now) (all_unread c.skip.new.unread) c.read_failure.result c.skip.result
-    (inr (nothing_first r task place None out)) c.read_failure.ensures.search
-    (subst (λ name. IsSkipped c.read_failure.result name (all_unread c.args.unread.now) (all_unread c.skip.new.unread) c.skip.result) c.name-name.ensures c.skip.ensures)).all
+pub rewrite_next-requires : goal.rewrite_next-requires
+rewrite_next-requires g c = sym c.in_place.ensures ∙ ap is_some c.in-Some.is
 
-pub returns-in-Err-clause-first : goal.returns-in-Err-clause-first
-returns-in-Err-clause-first g c =
-    let r = c.args.search.searcher.now.regex.now in
-    let task = job c.args.search.task in
-    let place = named c.args.search.place in
-    let out = g.W.Write.contents c.args.out.now in
-    (skipped ⊥ r task place None out out (all_unread c.args.unread.now) (all_unread c.skip.new.unread) c.read_failure.result c.skip.result
-    (inr (nothing_first r task place None out)) c.read_failure.ensures.search
-    (subst (λ name. IsSkipped c.read_failure.result name (all_unread c.args.unread.now) (all_unread c.skip.new.unread) c.skip.result) c.name-name.ensures c.skip.ensures)).first
+pub open_file-requires : goal.open_file-requires
+open_file-requires g c = sym c.in_place.ensures ∙ ap is_some c.in-None.is

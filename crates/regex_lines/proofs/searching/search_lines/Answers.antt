@@ -36,7 +36,7 @@ pub returns-in-End-clause-all : goal.returns-in-End-clause-all
 returns-in-End-clause-all g c =
     all c.args.search.searcher.now.regex.now (job c.args.search.task) (named c.args.search.place) (g.B.Read.remaining c.args.reader.now) (g.W.Write.contents c.args.out.now)
     (g.B.Read.remaining c.loop-window.reader) (g.W.Write.contents c.loop-window.out) (window_of c.loop-window.window) c.loop-window.invariant
-    (is_end c.args.search.place.multiline (g.B.Read.remaining c.loop-window.reader) (g.B.Read.remaining c.next_line.new.reader) c.next_line.new.line.items
+    (is_end c.args.search.place.form.multiline (g.B.Read.remaining c.loop-window.reader) (g.B.Read.remaining c.next_line.new.reader) c.next_line.new.line.items
     (rw c.in-End.is at c.in_ok-next.ensures.read))
 
 pub returns-in_err-search_line-clause-first : goal.returns-in_err-search_line-clause-first
@@ -60,7 +60,7 @@ search_line-requires-clause-kept g c =
 
 pub returns-then-is_last-clause-all : goal.returns-then-is_last-clause-all
 returns-then-is_last-clause-all g c =
-    let multiline = c.args.search.place.multiline in
+    let multiline = c.args.search.place.form.multiline in
     let old = g.B.Read.remaining c.loop-window.reader in
     let new = g.B.Read.remaining c.next_line.new.reader in
     let ended = c.is_ended.result in
@@ -73,7 +73,7 @@ returns-then-is_last-clause-all g c =
 
 pub loop-window-preserved : goal.loop-window-preserved
 loop-window-preserved g c =
-    let multiline = c.args.search.place.multiline in
+    let multiline = c.args.search.place.form.multiline in
     let old = g.B.Read.remaining c.loop-window.reader in
     let new = g.B.Read.remaining c.next_line.new.reader in
     let is : c.in_ok-next.next ≡ Line = line_of c.in_ok-next.next c.in_default.not-End (sym c.is_last.ensures ∙ c.if-is_last.false) in
