@@ -20,7 +20,7 @@ use Rattle.regress_front.specs.declared.parse.Dialect.{Dialect}
 use Rattle.regress_tree.specs.Steps.{Setting}
 use Rattle.regex_lines.specs.Ending.{IsCostlyPatternIn, IsLate, IsSearchFailure, MayFailToRead, options_in, setting_in}
 use Rattle.regex_command.specs.Joined.{AreJoinable, are_parts, are_several, joined, refers, takes_several}
-use Rattle.regex_command.specs.Patterns.{IsExplanationIn, MayFailToExplain, MayFailToLint, IsReport, IsTreeOutput, IsQuietFor, IsShowFailure}
+use Rattle.regex_command.specs.Patterns.{IsAcceptedPattern, IsExplanationIn, MayFailToExplain, MayFailToLint, IsReport, IsTreeOutput, IsQuietFor, IsShowFailure}
 use Rattle.regex_lines.specs.Searched.{Input, WritesInputs, WritesSomeOf, inputs_of, is_nothing}
 use Rattle.regex_lines.specs.Unread.{Unread}
 use Rattle.regex_lines.specs.Walk.{Found, IsFound}
@@ -48,14 +48,14 @@ IsUnread (in_file name) failure = MayFailToRead failure
 abbrev pub AreUnread : List Source → Failure → Type 0
 AreUnread sources failure = Any (λ source. IsUnread source failure) sources
 
--- No pattern is accepted, or it is too large, or memory is short.
+-- No pattern is accepted, or one is that is too large for a search, or memory is short.
 abbrev pub IsRejected : Dialect → Setting → (text : List ℕ) → Failure → Type 0
 IsRejected dialect setting text Argument = ⊥
 IsRejected dialect setting text Memory = ⊤
 IsRejected dialect setting text Output = ⊥
 IsRejected dialect setting text Closed = ⊥
 IsRejected dialect setting text (Syntax pattern message position) = NoneIsAcceptedIn dialect setting (chars text)
-IsRejected dialect setting text TooLarge = IsTooLarge setting (chars text) (options_in dialect)
+IsRejected dialect setting text TooLarge = IsAcceptedPattern dialect setting (chars text) × IsTooLarge setting (chars text) (options_in dialect)
 IsRejected dialect setting text OutOfSteps = ⊥
 IsRejected dialect setting text (Unreadable unread) = ⊥
 IsRejected dialect setting text Incomplete = ⊥
