@@ -175,6 +175,26 @@ static void rooms(void) {
     regress_free(&regex);
 }
 
+/* A search for one match allocates its captures and its stack: nothing if the pattern has no group, and no choice is left
+   open. What it finds is written to the buffer without a further allocation. */
+static void allocations(void) {
+    regress_regex regex;
+    CHECK(compiled("abc", SMALL, &regex) == REGRESS_OK);
+    long before = requests;
+    CHECK(regress_is_match(&regex, (const uint8_t *)"xabcx", 5) == REGRESS_OK);
+    CHECK(found(&regex, "xabcx", 0, ROOM) == REGRESS_OK && ARE(1, 4));
+    CHECK(found(&regex, "xabx", 0, ROOM) == REGRESS_NO_MATCH);
+    CHECK(requests == before);
+    regress_free(&regex);
+    CHECK(compiled("(a)(b)|(c)", SMALL, &regex) == REGRESS_OK);
+    before = requests;
+    CHECK(regress_is_match(&regex, (const uint8_t *)"xabx", 4) == REGRESS_OK);
+    long testing = requests - before;
+    CHECK(found(&regex, "xabx", 0, ROOM) == REGRESS_OK && ARE(1, 3, 1, 2, 2, 3, REGRESS_UNSET, REGRESS_UNSET));
+    CHECK(requests == before + 2 * testing);
+    regress_free(&regex);
+}
+
 /* A buffer for texts, and one more byte that must stay unchanged. */
 static uint8_t bytes[ROOM + 1];
 
@@ -937,6 +957,7 @@ int main(void) {
     searches();
     dialects();
     rooms();
+    allocations();
     errors();
     limits();
     lists();
