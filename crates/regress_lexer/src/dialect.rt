@@ -8,10 +8,12 @@ pub enum Dialect {
     /// The dialect of `try_parse`: each flag has its effect independently, a quantifier may follow `\b` and `\B`, and
     /// `\u{..}` is an escape under all flags.
     Regress,
-    /// These rules as in ECMA-262 with Annex B: the flag v implies the flag u, no quantifier may follow `\b` and `\B`,
-    /// `\u{..}` is an escape only with the flag u, beside a group with a name `\k` is an error in a class, classes with the
-    /// flag v, references to several groups of one name, the order of a property's strings, which characters a class has with the flag i, and without the flag
-    /// u a code point above U+FFFF in a class is two code units. The other rules are still those of `Regress`.
+    /// The syntax of ECMA-262 (2025 edition) with Annex B, but for the limits that `docs/differences.md` lists. Unlike in
+    /// `Regress`, the flag v implies the flag u, no quantifier may follow `\b` and `\B`, `\u{..}` is an escape only with
+    /// the flag u, and beside a group with a name `\k` is an error in a class. A class has the characters of
+    /// CompileToCharSet with the flag i, and the grammar of ClassSetExpression with the flag v; without the flag u a code
+    /// point above U+FFFF in it is two code units. A reference to several groups of one name matches what the one that is
+    /// set has captured, and of the strings of a property the longest are tried first.
     Ecma,
 }
 
