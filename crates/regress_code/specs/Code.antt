@@ -11,7 +11,8 @@ use Rattle.regress_unicode.specs.TableOf.{table_of}
 use Rattle.regress_program.specs.Cost.{Cost, blocks, cost_of}
 use Rattle.regress_found.specs.Found.{initial_state}
 use Rattle.regress_program.specs.Program.{Out, Routine, matcher_of}
-use Rattle.regress_program.specs.Search.{flags_of, groups_of, is_known_tidy, routines_of}
+use Rattle.regress_program.specs.declared.counts.Counts.{Counts}
+use Rattle.regress_program.specs.Search.{counts_of, flags_of, groups_of, is_known_tidy, routines_of}
 use Rattle.regress_code.specs.declared.code.Code.{Code}
 
 -- the routines of a program
@@ -25,6 +26,10 @@ code_flags code = flags_of code.program
 -- the number of groups of its pattern
 abbrev pub code_groups : Code → ℕ
 code_groups code = groups_of code.program
+
+-- how large the counts of its instructions are
+abbrev pub code_counts : Code → Counts
+code_counts code = counts_of code.program
 
 -- its lookarounds that capture are known to begin with their groups unset
 abbrev pub code_tidy : Code → Bool

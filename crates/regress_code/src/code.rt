@@ -4,8 +4,8 @@ ghost use Rattle.regress_tree.specs.Tree.{tree};
 ghost use Rattle.regress_tree.specs.WellFormed.{IsWellFormed, captures};
 ghost use Rattle.regress_program.specs.Compiled.{IsPattern, total};
 ghost use Rattle.regress_program.specs.Linear.{has_back_reference, is_linear, is_linear_tree, reason};
-ghost use Rattle.regress_program.specs.Search.{flags_of, groups_of, is_known_tidy, routines_of};
-ghost use Rattle.regress_program.specs.Size.{program_size};
+ghost use Rattle.regress_program.specs.Search.{counts_of, flags_of, groups_of, is_known_tidy, routines_of};
+ghost use Rattle.regress_program.specs.Size.{compiled_size, counts_within, is_bounded, least_size};
 ghost use Rattle.regress_program.specs.Tidy.{has_no_back_reference, table_groups as groups_by_tables};
 ghost use Rattle.regress_program.specs.declared.fault.CompileFault.TheVariants.{TooLong};
 ghost use Rattle.regress_code.specs.Candidates.{BeginsAt, BeginsAt-prop};
@@ -35,7 +35,7 @@ pub struct Code {
 }
 
 impl Code {
-    ghost use Rattle.regress_code.specs.Code.{code_flags, code_groups, code_routines, code_tidy};
+    ghost use Rattle.regress_code.specs.Code.{code_counts, code_flags, code_groups, code_routines, code_tidy};
 
     /// Compiles a pattern into a program of at most `limit` instructions, and analyzes it.
     ///
@@ -43,8 +43,7 @@ impl Code {
     /// That of [`Program::compile`], and linear in the size of the tree and the number of instructions.
     ///
     /// # Errors
-    /// Returns [`CompileFault::TooLong`] only if the program would have more than `limit` instructions, and
-    /// [`CompileFault::Memory`] if an allocation fails.
+    /// Those of [`Program::compile`].
     pub fn compile(alloc: Global, regex: &Regex, limit: usize) -> Result<Code, CompileFault>
         ensures pattern { IfOk result (λ code. IsPattern (code_routines code) (tree regex.now.node)) }
         ensures flags { IfOk result (λ code. code_flags code ≡ regex.now.flags) }
@@ -52,9 +51,10 @@ impl Code {
         ensures linear { IfOk result (λ code. is_linear (code_routines code) ≡ is_linear_tree (tree regex.now.node)) }
         ensures plain { IfOk result (λ code. has_no_back_reference (code_routines code) ≡ not (has_back_reference (tree regex.now.node))) }
         ensures tidy { IfOk result (λ code. IsWellFormed (tree regex.now.node) → code_tidy code ≡ true) }
-        ensures size { IfOk result (λ code. total (code_routines code) ≡ program_size (tree regex.now.node)) }
+        ensures size { IfOk result (λ code. total (code_routines code) ≡ compiled_size limit (tree regex.now.node)) }
+        ensures counts { IfOk result (λ code. code_counts code ≡ counts_within limit (tree regex.now.node)) }
         ensures within { IfOk result (λ code. total (code_routines code) ≤ limit) }
-        ensures too_long { result ≡ Err TooLong → limit < program_size (tree regex.now.node) }
+        ensures too_long { result ≡ Err TooLong → limit < least_size (tree regex.now.node) }
     {
         let program = Program::compile(alloc, regex, limit)?;
         let candidates = candidates_of(&regex.node);
@@ -74,6 +74,7 @@ impl Code {
         ensures routines { IfOk result (λ code. code_routines code ≡ routines_of program) }
         ensures flags { IfOk result (λ code. code_flags code ≡ flags_of program) }
         ensures groups { IfOk result (λ code. code_groups code ≡ groups_of program) }
+        ensures counts { IfOk result (λ code. code_counts code ≡ counts_of program) }
         ensures tidy { IfOk result (λ code. code_tidy code ≡ is_known_tidy program) }
     {
         let folds = program.flags.icase;
@@ -91,6 +92,13 @@ impl Code {
         ensures { result ≡ min (total (code_routines self.now)) usize.MAX }
     {
         self.program.instructions()
+    }
+
+    /// Returns whether each instruction was compiled to match at most 64 characters, as [`Program::has_bounded_counts`].
+    pub fn has_bounded_counts(&self) -> bool
+        ensures { result ≡ is_bounded (code_counts self.now) }
+    {
+        self.program.has_bounded_counts()
     }
 
     /// Returns the number of capture groups of the pattern, at most `usize::MAX`.

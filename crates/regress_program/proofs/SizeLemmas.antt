@@ -5,6 +5,8 @@ use Rattle.regress_base.specs.declared.types.Quantifier.{Quantifier}
 use Rattle.regress_tree.specs.Tree.{tree, trees}
 use Rattle.regress_tree.specs.declared.ir.node.Node.{Node}
 use Rattle.regress_program.specs.Size.{size, size_of_exactly, size_of_up_to, size_of_optional, size_of_loop, size_of_parts}
+use Rattle.regress_program.specs.declared.counts.Counts.{Counts}
+use Rattle.regress_program.specs.declared.counts.Counts.TheVariants.{Bounded, Unbounded}
 use Rattle.regress_program.specs.declared.fault.CompileFault.{CompileFault}
 use Rattle.regress_program.specs.declared.fault.CompileFault.TheVariants.{TooLong}
 use Rattle.regress_program.proofs.ViewLemmas.{from_index}
@@ -31,49 +33,51 @@ loop-bounded q iteration most some = rw some refl
 
 -- ---- loops over one character
 
-pub exactly-more : (n part : ℕ) → part ≡ min n 64 → 0 < n → size_of_exactly n ≡ size_of_exactly (n - part) + 1
-exactly-more n part is some = omega (arith, is, some)
+pub exactly-one : (counts : Counts) → size_of_exactly counts 1 ≡ 1
+exactly-one Bounded = refl
+exactly-one Unbounded = refl
 
-up_to-same : (m m' n : ℕ) → n ≤ m → n ≤ m' → size_of_up_to m n ≡ size_of_up_to m' n
-unfolding size_of_up_to
-up_to-same zero zero n le le' = refl
-up_to-same zero (suc m') n le le' =
-    let none : (n == 0) ≡ true = eq-eqb n 0 (omega (arith, le)) in
-    sym (ap (λ (b : Bool). if b then 0 else if n % 2 == 0 then size_of_up_to m' (n - 1) + 2 else size_of_up_to m' (n / 2) + size_of_exactly (n / 2 + 1) + 1) none)
-up_to-same (suc m) zero n le le' =
-    let none : (n == 0) ≡ true = eq-eqb n 0 (omega (arith, le')) in
-    ap (λ (b : Bool). if b then 0 else if n % 2 == 0 then size_of_up_to m (n - 1) + 2 else size_of_up_to m (n / 2) + size_of_exactly (n / 2 + 1) + 1) none
-up_to-same (suc m) (suc m') n le le' =
-    ap₂ (λ (x y : ℕ). if n == 0 then 0 else if n % 2 == 0 then x + 2 else y + size_of_exactly (n / 2 + 1) + 1)
-    (up_to-same m m' (n - 1) (omega (arith, le)) (omega (arith, le'))) (up_to-same m m' (n / 2) (omega (arith, le)) (omega (arith, le')))
+module _ (counts : Counts) where
+  up_to-same : (m m' n : ℕ) → n ≤ m → n ≤ m' → size_of_up_to counts m n ≡ size_of_up_to counts m' n
+  unfolding size_of_up_to
+  up_to-same zero zero n le le' = refl
+  up_to-same zero (suc m') n le le' =
+      let none : (n == 0) ≡ true = eq-eqb n 0 (omega (arith, le)) in
+      sym (ap (λ (b : Bool). if b then 0 else if n % 2 == 0 then size_of_up_to counts m' (n - 1) + 2 else size_of_up_to counts m' (n / 2) + size_of_exactly counts (n / 2 + 1) + 1) none)
+  up_to-same (suc m) zero n le le' =
+      let none : (n == 0) ≡ true = eq-eqb n 0 (omega (arith, le')) in
+      ap (λ (b : Bool). if b then 0 else if n % 2 == 0 then size_of_up_to counts m (n - 1) + 2 else size_of_up_to counts m (n / 2) + size_of_exactly counts (n / 2 + 1) + 1) none
+  up_to-same (suc m) (suc m') n le le' =
+      ap₂ (λ (x y : ℕ). if n == 0 then 0 else if n % 2 == 0 then x + 2 else y + size_of_exactly counts (n / 2 + 1) + 1)
+      (up_to-same m m' (n - 1) (omega (arith, le)) (omega (arith, le'))) (up_to-same m m' (n / 2) (omega (arith, le)) (omega (arith, le')))
 
-pub up_to-none : (n : ℕ) → n ≡ 0 → size_of_up_to n n ≡ 0
-unfolding size_of_up_to
-up_to-none n none = up_to-same n 0 n (omega arith) (omega (arith, none))
+  pub up_to-none : (n : ℕ) → n ≡ 0 → size_of_up_to counts n n ≡ 0
+  unfolding size_of_up_to
+  up_to-none n none = up_to-same n 0 n (omega arith) (omega (arith, none))
 
-pub up_to-even : (n : ℕ) → (n ≡ 0 → ⊥) → n % 2 ≡ 0 → size_of_up_to n n ≡ size_of_up_to (n - 1) (n - 1) + 2
-unfolding size_of_up_to
-up_to-even zero some even = absurd (some refl)
-up_to-even (suc k) some even =
-    ap₂ (λ (a b : Bool). if a then 0 else if b then size_of_up_to k (suc k - 1) + 2 else size_of_up_to k (suc k / 2) + size_of_exactly (suc k / 2 + 1) + 1)
-    (ne_eqb (suc k) 0 some) (eq-eqb (suc k % 2) 0 even)
-    ∙ ap (λ (x : ℕ). x + 2) (up_to-same k (suc k - 1) (suc k - 1) (omega arith) (omega arith))
+  pub up_to-even : (n : ℕ) → (n ≡ 0 → ⊥) → n % 2 ≡ 0 → size_of_up_to counts n n ≡ size_of_up_to counts (n - 1) (n - 1) + 2
+  unfolding size_of_up_to
+  up_to-even zero some even = absurd (some refl)
+  up_to-even (suc k) some even =
+      ap₂ (λ (a b : Bool). if a then 0 else if b then size_of_up_to counts k (suc k - 1) + 2 else size_of_up_to counts k (suc k / 2) + size_of_exactly counts (suc k / 2 + 1) + 1)
+      (ne_eqb (suc k) 0 some) (eq-eqb (suc k % 2) 0 even)
+      ∙ ap (λ (x : ℕ). x + 2) (up_to-same k (suc k - 1) (suc k - 1) (omega arith) (omega arith))
 
-pub up_to-odd : (n : ℕ) → (n ≡ 0 → ⊥) → (n % 2 ≡ 0 → ⊥) → size_of_up_to n n ≡ size_of_up_to (n / 2) (n / 2) + size_of_exactly (n / 2 + 1) + 1
-unfolding size_of_up_to
-up_to-odd zero some odd = absurd (some refl)
-up_to-odd (suc k) some odd =
-    ap₂ (λ (a b : Bool). if a then 0 else if b then size_of_up_to k (suc k - 1) + 2 else size_of_up_to k (suc k / 2) + size_of_exactly (suc k / 2 + 1) + 1)
-    (ne_eqb (suc k) 0 some) (ne_eqb (suc k % 2) 0 odd)
-    ∙ ap (λ (x : ℕ). x + size_of_exactly (suc k / 2 + 1) + 1) (up_to-same k (suc k / 2) (suc k / 2) (omega arith) (omega arith))
+  pub up_to-odd : (n : ℕ) → (n ≡ 0 → ⊥) → (n % 2 ≡ 0 → ⊥) → size_of_up_to counts n n ≡ size_of_up_to counts (n / 2) (n / 2) + size_of_exactly counts (n / 2 + 1) + 1
+  unfolding size_of_up_to
+  up_to-odd zero some odd = absurd (some refl)
+  up_to-odd (suc k) some odd =
+      ap₂ (λ (a b : Bool). if a then 0 else if b then size_of_up_to counts k (suc k - 1) + 2 else size_of_up_to counts k (suc k / 2) + size_of_exactly counts (suc k / 2 + 1) + 1)
+      (ne_eqb (suc k) 0 some) (ne_eqb (suc k % 2) 0 odd)
+      ∙ ap (λ (x : ℕ). x + size_of_exactly counts (suc k / 2 + 1) + 1) (up_to-same k (suc k / 2) (suc k / 2) (omega arith) (omega arith))
 
 -- ---- sequences
 
-pub parts-more : (parts : List Node) (i j : ℕ) (x : Node) → j ≡ i - 1 → 0 < i → i ≤ length parts → x ≡ get_or parts j x →
-    size_of_parts (trees (drop j parts)) ≡ size (tree x) + size_of_parts (trees (drop i parts))
-parts-more parts i j x at some within is = ap (λ xs. size_of_parts (trees xs)) (from_index parts i j x at some within is)
+pub parts-more : (counts : Counts) (parts : List Node) (i j : ℕ) (x : Node) → j ≡ i - 1 → 0 < i → i ≤ length parts → x ≡ get_or parts j x →
+    size_of_parts counts (trees (drop j parts)) ≡ size counts (tree x) + size_of_parts counts (trees (drop i parts))
+parts-more counts parts i j x at some within is = ap (λ xs. size_of_parts counts (trees xs)) (from_index parts i j x at some within is)
 
-pub parts-within : (parts : List Node) (i : ℕ) → size_of_parts (trees (drop i parts)) ≤ size_of_parts (trees parts)
-parts-within parts zero = omega arith
-parts-within [] (suc i) = omega arith
-parts-within (x ∷ parts) (suc i) = omega (arith, parts-within parts i)
+pub parts-within : (counts : Counts) (parts : List Node) (i : ℕ) → size_of_parts counts (trees (drop i parts)) ≤ size_of_parts counts (trees parts)
+parts-within counts parts zero = omega arith
+parts-within counts [] (suc i) = omega arith
+parts-within counts (x ∷ parts) (suc i) = omega (arith, parts-within counts parts i)

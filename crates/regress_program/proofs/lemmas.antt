@@ -1,5 +1,6 @@
 -- Lemmas about the definitions of this crate, for use by other crates.
 pub mod Agreement
+pub mod Ahead
 pub mod Below
 pub mod Blocks
 pub mod Costs

@@ -102,4 +102,4 @@ looping i q f = repeated q i.start i.end f
 
 -- how many instructions one iteration of a loop over the tree has
 abbrev pub iteration_size : Iterations → Tree → ℕ
-iteration_size i t = size_of_iteration i.start i.end (size t)
+iteration_size i t = size_of_iteration i.start i.end (size i.counts t)

@@ -6,7 +6,7 @@ use Rattle.regress_tree.specs.Matching.{steps}
 use Rattle.regress_tree.specs.Reading.{Direction, forwards, backwards}
 use Rattle.regress_tree.specs.Repetition.{unset}
 use Rattle.regress_tree.specs.Steps.{CaptureSpan, MatchState, Matcher, Setting}
-use Rattle.regress_tree.specs.Tree.{Tree, leaf, back_ref}
+use Rattle.regress_tree.specs.Tree.{Tree, leaf, wrapped, back_ref, loop_one}
 use Rattle.regress_program.specs.Program.{Out, At, Routine, Op, accept, fail, part, split, begin_loop, repeat, end_loop, unsets, begin_group, end_group, look, goto, enter, reach, ended, start, matcher_of, IsSolution}
 
 -- the cost from wherever a routine is
@@ -28,9 +28,14 @@ abbrev pub copy_cost : (icase : Bool) → (ahead : ℕ) → Option CaptureSpan �
 copy_cost icase ahead None = 0
 copy_cost icase ahead (Some span) = if icase then min (abs_diff span.0 span.1) ahead else blocks (min (abs_diff span.0 span.1) ahead)
 
--- the steps for the comparison that a leaf makes, if it is a back reference
+-- the steps for an exact number of characters where the text ends `ahead` bytes further: one for each 64 after the first
+abbrev pub characters_cost : (ahead count : ℕ) → ℕ
+characters_cost ahead count = blocks (min (count - 1) ahead)
+
+-- the steps for what a part compares, if it is a back reference or an exact number of characters
 abbrev pub compared : (ahead : ℕ) → Tree → MatchState → ℕ
 compared ahead (leaf (back_ref group icase)) s = copy_cost icase ahead (get_or s.captures (group - 1) None)
+compared ahead (wrapped (loop_one q) body) s = characters_cost ahead q.min
 compared ahead t s = 0
 
 -- the steps for unsetting the groups start to end - 1 of this number

@@ -1,6 +1,7 @@
 -- What a program is.
 use Rattle.std.specs.Prelude.{ℕ, Bool, List}
 use Rattle.regress_base.specs.declared.types.Flags.{Flags}
+use Rattle.regress_program.specs.declared.counts.Counts.{Counts}
 use Rattle.regress_program.specs.declared.program.Program.{Program}
 use Rattle.regress_program.specs.Compiled.{total}
 use Rattle.regress_program.specs.Program.{Routine}
@@ -17,6 +18,10 @@ flags_of p = p.flags
 -- the number of groups of a program
 abbrev pub groups_of : Program → ℕ
 groups_of p = p.groups
+
+-- how large the counts of its instructions are
+abbrev pub counts_of : Program → Counts
+counts_of p = p.counts
 
 -- its lookarounds that capture are known to begin with their groups unset
 abbrev pub is_known_tidy : Program → Bool

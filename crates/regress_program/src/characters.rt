@@ -7,30 +7,29 @@ ghost use Rattle.regress_program.specs.Size.{size_of_exactly, size_of_up_to};
 ghost use Rattle.regress_program.specs.declared.fault.CompileFault.TheVariants.{TooLong};
 
 use crate::compiler::Compiler;
+use crate::counts::Counts;
 use crate::fault::CompileFault;
 use crate::instruction::Instruction;
-
-/// The largest number of characters that one instruction matches, so that a step takes constant time.
-const MOST: usize = 64;
 
 impl Compiler {
     /// Compiles exactly `count` characters that match a leaf, the last ones first.
     pub(crate) fn exactly(
         &mut self,
         leaf: usize,
+        counts: Counts,
         count: usize,
         next: usize,
     ) -> Result<usize, CompileFault>
         requires { next < length self.old.instructions.items }
         ensures emits { IfOk result (EmitsCharacters self.old self.new leaf (exactly count) next) }
-        ensures spends { IfOk result (λ _. Spends self.old self.new (size_of_exactly count)) }
+        ensures spends { IfOk result (λ _. Spends self.old self.new (size_of_exactly counts count)) }
         ensures leaf { self.new.next_leaf ≡ self.old.next_leaf }
-        ensures too_long { IfErr result (λ fault. fault ≡ TooLong → self.old.left < size_of_exactly count) }
+        ensures too_long { IfErr result (λ fault. fault ≡ TooLong → self.old.left < size_of_exactly counts count) }
     {
         let mut entry = next;
         let mut left = count;
         while left > 0 {
-            let part = left.min(MOST);
+            let part = counts.part_of(left);
             entry = self.characters(leaf, part, entry)?;
             left -= part;
         }
@@ -41,30 +40,31 @@ impl Compiler {
     ///
     /// An odd number is split in half: of 2 h + 1 characters the first h + 1 or none, and after them at most h. Of an even
     /// number it is the first one and after it at most one less, or none. So there are at most four instructions for each
-    /// bit of the number, and one for 64 characters.
+    /// bit of the number, and with bounded counts one for 64 characters.
     pub(crate) fn up_to(
         &mut self,
         leaf: usize,
         greedy: bool,
+        counts: Counts,
         count: usize,
         next: usize,
     ) -> Result<usize, CompileFault>
         requires { next < length self.old.instructions.items }
         ensures emits { IfOk result (EmitsCharacters self.old self.new leaf (optional greedy count) next) }
-        ensures spends { IfOk result (λ _. Spends self.old self.new (size_of_up_to count count)) }
+        ensures spends { IfOk result (λ _. Spends self.old self.new (size_of_up_to counts count count)) }
         ensures leaf { self.new.next_leaf ≡ self.old.next_leaf }
-        ensures too_long { IfErr result (λ fault. fault ≡ TooLong → self.old.left < size_of_up_to count count) }
+        ensures too_long { IfErr result (λ fault. fault ≡ TooLong → self.old.left < size_of_up_to counts count count) }
     {
         if count == 0 {
             return Ok(next);
         }
         if count % 2 == 0 {
-            let rest = self.up_to(leaf, greedy, count - 1, next)?;
-            let first = self.exactly(leaf, 1, rest)?;
+            let rest = self.up_to(leaf, greedy, counts, count - 1, next)?;
+            let first = self.exactly(leaf, counts, 1, rest)?;
             self.prefer(greedy, first, next)
         } else {
-            let rest = self.up_to(leaf, greedy, count / 2, next)?;
-            let first = self.exactly(leaf, count / 2 + 1, rest)?;
+            let rest = self.up_to(leaf, greedy, counts, count / 2, next)?;
+            let first = self.exactly(leaf, counts, count / 2 + 1, rest)?;
             self.prefer(greedy, first, rest)
         }
     }

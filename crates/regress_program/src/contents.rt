@@ -3,10 +3,12 @@ ghost use Rattle.std.specs.Prelude.{◌≡◌, ◌<◌, List, length, min};
 ghost use Rattle.regress_leaves.specs.declared.test.Test.{Test};
 ghost use Rattle.regress_program.specs.Compiled.{total};
 ghost use Rattle.regress_program.specs.Linear.{reason};
-ghost use Rattle.regress_program.specs.Search.{groups_of, instructions_of, is_known_tidy, routines_of};
+ghost use Rattle.regress_program.specs.Search.{counts_of, groups_of, instructions_of, is_known_tidy, routines_of};
+ghost use Rattle.regress_program.specs.Size.{is_bounded};
 ghost use Rattle.regress_program.specs.Tidy.{table_groups as groups_by_tables};
 ghost use Rattle.regress_program.specs.Views.{program_in};
 
+use crate::counts::Counts;
 use crate::instruction::Routine;
 use crate::nonlinear::Nonlinear;
 use crate::program::Program;
@@ -17,6 +19,17 @@ impl Program {
         ensures { result ≡ min (instructions_of self.now) usize.MAX }
     {
         self.instructions
+    }
+
+    /// Returns whether each instruction was compiled to match at most 64 characters, so that a step takes constant time.
+    /// Otherwise the program of such instructions is longer than the limit on its length.
+    pub fn has_bounded_counts(&self) -> bool
+        ensures { result ≡ is_bounded (counts_of self.now) }
+    {
+        match self.counts {
+            Counts::Bounded => true,
+            Counts::Unbounded => false,
+        }
     }
 
     /// Returns the number of capture groups of the pattern, at most `usize::MAX`.

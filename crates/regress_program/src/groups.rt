@@ -1,11 +1,10 @@
-//! The capture groups of a pattern: their number, and their captures at the start of a match.
-ghost use Rattle.std.specs.Prelude.{◌≡◌, ◌+◌, ◌<◌, ◌^◌, None, IfOk, length, min, replicate};
+//! The number of capture groups of a pattern.
+ghost use Rattle.std.specs.Prelude.{◌≡◌, ◌+◌, length, min};
 ghost use Rattle.regress_tree.specs.Gathered.{own_group};
 ghost use Rattle.regress_tree.specs.Tree.{tree};
 ghost use Rattle.regress_tree.specs.WellFormed.{captures};
 
 use regress_tree::ir::{Node, Walk, walk};
-use std::alloc::{AllocError, Global};
 
 /// A counter of capture groups.
 #[derive(Drop)]
@@ -36,22 +35,4 @@ pub(crate) fn group_count(node: &Node) -> usize
     let mut visit = |node: &Node, _: &mut Walk| counter.visit(node);
     walk(false, false, node, &mut visit);
     counter.groups
-}
-
-/// Returns the captures of `count` groups, all unset.
-///
-/// # Errors
-/// Returns [`AllocError`] if an allocation fails.
-///
-/// # Complexity
-/// Linear in `count`.
-pub fn unset_groups(alloc: Global, count: usize) -> Result<Vec<Option<(usize, usize)>>, AllocError>
-    ensures items { IfOk result (λ spans. spans.items ≡ replicate count None) }
-    ensures room { IfOk result (λ _. count < 2 ^ 63) }
-{
-    let mut spans = Vec::with_capacity(alloc, count)?;
-    while spans.len() < count {
-        spans.push(None)?;
-    }
-    Ok(spans)
 }

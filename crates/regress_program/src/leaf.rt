@@ -2,7 +2,7 @@
 ghost use Rattle.std.specs.Prelude.{◌≡◌, ◌-◌, None, Some, get_or, length};
 ghost use Rattle.regress_leaves.specs.Leaves.{put};
 ghost use Rattle.regress_leaves.specs.Subject.{subject};
-ghost use Rattle.regress_program.specs.Cost.{bytes_ahead, compared, copy_cost};
+ghost use Rattle.regress_program.specs.Cost.{bytes_ahead, characters_cost, compared, copy_cost};
 ghost use Rattle.regress_found.specs.Found.{state};
 ghost use Rattle.regress_program.specs.Shape.{IsPart};
 ghost use Rattle.regress_tree.specs.Matching.{steps};
@@ -17,7 +17,8 @@ use regress_tree::ir::Node;
 
 /// Returns the position at which a leaf, or a fixed number of characters, ends, or `None` if it fails. The comparison of a
 /// back reference with its capture is subtracted from the remaining steps: one for each 64 bytes, or with `icase` for
-/// each byte. What is longer than the rest of the text counts as that.
+/// each byte; and that of characters, one for each 64 after the first. What is longer than the rest of the text counts as
+/// that.
 ///
 /// # Preconditions
 /// The node is a leaf, and no set of strings unless it has exactly one string; or a loop over one character whose minimum
@@ -51,6 +52,8 @@ pub fn leaf_end(
             icase,
         } => all_of(text, rules, *icase, &alternatives[0], position),
         Node::Loop1CharBody { loopee, quant } => {
+            let ahead = bytes_ahead(text, rules.backwards, position);
+            *left = left.saturating_sub(characters_steps(quant.min, ahead));
             exactly(text, rules, loopee, quant.min, position)
         }
         _ => simple_leaf(text, rules, node, position),
@@ -70,7 +73,7 @@ fn capture_of(captures: &[Option<(usize, usize)>], group: u32) -> Option<(usize,
 }
 
 /// Returns the number of bytes from a position to where the text ends in the direction of matching.
-fn bytes_ahead(text: &str, backwards: bool, position: usize) -> usize
+pub fn bytes_ahead(text: &str, backwards: bool, position: usize) -> usize
     ensures { result ≡ bytes_ahead (direction_if backwards) (length text.now) position }
 {
     if backwards {
@@ -78,6 +81,13 @@ fn bytes_ahead(text: &str, backwards: bool, position: usize) -> usize
     } else {
         text.len().saturating_sub(position)
     }
+}
+
+/// Returns the number of steps for an exact number of characters, where `ahead` bytes remain up to where the text ends.
+fn characters_steps(count: usize, ahead: usize) -> u64
+    ensures { result ≡ characters_cost ahead count }
+{
+    blocks(count.saturating_sub(1).min(ahead))
 }
 
 /// Returns the number of steps for a comparison with a capture, where `ahead` bytes remain up to where the text ends.

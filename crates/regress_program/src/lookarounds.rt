@@ -10,6 +10,7 @@ ghost use Rattle.regress_program.specs.Size.{size};
 ghost use Rattle.regress_program.specs.declared.fault.CompileFault.TheVariants.{TooLong};
 
 use crate::compiler::Compiler;
+use crate::counts::Counts;
 use crate::fault::CompileFault;
 use crate::instruction::{Instruction, Routine};
 use regress_tree::ir::Node;
@@ -23,15 +24,16 @@ impl Compiler {
         contents: &Node,
         negate: bool,
         backwards: bool,
+        counts: Counts,
         next: usize,
     ) -> Result<usize, CompileFault>
         requires { next < length self.old.instructions.items }
         ensures emits { IfOk result (Emits self.old self.new self.old.next_leaf (leaves_of (tree contents.now))
             (looking negate (direction_if backwards) (matching (tree contents.now))) (in_lookaround negate (content (tree contents.now))) next) }
-        ensures spends { IfOk result (λ _. Spends self.old self.new (size (tree contents.now) + 2)) }
-        ensures too_long { IfErr result (λ fault. fault ≡ TooLong → self.old.left < size (tree contents.now) + 2) }
+        ensures spends { IfOk result (λ _. Spends self.old self.new (size counts (tree contents.now) + 2)) }
+        ensures too_long { IfErr result (λ fault. fault ≡ TooLong → self.old.left < size counts (tree contents.now) + 2) }
     {
-        let routine = self.routine(contents, backwards)?;
+        let routine = self.routine(contents, backwards, counts)?;
         self.push(Instruction::Look {
             negate,
             routine,
@@ -41,15 +43,20 @@ impl Compiler {
 
     /// Compiles a node as a routine, and returns its index.
     #[cycle(compile)]
-    pub(crate) fn routine(&mut self, node: &Node, backwards: bool) -> Result<usize, CompileFault>
+    pub(crate) fn routine(
+        &mut self,
+        node: &Node,
+        backwards: bool,
+        counts: Counts,
+    ) -> Result<usize, CompileFault>
         ensures emits { IfOk result (EmitsRoutine self.old self.new (leaves_of (tree node.now)) (matching (tree node.now)) (content (tree node.now))
             (direction_if backwards)) }
-        ensures spends { IfOk result (λ _. Spends self.old self.new (size (tree node.now) + 1)) }
-        ensures too_long { IfErr result (λ fault. fault ≡ TooLong → self.old.left < size (tree node.now) + 1) }
+        ensures spends { IfOk result (λ _. Spends self.old self.new (size counts (tree node.now) + 1)) }
+        ensures too_long { IfErr result (λ fault. fault ≡ TooLong → self.old.left < size counts (tree node.now) + 1) }
     {
         let outer = mem::replace(&mut self.instructions, Vec::new(self.alloc));
         self.push(Instruction::Accept)?;
-        let entry = self.node(node, 0)?;
+        let entry = self.node(node, counts, 0)?;
         let instructions = mem::replace(&mut self.instructions, outer);
         self.routines.push(Routine {
             instructions,

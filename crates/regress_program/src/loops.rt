@@ -11,6 +11,7 @@ ghost use Rattle.regress_program.specs.Size.{size, size_of_characters, size_of_o
 ghost use Rattle.regress_program.specs.declared.fault.CompileFault.TheVariants.{TooLong};
 
 use crate::compiler::Compiler;
+use crate::counts::Counts;
 use crate::fault::CompileFault;
 use crate::instruction::Instruction;
 use regress_leaves::leaves::takes_one;
@@ -24,13 +25,14 @@ pub(crate) fn is_never(quantifier: Quantifier) -> bool
 }
 
 /// The iterations of a loop: the half-open range of the ids of the groups inside, whether the loop is greedy, and the
-/// index of the first leaf inside.
+/// index of the first leaf inside; and how large the counts of characters inside are.
 #[derive(Clone, Copy)]
 pub(crate) struct Iterations {
     pub(crate) start: usize,
     pub(crate) end: usize,
     pub(crate) greedy: bool,
     pub(crate) first_leaf: usize,
+    pub(crate) counts: Counts,
 }
 
 impl Compiler {
@@ -70,19 +72,21 @@ impl Compiler {
         &mut self,
         body: &Node,
         quantifier: Quantifier,
+        counts: Counts,
         next: usize,
     ) -> Result<usize, CompileFault>
         requires { next < length self.old.instructions.items }
         ensures emits { IfOk result (Emits self.old self.new self.old.next_leaf (leaves_of (wrapped (loop_one quantifier) (tree body.now)))
             (matching (wrapped (loop_one quantifier) (tree body.now))) (content (wrapped (loop_one quantifier) (tree body.now))) next) }
-        ensures spends { IfOk result (λ _. Spends self.old self.new (size (wrapped (loop_one quantifier) (tree body.now)))) }
-        ensures too_long { IfErr result (λ fault. fault ≡ TooLong → self.old.left < size (wrapped (loop_one quantifier) (tree body.now))) }
+        ensures spends { IfOk result (λ _. Spends self.old self.new (size counts (wrapped (loop_one quantifier) (tree body.now)))) }
+        ensures too_long { IfErr result (λ fault. fault ≡ TooLong → self.old.left < size counts (wrapped (loop_one quantifier) (tree body.now))) }
     {
         let iterations = Iterations {
             start: 0,
             end: 0,
             greedy: quantifier.greedy,
             first_leaf: self.next_leaf,
+            counts,
         };
         if takes_one(body) {
             let entry = self.repeat_character(body, iterations, quantifier, next)?;
@@ -104,22 +108,28 @@ impl Compiler {
     ) -> Result<usize, CompileFault>
         requires below { next < length self.old.instructions.items }
         requires one { takes_one (tree body.now) ≡ true }
-        requires without_groups { iterations ≡ record { start = 0; end = 0; greedy = quantifier.greedy; first_leaf = self.old.next_leaf } }
+        requires without_groups { iterations ≡ record iterations { start = 0; end = 0; greedy = quantifier.greedy; first_leaf = self.old.next_leaf } }
         ensures emits { IfOk result (EmitsCopies self.old self.new iterations.first_leaf (leaves_of (tree body.now)) 0
             (matching (wrapped (loop_one quantifier) (tree body.now))) (content (wrapped (loop_one quantifier) (tree body.now))) next) }
-        ensures spends { IfOk result (λ _. Spends self.old self.new (size_of_characters quantifier)) }
-        ensures too_long { IfErr result (λ fault. fault ≡ TooLong → self.old.left < size_of_characters quantifier) }
+        ensures spends { IfOk result (λ _. Spends self.old self.new (size_of_characters iterations.counts quantifier)) }
+        ensures too_long { IfErr result (λ fault. fault ≡ TooLong → self.old.left < size_of_characters iterations.counts quantifier) }
     {
         let entry = match quantifier.max {
             None => self.any_number(body, iterations, next)?,
             Some(max) => self.up_to(
                 iterations.first_leaf,
                 quantifier.greedy,
+                iterations.counts,
                 max.saturating_sub(quantifier.min),
                 next,
             )?,
         };
-        self.exactly(iterations.first_leaf, quantifier.min, entry)
+        self.exactly(
+            iterations.first_leaf,
+            iterations.counts,
+            quantifier.min,
+            entry,
+        )
     }
 
     /// Compiles any number of optional iterations. The body is compiled once, and goes on at an instruction before it.
@@ -204,7 +214,7 @@ impl Compiler {
     {
         let before = self.left;
         self.next_leaf = iterations.first_leaf;
-        let contents = self.node(body, next)?;
+        let contents = self.node(body, iterations.counts, next)?;
         if iterations.start >= iterations.end && self.left < before {
             return Ok(contents);
         }

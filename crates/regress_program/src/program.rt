@@ -11,6 +11,7 @@ ghost use Rattle.regress_program.specs.Unique.{forwards-prop, program-prop, tidy
 ghost use Rattle.regress_program.specs.Views.{program_in};
 
 use crate::contents::instruction_count;
+use crate::counts::Counts;
 use crate::groups::group_count;
 use crate::instruction::Routine;
 use crate::nonlinear::{Nonlinear, reason};
@@ -34,6 +35,8 @@ pub struct Program {
     pub groups: usize,
     /// The number of instructions, at most `usize::MAX`.
     pub(crate) instructions: usize,
+    /// How large the counts of characters are.
+    pub(crate) counts: Counts,
     /// Why searches for all matches may take more than linear time.
     pub(crate) nonlinear: Option<Nonlinear>,
     /// For each routine the least range of the groups that it changes.
@@ -54,9 +57,9 @@ pub struct Program {
 }
 
 impl Program {
-    ghost use Rattle.regress_program.specs.Search.{flags_of, groups_of, is_known_tidy, routines_of};
+    ghost use Rattle.regress_program.specs.Search.{counts_of, flags_of, groups_of, is_known_tidy, routines_of};
 
-    /// Returns a program of these leaves and routines, for a pattern.
+    /// Returns a program of these leaves and routines, for a pattern, with such counts.
     ///
     /// # Preconditions
     /// The leaves and the routines are what compiling the pattern yields.
@@ -71,6 +74,7 @@ impl Program {
         leaves: Vec<Test>,
         routines: Vec<Routine>,
         regex: &Regex,
+        counts: Counts,
     ) -> Result<Program, AllocError>
         requires program { IsProgram (program_in leaves.items routines.items) }
         requires some { 0 < length routines.items }
@@ -78,6 +82,7 @@ impl Program {
         requires tidy { IsWellFormed (tree regex.now.node) → IsTidy (program_in leaves.items routines.items) }
         ensures routines { IfOk result (λ p. routines_of p ≡ program_in leaves.items routines.items) }
         ensures flags { IfOk result (λ p. flags_of p ≡ regex.now.flags) }
+        ensures counts { IfOk result (λ p. counts_of p ≡ counts) }
         ensures groups { IfOk result (λ p. groups_of p ≡ min (length (captures (tree regex.now.node))) usize.MAX) }
         ensures known { IfOk result (λ p. IsWellFormed (tree regex.now.node) → is_known_tidy p ≡ true) }
     {
@@ -92,6 +97,7 @@ impl Program {
             flags: regex.flags,
             groups: group_count(&regex.node),
             instructions,
+            counts,
             nonlinear,
             ranges,
             tidy,

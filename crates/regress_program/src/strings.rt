@@ -1,11 +1,12 @@
 //! Compiles sets of strings.
 ghost use Rattle.std.specs.Prelude.{◌≡◌, ◌<◌, Bool, IfOk, IfErr, length, map};
 ghost use Rattle.std.specs.Box.{boxed_slice_items};
+ghost use Rattle.regress_tree.specs.Tree.{string_set};
 ghost use Rattle.regress_program.specs.CodeOf.{Emits, Spends};
 ghost use Rattle.regress_program.specs.Compiled.{matching, strings};
 ghost use Rattle.regress_program.specs.Contents.{nothing};
 ghost use Rattle.regress_program.specs.LeavesOf.{leaves_of_strings};
-ghost use Rattle.regress_program.specs.Size.{size};
+ghost use Rattle.regress_program.specs.Size.{size_of_leaf};
 ghost use Rattle.regress_program.specs.declared.fault.CompileFault.TheVariants.{TooLong};
 
 use crate::compiler::Compiler;
@@ -23,8 +24,8 @@ impl Compiler {
         requires { next < length self.old.instructions.items }
         ensures emits { (icase : Bool) → (let ss = map boxed_slice_items alternatives.now in
             IfOk result (Emits self.old self.new self.old.next_leaf (leaves_of_strings ss icase) (matching (strings ss icase)) nothing next)) }
-        ensures spends { (icase : Bool) → IfOk result (λ _. Spends self.old self.new (size (strings (map boxed_slice_items alternatives.now) icase))) }
-        ensures too_long { (icase : Bool) → IfErr result (λ fault. fault ≡ TooLong → self.old.left < size (strings (map boxed_slice_items alternatives.now) icase)) }
+        ensures spends { (icase : Bool) → IfOk result (λ _. Spends self.old self.new (size_of_leaf (string_set (map boxed_slice_items alternatives.now) icase))) }
+        ensures too_long { (icase : Bool) → IfErr result (λ fault. fault ≡ TooLong → self.old.left < size_of_leaf (string_set (map boxed_slice_items alternatives.now) icase)) }
     {
         let mut i = alternatives.len();
         if i == 0 {

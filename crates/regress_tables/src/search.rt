@@ -37,10 +37,11 @@ impl Linear<'_, '_> {
     /// tables of at most `memory` bytes.
     ///
     /// # Complexity
-    /// The steps are at most [`Linear::steps_per_byte`] for each byte of the text, and once more. A step takes
-    /// constant time, but for literals and sets. For each byte of the text, and once more, a quarter of a byte for each
-    /// instruction, and 8 bytes, count as the memory of the tables. So much it takes if all rows differ, and 4 bytes more for
-    /// each lookaround. Equal rows are stored once.
+    /// The steps are at most [`Linear::steps_per_byte`] for each byte of the text, and once more. A step takes constant
+    /// time, but for literals and sets, and unless [`Code::has_bounded_counts`](regress_code::Code::has_bounded_counts)
+    /// a loop over one character, whose iterations are one step. For each byte of the text, and once more, a quarter of
+    /// a byte for each instruction, and 8 bytes, count as the memory of the tables. So much it takes if all rows
+    /// differ, and 4 bytes more for each lookaround. Equal rows are stored once.
     ///
     /// # Errors
     /// - [`MemoryFault::TooMuchMemory`] if the tables take more than `memory` bytes. They are not made then.

@@ -39,7 +39,7 @@ pub(crate) fn response_linear(
         }
         Err(CompileFault::TooLong) => return false,
     };
-    if code.nonlinear() == Some(Nonlinear::BackReference) {
+    if !code.has_bounded_counts() || code.nonlinear() == Some(Nonlinear::BackReference) {
         return false;
     }
     match Linear::new(&code, Known::new(tables, regex.flags)) {

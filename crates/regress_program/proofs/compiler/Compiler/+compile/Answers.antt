@@ -625,8 +625,8 @@ node-loop-rest-preserved t c =
     let right = c.in-Alt.right.value in
     let items : c.push.new.self.items ≡ l.entries.items ++ c.in_ok-node.field-0 ∷ [] = c.in_ok-push.ensures.items in
     let rest-is : tree l.rest.now ≡ alt (tree left) (tree right) = ap tree c.in-Alt.is ∙ tree-Alt c.in-Alt.left c.in-Alt.right in
-    let sizes : size (tree l.rest.now) ≡ size (tree left) + size (tree right) + 1 = ap size rest-is in
-    let spends : Spends l.self c.node.new.self (size (tree left)) = rw c.deref.ensures at c.in_ok-node.ensures.spends in
+    let sizes : size c.args.counts (tree l.rest.now) ≡ size c.args.counts (tree left) + size c.args.counts (tree right) + 1 = ap (size c.args.counts) rest-is in
+    let spends : Spends l.self c.node.new.self (size c.args.counts (tree left)) = rw c.deref.ensures at c.in_ok-node.ensures.spends in
     let emits : Emits l.self c.node.new.self l.self.next_leaf (leaves_of (tree left)) (matching (tree left)) (content (tree left)) c.args.next c.in_ok-node.field-0 =
     rw c.deref.ensures at c.in_ok-node.ensures.emits in
     rw c.deref-rest.ensures (record {
@@ -943,8 +943,8 @@ other-returns-in-StringSet-clause-spends t c =
     let is : tree c.args.node.now ≡ strings ss c.in-StringSet.icase = search (rules, the_lemmas) in
     IfOk-weaker c.strings.result _ _
     (λ at spends.
-    subst (λ u. Spends c.args.self.now c.strings.new.self (size u)) (sym is)
-    (subst (λ ss. Spends c.args.self.now c.strings.new.self (size (strings (map boxed_slice_items ss) c.in-StringSet.icase))) c.deref-in-StringSet.ensures.value
+    subst (λ u. Spends c.args.self.now c.strings.new.self (size c.args.counts u)) (sym is)
+    (subst (λ ss. Spends c.args.self.now c.strings.new.self (size c.args.counts (strings (map boxed_slice_items ss) c.in-StringSet.icase))) c.deref-in-StringSet.ensures.value
     spends)) (c.strings.ensures.spends c.in-StringSet.icase)
 
 pub other-returns-in-StringSet-clause-too_long : goal.other-returns-in-StringSet-clause-too_long
@@ -953,8 +953,8 @@ other-returns-in-StringSet-clause-too_long t c =
     let is : tree c.args.node.now ≡ strings ss c.in-StringSet.icase = search (rules, the_lemmas) in
     IfErr-weaker c.strings.result _ _
     (λ fault too_long long.
-    subst (λ u. c.args.self.now.left < size u) (sym is)
-    (subst (λ ss. c.args.self.now.left < size (strings (map boxed_slice_items ss) c.in-StringSet.icase)) c.deref-in-StringSet.ensures.value (too_long long)))
+    subst (λ u. c.args.self.now.left < size c.args.counts u) (sym is)
+    (subst (λ ss. c.args.self.now.left < size c.args.counts (strings (map boxed_slice_items ss) c.in-StringSet.icase)) c.deref-in-StringSet.ensures.value (too_long long)))
     (c.strings.ensures.too_long c.in-StringSet.icase)
 
 pub other-returns-in-Empty-clause-emits : goal.other-returns-in-Empty-clause-emits
@@ -1014,7 +1014,7 @@ sequence-loop-i-init t c =
                   (subst (λ xs. HasNone (content_of_parts (trees xs))) (sym none) none_nothing);
             };
       };
-      spent = omega (arith, ap (λ xs. size_of_parts (trees xs)) none);
+      spent = omega (arith, ap (λ xs. size_of_parts c.args.counts (trees xs)) none);
     }
 
 pub sequence-loop-i-preserved : goal.sequence-loop-i-preserved
@@ -1055,7 +1055,7 @@ sequence-loop-i-preserved t c =
             arith,
             l.invariant.spent,
             c.in_ok-entry.ensures.spends,
-            parts-more c.args.parts.now l.i (l.i - 1) c.index-parts-i.result refl c.loop-i-test.true l.invariant.within c.index-parts-i.is,
+            parts-more c.args.counts c.args.parts.now l.i (l.i - 1) c.index-parts-i.result refl c.loop-i-test.true l.invariant.within c.index-parts-i.is,
           );
     }
 
@@ -1068,6 +1068,6 @@ sequence-returns-in_err-entry-clause-too_long t c =
       arith,
       c.in_err-entry.ensures.too_long is,
       l.invariant.spent,
-      parts-within c.args.parts.now (l.i - 1),
-      parts-more c.args.parts.now l.i (l.i - 1) c.index-parts-i.result refl c.loop-i-test.true l.invariant.within c.index-parts-i.is,
+      parts-within c.args.counts c.args.parts.now (l.i - 1),
+      parts-more c.args.counts c.args.parts.now l.i (l.i - 1) c.index-parts-i.result refl c.loop-i-test.true l.invariant.within c.index-parts-i.is,
     ))

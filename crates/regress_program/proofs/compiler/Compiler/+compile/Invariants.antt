@@ -37,7 +37,7 @@ invariant-node-loop-rest l = record {
   splitting : (leaves : List Test) → HasLeaves leaves l.fn.self.next_leaf (leaves_of (tree l.fn.node)) →
       Splitting leaves l.fn.self l.self l.next l.entries.items (tree l.fn.node) (tree l.rest);
   smaller : size-Node l.rest ≤ size-Node l.fn.node;
-  spent : l.self.left + size (tree l.fn.node) ≡ l.fn.self.left + size (tree l.rest) + length l.entries.items;
+  spent : l.self.left + size l.counts (tree l.fn.node) ≡ l.fn.self.left + size l.counts (tree l.rest) + length l.entries.items;
 }
 
 -- the alternatives that have been joined, from the last one
@@ -47,7 +47,7 @@ invariant-node-loop-first l = record {
   grown : length l.fn.self.instructions.items ≤ length l.self.instructions.items;
   joining : (leaves : List Test) → HasLeaves leaves l.fn.self.next_leaf (leaves_of (tree l.fn.node)) →
       Joining leaves l.fn.self l.self l.next l.entry l.entries.items (tree l.fn.node);
-  spent : l.self.left + size (tree l.fn.node) ≡ l.fn.self.left + length l.entries.items;
+  spent : l.self.left + size l.fn.counts (tree l.fn.node) ≡ l.fn.self.left + length l.entries.items;
 }
 
 abbrev pub decreases-node-loop-first : goal.decreases-node-loop-first
@@ -75,7 +75,7 @@ invariant-sequence-loop-i l = record {
   within : l.i ≤ length l.parts;
   emits : Emits l.fn.self l.self l.fn.self.next_leaf (leaves_of_parts (trees (drop l.i l.parts))) (matching (cat (trees (drop l.i l.parts))))
       (content_of_parts (trees (drop l.i l.parts))) l.next l.entry;
-  spent : Spends l.fn.self l.self (size_of_parts (trees (drop l.i l.parts)));
+  spent : Spends l.fn.self l.self (size_of_parts l.counts (trees (drop l.i l.parts)));
 }
 
 abbrev pub decreases-sequence-loop-i : goal.decreases-sequence-loop-i

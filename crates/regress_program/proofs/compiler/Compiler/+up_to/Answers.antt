@@ -8,12 +8,12 @@ use Rattle.regress_program.proofs.AddLemmas.{longer}
 use Rattle.regress_program.proofs.CompileLemmas.{compiled_nothing, compiled_later}
 use Rattle.regress_program.proofs.CountLemmas.{compiled_split}
 use Rattle.regress_program.proofs.PieceLemmas.{holds_nothing, holds_preferred, tidies_later}
-use Rattle.regress_program.proofs.SizeLemmas.{too_long, up_to-none, up_to-even, up_to-odd}
+use Rattle.regress_program.proofs.SizeLemmas.{exactly-one, too_long, up_to-none, up_to-even, up_to-odd}
 use Rattle.regress_program.proofs.ViewLemmas.{below}
 use Rattle.regress_program.proofs.compiler.Compiler.+up_to.Goals as goal
 
 pub returns-then-count-eq0-clause-spends : goal.returns-then-count-eq0-clause-spends
-returns-then-count-eq0-clause-spends t c = omega (arith, up_to-none c.args.count c.if-count-eq0.true)
+returns-then-count-eq0-clause-spends t c = omega (arith, up_to-none c.args.counts c.args.count c.if-count-eq0.true)
 
 pub returns-then-count-eq0-clause-emits : goal.returns-then-count-eq0-clause-emits
 returns-then-count-eq0-clause-emits t c = record {
@@ -31,24 +31,24 @@ returns-then-count-eq0-clause-emits t c = record {
 
 pub returns-in_err-rest-clause-too_long : goal.returns-in_err-rest-clause-too_long
 returns-in_err-rest-clause-too_long t c =
-    let all = up_to-even c.args.count c.if-count-eq0.false c.if-count-eq0-2.true in
+    let all = up_to-even c.args.counts c.args.count c.if-count-eq0.false c.if-count-eq0-2.true in
     too_long c.from_residual.result _ _ c.from_residual.ensures.1 (λ is. omega (arith, all, c.in_err-rest.ensures.too_long is))
 
 pub returns-in_err-first-clause-too_long : goal.returns-in_err-first-clause-too_long
 returns-in_err-first-clause-too_long t c =
-    let all = up_to-even c.args.count c.if-count-eq0.false c.if-count-eq0-2.true in
+    let all = up_to-even c.args.counts c.args.count c.if-count-eq0.false c.if-count-eq0-2.true in
     too_long c.from_residual-in_err-first.result _ _ c.from_residual-in_err-first.ensures.1
-    (λ is. omega (arith, all, c.in_ok-rest.ensures.spends, c.in_err-first.ensures.too_long is))
+    (λ is. omega (arith, all, exactly-one c.args.counts, c.in_ok-rest.ensures.spends, c.in_err-first.ensures.too_long is))
 
 pub returns-in_err-rest-2-clause-too_long : goal.returns-in_err-rest-2-clause-too_long
 returns-in_err-rest-2-clause-too_long t c =
-    let all = up_to-odd c.args.count c.if-count-eq0.false c.if-count-eq0-2.false in
+    let all = up_to-odd c.args.counts c.args.count c.if-count-eq0.false c.if-count-eq0-2.false in
     too_long c.from_residual-in_err-rest-2.result _ _ c.from_residual-in_err-rest-2.ensures.1
     (λ is. omega (arith, all, c.in_err-rest-2.ensures.too_long is))
 
 pub returns-in_err-first-2-clause-too_long : goal.returns-in_err-first-2-clause-too_long
 returns-in_err-first-2-clause-too_long t c =
-    let all = up_to-odd c.args.count c.if-count-eq0.false c.if-count-eq0-2.false in
+    let all = up_to-odd c.args.counts c.args.count c.if-count-eq0.false c.if-count-eq0-2.false in
     too_long c.from_residual-in_err-first-2.result _ _ c.from_residual-in_err-first-2.ensures.1
     (λ is. omega (arith, all, c.in_ok-rest-2.ensures.spends, c.in_err-first-2.ensures.too_long is))
 
@@ -85,14 +85,14 @@ returns-in_ok-first-clause-emits t c =
 
 pub returns-in_ok-first-clause-spends : goal.returns-in_ok-first-clause-spends
 returns-in_ok-first-clause-spends t c =
-    let all = up_to-even c.args.count c.if-count-eq0.false c.if-count-eq0-2.true in
-    IfOk-weaker c.prefer.result _ _ (λ at pushed. omega (arith, all, pushed, c.in_ok-rest.ensures.spends, c.in_ok-first.ensures.spends))
+    let all = up_to-even c.args.counts c.args.count c.if-count-eq0.false c.if-count-eq0-2.true in
+    IfOk-weaker c.prefer.result _ _ (λ at pushed. omega (arith, all, exactly-one c.args.counts, pushed, c.in_ok-rest.ensures.spends, c.in_ok-first.ensures.spends))
     c.prefer.ensures.spends
 
 pub returns-in_ok-first-clause-too_long : goal.returns-in_ok-first-clause-too_long
 returns-in_ok-first-clause-too_long t c =
-    let all = up_to-even c.args.count c.if-count-eq0.false c.if-count-eq0-2.true in
-    IfErr-weaker c.prefer.result _ _ (λ fault none is. omega (arith, all, none is, c.in_ok-rest.ensures.spends, c.in_ok-first.ensures.spends))
+    let all = up_to-even c.args.counts c.args.count c.if-count-eq0.false c.if-count-eq0-2.true in
+    IfErr-weaker c.prefer.result _ _ (λ fault none is. omega (arith, all, exactly-one c.args.counts, none is, c.in_ok-rest.ensures.spends, c.in_ok-first.ensures.spends))
     c.prefer.ensures.too_long
 
 pub returns-in_ok-first-2-clause-emits : goal.returns-in_ok-first-2-clause-emits
@@ -126,12 +126,12 @@ returns-in_ok-first-2-clause-emits t c =
 
 pub returns-in_ok-first-2-clause-spends : goal.returns-in_ok-first-2-clause-spends
 returns-in_ok-first-2-clause-spends t c =
-    let all = up_to-odd c.args.count c.if-count-eq0.false c.if-count-eq0-2.false in
+    let all = up_to-odd c.args.counts c.args.count c.if-count-eq0.false c.if-count-eq0-2.false in
     IfOk-weaker c.prefer-else-count-eq0-2.result _ _
     (λ at pushed. omega (arith, all, pushed, c.in_ok-rest-2.ensures.spends, c.in_ok-first-2.ensures.spends)) c.prefer-else-count-eq0-2.ensures.spends
 
 pub returns-in_ok-first-2-clause-too_long : goal.returns-in_ok-first-2-clause-too_long
 returns-in_ok-first-2-clause-too_long t c =
-    let all = up_to-odd c.args.count c.if-count-eq0.false c.if-count-eq0-2.false in
+    let all = up_to-odd c.args.counts c.args.count c.if-count-eq0.false c.if-count-eq0-2.false in
     IfErr-weaker c.prefer-else-count-eq0-2.result _ _
     (λ fault none is. omega (arith, all, none is, c.in_ok-rest-2.ensures.spends, c.in_ok-first-2.ensures.spends)) c.prefer-else-count-eq0-2.ensures.too_long

@@ -5,7 +5,6 @@ use Rattle.regress_program.specs.Contents.{nothing}
 use Rattle.regress_program.specs.Views.{leaf_in}
 use Rattle.regress_program.proofs.CountLemmas.{compiled_more, compiled_none}
 use Rattle.regress_program.proofs.PieceLemmas.{holds_nothing, holds_plain_then}
-use Rattle.regress_program.proofs.SizeLemmas.{exactly-more}
 use Rattle.regress_program.proofs.ViewLemmas.{below}
 use Rattle.regress_program.proofs.compiler.Compiler.exactly.Goals as goal
 
@@ -34,8 +33,8 @@ loop-left-init c =
 pub loop-left-preserved : goal.loop-left-preserved
 loop-left-preserved c =
     let l = c.loop-left in
-    let part = c.min-part.result in
-    let number : part + (c.args.count - l.left) ≡ c.args.count - (l.left - part) = omega (arith, l.invariant.within, c.min-part.ensures) in
+    let part = c.part_of-part.result in
+    let number : part + (c.args.count - l.left) ≡ c.args.count - (l.left - part) = omega (arith, l.invariant.within, c.part_of-part.ensures.within) in
     record {
       within = omega (arith, l.invariant.within);
       compiled = record {
@@ -58,5 +57,5 @@ loop-left-preserved c =
       };
       same = c.characters.ensures.leaf ∙ l.invariant.same;
       spent =
-          omega (arith, l.invariant.spent, c.in_ok-entry.ensures.spends, exactly-more l.left part c.min-part.ensures c.loop-left-test.true);
+          omega (arith, l.invariant.spent, c.in_ok-entry.ensures.spends, c.part_of-part.ensures.size c.loop-left-test.true);
     }

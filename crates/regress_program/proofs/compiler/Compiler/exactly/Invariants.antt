@@ -10,7 +10,7 @@ invariant-loop-left l = record {
   within : l.left ≤ l.count;
   compiled : EmitsCharacters l.fn.self l.self l.leaf (exactly (l.count - l.left)) l.next l.entry;
   same : l.self.next_leaf ≡ l.fn.self.next_leaf;
-  spent : l.self.left + size_of_exactly l.count ≡ l.fn.self.left + size_of_exactly l.left;
+  spent : l.self.left + size_of_exactly l.counts l.count ≡ l.fn.self.left + size_of_exactly l.counts l.left;
 }
 
 abbrev pub decreases-loop-left : goal.decreases-loop-left
