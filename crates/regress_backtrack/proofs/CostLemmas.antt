@@ -10,8 +10,8 @@ use Rattle.regress_leaves.specs.Leaves.{exactly, put}
 use Rattle.regress_leaves.specs.Subject.{subject}
 use Rattle.regress_leaves.proofs.ReadingLemmas.{ascii_after}
 use Rattle.regress_found.specs.Found.{state}
-use Rattle.regress_program.specs.Cost.{Cost, blocks, bytes_ahead, compared, cost_after, cost_at, cost_of}
-use Rattle.regress_program.specs.Program.{matcher_of, Out}
+use Rattle.regress_program.specs.Cost.{Cost, blocks, bytes_ahead, characters_cost, compared, cost_after, cost_at, cost_of}
+use Rattle.regress_program.specs.Program.{At, matcher_of, Out}
 use Rattle.regress_tree.specs.Matching.{steps}
 use Rattle.regress_tree.specs.Reading.{direction_if, forwards}
 use Rattle.regress_tree.specs.Tree.{tree}
@@ -82,26 +82,27 @@ module _ (input : Input) (outs : ℕ → Out) (costs : ℕ → Cost) (m : Machin
       (omega (arith, taken, moved, on)))
 
   -- characters that end at a position
-  pub characters_cost : (o : Option Test) (t : Test) (count : ℕ) (to : Option ℕ) → o ≡ Some t →
+  pub exactly_cost : (o : Option Test) (t : Test) (count : ℕ) (to : Option ℕ) → o ≡ Some t →
       (let u = subject input.rules input.text.now in
       steps u.setting u.bytes u.direction (exactly count (tree t.node)) (state m.captures.items p.position) ≡ put (state m.captures.items p.position) to) →
-      Reaches next p n to → MatchOption to (remaining2 ≡ remaining) (λ (q : ℕ). remaining ≤ remaining2 + blocks (abs_diff p.position q)) →
+      Reaches next p n to → remaining ≤ remaining1 + characters_cost (bytes_ahead (subject input.rules input.text.now).direction (length input.text.now) p.position) count →
+      MatchOption to (remaining2 ≡ remaining1) (λ (q : ℕ). remaining1 ≤ remaining2 + blocks (abs_diff p.position q)) →
       remaining + cost_ahead (costs input.index) m n
       ≤ remaining2 + (op_cost input outs costs (characters_of o count next) (at p (groups_of m)) + points_cost (costs input.index) m)
-  characters_cost o t count None some ends is moved =
+  exactly_cost o t count None some ends is taken moved =
       subst (λ x. remaining + cost_ahead (costs input.index) m x
       ≤ remaining2 + (op_cost input outs costs (characters_of o count next) (at p (groups_of m)) + points_cost (costs input.index) m)) (sym is)
       (subst (λ x. remaining + points_cost (costs input.index) m
       ≤ remaining2 + (op_cost input outs costs (characters_of x count next) (at p (groups_of m)) + points_cost (costs input.index) m)) (sym some)
-      (omega (arith, moved)))
-  characters_cost o t count (Some q) some ends is moved =
+      (omega (arith, taken, moved)))
+  exactly_cost o t count (Some q) some ends is taken moved =
       let cost = costs input.index in
       let a = at p (groups_of m) in
       let there = cost (at (record { pc = next; moved = p.moved || not (q == p.position); position = q }) (groups_of m)) in
       let on = ap (cost_after cost next a) ends in
       subst (λ x. remaining + cost_ahead cost m x ≤ remaining2 + (op_cost input outs costs (characters_of o count next) a + points_cost cost m)) (sym is)
       (subst (λ x. remaining + (there + points_cost cost m) ≤ remaining2 + (op_cost input outs costs (characters_of x count next) a + points_cost cost m)) (sym some)
-      (omega (arith, moved, on)))
+      (omega (arith, taken, moved, on)))
 
 -- ---- loops over one character
 
@@ -159,7 +160,7 @@ module _ (input : Input) (is : IsInput input) (looping : Looping) (set : ByteBit
       omega (arith, same, leaf, ends, here)
 
   -- the end of an iteration
-  at_repeat_cost : (k : ℕ) → k ≤ length input.text.now →
+  pub at_repeat_cost : (k : ℕ) → k ≤ length input.text.now →
       costs input.index (at (record { pc = looping.body; moved = false; position = k }) g)
       + costs input.index (at (record { pc = looping.next; moved = true; position = k }) g)
       ≤ costs input.index (at (record { pc = repeat_pc; moved = true; position = k }) g)
@@ -191,13 +192,32 @@ module _ (input : Input) (is : IsInput input) (looping : Looping) (set : ByteBit
       one_more n k = omega arith
 
 -- the machine after several iterations
-pub swept_ahead : (cost : Cost) (m m' : Machine) (first to : Place) (more before : ℕ) → Ranged first more m m' →
-    suc more + (cost (at to (groups_of m)) + sum_by cost (range_points first more (groups_of m))) ≤ before →
-    suc more + (cost (at to (groups_of m')) + points_cost cost m') ≤ before + points_cost cost m
-swept_ahead cost m m' first to more before ranged le =
+pub swept_ahead : (cost : Cost) (m m' : Machine) (first to : Place) (more count before : ℕ) → Ranged first more m m' →
+    count + (cost (at to (groups_of m)) + sum_by cost (range_points first more (groups_of m))) ≤ before →
+    count + (cost (at to (groups_of m')) + points_cost cost m') ≤ before + points_cost cost m
+swept_ahead cost m m' first to more count before ranged le =
     let here = ap (λ g. cost (at to g)) ranged.groups in
     let sum = ap (sum_by cost) ranged.points ∙ sum_by-append cost (range_points first more (groups_of m)) (points m) in
     omega (arith, le, here, sum)
+
+plus_zero : (n : ℕ) → n + zero ≡ n
+plus_zero n = omega arith
+
+plus_suc : (n k : ℕ) → n + suc k ≡ suc (n + k)
+plus_suc n k = omega arith
+
+-- Fewer points cost no more.
+pub fewer_cost : (cost : Cost) (g : Groups) (first : Place) (kept more : ℕ) →
+    sum_by cost (range_points first kept g) ≤ sum_by cost (range_points first (kept + more) g)
+fewer_cost cost g first kept zero =
+    let same = ap (λ n. sum_by cost (range_points first n g)) (plus_zero kept) in
+    omega (arith, same)
+fewer_cost cost g first kept (suc more) =
+    let so_far = fewer_cost cost g first kept more in
+    let last : At = at (record { pc = first.pc; moved = true; position = first.position + suc (kept + more) }) g in
+    let grown = ap (λ n. sum_by cost (range_points first n g)) (plus_suc kept more) in
+    let sum = sum_by-cons cost last (range_points first (kept + more) g) in
+    omega (arith, so_far, grown, sum)
 
 -- ---- backtrack points
 

@@ -21,8 +21,8 @@ use Rattle.regress_found.specs.declared.outcome.Outcome.{Outcome}
 use Rattle.regress_found.specs.declared.outcome.Outcome.TheVariants as outcomes
 use Rattle.regress_backtrack.specs.declared.run.Response.{Response}
 use Rattle.regress_backtrack.specs.declared.run.Response.TheVariants as responses
-use Rattle.regress_backtrack.specs.Backtracker.{AreCosts, AreOutcomes, SameRuns, cost_at, outcomes_at, run_code, run_tables, run_text, tree_outcomes_at}
-use Rattle.regress_code.specs.Code.{code_groups, code_routines, cost_from, outcomes_from, setting_with, tree_outcomes_from}
+use Rattle.regress_backtrack.specs.Backtracker.{AreCosts, AreOutcomes, cost_at, outcomes_at, run_code, run_tables, run_text, tree_outcomes_at}
+use Rattle.regress_code.specs.Code.{code_groups, code_routines, outcomes_from, setting_with, tree_outcomes_from}
 use Rattle.regress_backtrack.specs.Run.{IsResponseOf}
 use Rattle.regress_found.specs.Results.{IsSearchResult, IsMatchResult}
 use Rattle.regress_backtrack.specs.Searched.{IsFor}
@@ -62,31 +62,6 @@ tree_finds b origin outcome all t pattern =
 pub same_parts : (P : Code → Tables → List ℕ → Type 0) (c c' : Code) (t t' : Tables) (x x' : List ℕ) → c' ≡ c → t' ≡ t → x' ≡ x → P c' t' x' → P c t x
 same_parts P c c' t t' x x' ec et ex holds = subst (λ y. P y t x) ec (subst (λ y. P c' y x) et (subst (P c' t') ex holds))
 
--- what is so of a run is so of another run of the same program in the same text
-pub same_runs : (P : Code → Tables → List ℕ → Type 0) (a b : Backtracker) → SameRuns a b → P (run_code b) (run_tables b) (run_text b) →
-    P (run_code a) (run_tables a) (run_text a)
-same_runs P a b same = same_parts P _ _ _ _ _ _ same.code same.tables same.text
-
--- an input for the same program and text
-pub same_input : (a b : Backtracker) → SameRuns a b → (input : Input) → IsFor (run_code a) (run_tables a) (run_text a) input →
-    IsFor (run_code b) (run_tables b) (run_text b) input
-same_input a b same input = same_parts (λ c t x. IsFor c t x input) _ _ _ _ _ _ (sym same.code) (sym same.tables) (sym same.text)
-
-pub same_solved : (a b : Backtracker) (P : List MatchState → Type 0) (k : ℕ) → SameRuns a b →
-    ((outs : ℕ → Out) → AreOutcomes b outs → P (outcomes_at b outs k)) → (outs : ℕ → Out) → AreOutcomes a outs → P (outcomes_at a outs k)
-same_solved a b P k =
-    same_runs (λ c t x. (outs : ℕ → Out) → IsSolution (setting_with c t) x (code_routines c) outs → P (outcomes_from c t x outs k)) a b
-
-pub same_first : (a b : Backtracker) (P : List MatchState → Type 0) (k : ℕ) → SameRuns a b →
-    ((t : Tree) → IsPattern (code_routines (run_code b)) t → P (tree_outcomes_at b t k)) → (t : Tree) → IsPattern (code_routines (run_code a)) t →
-    P (tree_outcomes_at a t k)
-same_first a b P k = same_runs (λ c t x. (tree : Tree) → IsPattern (code_routines c) tree → P (tree_outcomes_from c t x tree k)) a b
-
-pub same_taken : (a b : Backtracker) (k remaining remaining' : ℕ) (outs : ℕ → Out) (costs : ℕ → Cost) → SameRuns a b →
-    (AreCosts b outs costs → remaining ≤ remaining' + cost_at b costs k) → AreCosts a outs costs → remaining ≤ remaining' + cost_at a costs k
-same_taken a b k remaining remaining' outs costs =
-    same_runs (λ c t x. IsCost (setting_with c t) x (code_routines c) outs costs → remaining ≤ remaining' + cost_from c t x costs k) a b
-
 -- the result of a run, for its program, case mappings and text
 pub for_solution : (b : Backtracker) (code : Code) (tables : Tables) (text : List ℕ) (P : List ℕ → (ℕ → List MatchState) → Type 0) →
     run_code b ≡ code → run_tables b ≡ tables → run_text b ≡ text → ((outs : ℕ → Out) → AreOutcomes b outs → P (run_text b) (outcomes_at b outs)) →
@@ -100,13 +75,6 @@ pub for_tree : (b : Backtracker) (code : Code) (tables : Tables) (text : List �
     (t : Tree) → IsPattern (code_routines code) t → P text (tree_outcomes_from code tables text t)
 for_tree b code tables text P =
     same_parts (λ c t x. (tree : Tree) → IsPattern (code_routines c) tree → P x (tree_outcomes_from c t x tree)) _ _ _ _ _ _
-
-pub SameRuns-trans : (a b c : Backtracker) → SameRuns a b → SameRuns b c → SameRuns a c
-SameRuns-trans a b c one two = record {
-  code = two.code ∙ one.code;
-  tables = two.tables ∙ one.tables;
-  text = two.text ∙ one.text;
-}
 
 -- a run from the input for the pattern, with every group unset
 pub run_solved : (b : Backtracker) (input : Input) (captures : List (Option CaptureSpan)) (k : ℕ) (m : Machine) (r : Response) →

@@ -1,5 +1,6 @@
 -- Loops over one character, whose iterations are run at once.
-use Rattle.std.proofs.Common.{◌≡◌, ℕ, zero, suc, ◌+◌, ◌<◌, ◌≤◌, ◌==◌, ◌||◌, not, Bool, true, false, List, [], ◌∷◌, ◌++◌, length, slice_index, Some, All, flat_map, refl, sym, ap, ap₂, ◌∙◌, subst, append-nil, append_assoc, arith}
+use Rattle.std.proofs.Common.{◌≡◌, ◌⊎◌, inl, inr, ℕ, zero, suc, ◌+◌, ◌-◌, ◌<◌, ◌≤◌, ◌==◌, ◌||◌, not, Bool, true, false, List, [], ◌∷◌, ◌++◌, length, slice_index, Some, All, flat_map, refl, sym, ap, ap₂, ◌∙◌, subst, append-nil, append_assoc, arith}
+use Rattle.std.proofs.Math.Nat.{eq-or-lt_of_le}
 use Rattle.std.proofs.lemmas.Grind.{flat_map-append}
 use Rattle.std.proofs.lemmas.List.Elements.{All-nil, All-cons, All-append}
 use Rattle.regress_base.specs.ByteBitmap.{contains}
@@ -106,6 +107,32 @@ module _ (input : Input) (is : IsInput input) (looping : Looping) (set : ByteBit
 
       one_more : (n k : ℕ) → (n + k) + 1 ≡ n + suc k
       one_more n k = omega arith
+
+plus_zero : (n : ℕ) → n + zero ≡ n
+plus_zero n = omega arith
+
+plus_suc : (n k : ℕ) → n + suc k ≡ suc (n + k)
+plus_suc n k = omega arith
+
+-- Points that have no outcome are left out.
+pub fewer_outcomes : (out : Out) (g : Groups) (first : Place) (kept more : ℕ) →
+    ((k : ℕ) → kept < k → k ≤ kept + more → out (at (record { pc = first.pc; moved = true; position = first.position + k }) g) ≡ []) →
+    flat_map out (range_points first (kept + more) g) ≡ flat_map out (range_points first kept g)
+fewer_outcomes out g first kept zero none = ap (λ n. flat_map out (range_points first n g)) (plus_zero kept)
+fewer_outcomes out g first kept (suc more) none =
+    ap (λ n. flat_map out (range_points first n g)) (plus_suc kept more)
+    ∙ ap (λ xs. xs ++ flat_map out (range_points first (kept + more) g)) (none (suc (kept + more)) (omega arith) (omega arith))
+    ∙ fewer_outcomes out g first kept more (λ k lt le. none k lt (omega (arith, le)))
+
+-- what holds of the numbers above one, and of that one
+pub holds_from : (P : ℕ → Type 0) (low high : ℕ) → P low → ((k : ℕ) → low < k → k ≤ high → P k) → (k : ℕ) → low - 1 < k → k ≤ high → P k
+holds_from P low high first above k lt le =
+    let least : low ≤ k = omega (arith, lt) in
+    by (eq-or-lt_of_le least)
+  where
+    by : (low ≡ k) ⊎ (low < k) → P k
+    by (inl same) = subst P same first
+    by (inr more) = above k more le
 
 -- the machine after several iterations
 pub swept_leads : (out : Out) (m m' : Machine) (first to : Place) (more : ℕ) (states : List MatchState) → Ranged first more m m' →

@@ -1,5 +1,5 @@
 -- Runs from many positions of a text.
-use Rattle.std.specs.Prelude.{◌≡◌, ℕ, List}
+use Rattle.std.specs.Prelude.{ℕ, List}
 use Rattle.regress_tree.specs.Steps.{MatchState}
 use Rattle.regress_tree.specs.Tree.{Tree}
 use Rattle.regress_unicode.specs.declared.Tables.{Tables}
@@ -20,12 +20,6 @@ run_tables b = b.known.tables.now
 -- the text
 abbrev pub run_text : Backtracker → List ℕ
 run_text b = b.text.now
-
--- The same program is run in the same text.
-pub record SameRuns (old new : Backtracker) : Type 0 where
-  pub code : run_code new ≡ run_code old
-  pub tables : run_tables new ≡ run_tables old
-  pub text : run_text new ≡ run_text old
 
 -- These are the outcomes of the instructions of the program in the text.
 abbrev pub AreOutcomes : Backtracker → (ℕ → Out) → Type 0

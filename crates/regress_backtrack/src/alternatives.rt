@@ -1,5 +1,5 @@
 //! Alternatives, and the iterations of loops.
-ghost use Rattle.std.specs.Prelude.{◌≡◌, ◌≤◌, ◌<◌, ◌+◌, ◌++◌, ℕ, All, IfOk, IfSome, false, flat_map, length, true};
+ghost use Rattle.std.specs.Prelude.{◌≡◌, ◌≤◌, ◌<◌, ◌+◌, ◌++◌, ◌∷◌, ℕ, All, IfOk, IfSome, false, flat_map, length, true};
 ghost use Rattle.regress_program.specs.Cost.{Cost};
 ghost use Rattle.regress_program.specs.Program.{Out, either};
 ghost use Rattle.regress_backtrack.specs.Costs.{HasCost, cost_ahead, points_cost};
@@ -56,7 +56,7 @@ pub fn fork(
     ensures goes { IfOk result (λ next. next ≡ OutOfSteps → ⊥) }
 {
     if fails(input, first) {
-        return Ok(Next::On(skip(input, second)));
+        return Ok(on(input, skip(input, second)));
     }
     if fails(input, second) {
         return Ok(Next::On(first));
@@ -113,11 +113,31 @@ pub fn iterate(
     };
     if looping.greedy {
         match sweep(input, looping, here, machine, remaining)? {
-            Some(to) => Ok(Next::On(to)),
+            Some(to) => Ok(on(input, to)),
             None => fork(input, again, after, machine),
         }
     } else {
         fork(input, after, again, machine)
+    }
+}
+
+/// Goes on at a place, or backtracks if it is known to fail.
+///
+/// # Preconditions
+/// The routines are a program.
+#[inline(always)]
+fn on(input: &Input<'_, '_>, place: Place) -> Next
+    requires input { IsInput input.now }
+    ensures leads { (machine : Machine) (outs : ℕ → Out) → Solve input.now outs → (let out = outs input.now.index in
+        Leads (out (at place (groups_of machine)) ++ flat_map out (points machine)) out machine result) }
+    ensures inside { (machine : Machine) → All (Inside input.now) (at place (groups_of machine) ∷ points machine) → All (Inside input.now) (ahead machine result) }
+    ensures costs { (machine : Machine) (cost : Cost) → cost_ahead cost machine result ≤ cost (at place (groups_of machine)) + points_cost cost machine }
+    ensures goes { result ≡ OutOfSteps → ⊥ }
+{
+    if fails(input, place) {
+        Next::Back
+    } else {
+        Next::On(place)
     }
 }
 
@@ -126,7 +146,7 @@ pub fn iterate(
 /// # Preconditions
 /// The place is inside the routine and the text.
 #[inline(always)]
-fn skip(input: &Input<'_, '_>, place: Place) -> Place
+pub fn skip(input: &Input<'_, '_>, place: Place) -> Place
     requires input { IsInput input.now }
     requires pc { place.pc < length input.now.instructions.now }
     requires position { place.position ≤ length input.now.text.now }

@@ -3,6 +3,7 @@
 
 mod alternatives;
 mod backtracker;
+mod cache;
 mod input;
 mod machine;
 mod run;
@@ -11,4 +12,5 @@ mod step;
 mod sweep;
 
 pub use backtracker::Backtracker;
+pub use cache::Cache;
 pub use search::match_at;

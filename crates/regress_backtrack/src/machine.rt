@@ -4,7 +4,6 @@ ghost use Rattle.regress_tree.specs.Repetition.{unset_from};
 ghost use Rattle.regress_program.specs.Program.{ended, goto};
 ghost use Rattle.regress_backtrack.specs.Machine.{Chosen, Closed, Kept, Ranged, at, changes_of, groups_of, points, rewound, undone};
 
-use regress_program::groups::unset_groups;
 use std::alloc::{AllocError, Global};
 use std::mem;
 
@@ -86,18 +85,25 @@ pub struct Machine {
 }
 
 impl Machine {
-    /// Returns a machine in which each of `groups` groups is unset.
+    /// Returns a machine without groups. It allocates nothing.
+    pub fn new(alloc: Global) -> Machine {
+        Machine {
+            captures: Vec::new(alloc),
+            stack: Stack::new(alloc),
+            idle: Vec::new(alloc),
+        }
+    }
+
+    /// Makes the captures those of `groups` groups, all unset, in the memory that they have if there is room for them.
     ///
     /// # Errors
     /// Returns [`AllocError`] if an allocation fails.
-    pub fn new(alloc: Global, groups: usize) -> Result<Machine, AllocError>
-        ensures { IfOk result (λ machine. machine.captures.items ≡ replicate groups None) }
+    pub fn unset_all(&mut self, groups: usize) -> Result<(), AllocError>
+        ensures { IfOk result (λ _. self.new.captures.items ≡ replicate groups None) }
     {
-        Ok(Machine {
-            captures: unset_groups(alloc, groups)?,
-            stack: Stack::new(alloc),
-            idle: Vec::new(alloc),
-        })
+        self.captures.clear();
+        self.captures.resize(groups, None)?;
+        Ok(())
     }
 
     /// Replaces the stack for the run of a lookaround. Returns the stack of the run around it.

@@ -5,7 +5,7 @@ ghost use Rattle.regress_unicode.specs.declared.Tables.{Tables};
 ghost use Rattle.regress_program.specs.Compiled.{IsPattern};
 ghost use Rattle.regress_program.specs.Cost.{Cost, IsCost};
 ghost use Rattle.regress_program.specs.Program.{IsSolution, Out};
-ghost use Rattle.regress_backtrack.specs.Backtracker.{AreCosts, AreOutcomes, SameRuns, captures_cost_of, outcomes_at, run_code, run_text, runs_cost_at, search_cost_at, tree_outcomes_at};
+ghost use Rattle.regress_backtrack.specs.Backtracker.{AreCosts, AreOutcomes, captures_cost_of, outcomes_at, run_code, run_text, runs_cost_at, search_cost_at, tree_outcomes_at};
 ghost use Rattle.regress_code.specs.Code.{captures_cost, code_routines, match_cost, outcomes_from, setting_with, tree_outcomes_from};
 ghost use Rattle.regress_found.specs.Results.{IfMatched, IsSearchResult, IsMatchResult};
 ghost use Rattle.regress_found.specs.Tried.{positions_tried};
@@ -14,6 +14,7 @@ ghost use Rattle.regress_code.specs.declared.code.Code.{Code};
 ghost use Rattle.regress_found.specs.declared.outcome.Outcome.TheVariants.{OutOfSteps};
 
 use crate::backtracker::{Backtracker, input_of};
+use crate::cache::Cache;
 use crate::input::{Input, next_bytes_at};
 use regress_code::Code;
 use regress_found::{Found, Outcome};
@@ -53,8 +54,9 @@ pub fn match_at(
     ensures out_of_steps { IfOk result (λ found. found.outcome ≡ OutOfSteps → found.steps ≡ steps) }
 {
     let mut remaining = steps;
-    let mut backtracker = Backtracker::new(alloc, code, known, text)?;
-    let outcome = backtracker.match_at(alloc, position, &mut remaining)?;
+    let mut cache = Cache::new(alloc);
+    let backtracker = Backtracker::new(code, known, text);
+    let outcome = backtracker.match_at(alloc, &mut cache, position, &mut remaining)?;
     Ok(Found {
         outcome,
         steps: steps - remaining,
@@ -67,12 +69,14 @@ impl Backtracker<'_, '_> {
     ///
     /// # Complexity
     /// A step is an instruction. It counts 1, and 1 more for each 64 bytes by which it moves the position, for each 64
-    /// bytes of the capture that a back reference is compared with (with `icase` for each byte), but no more of them than
-    /// the text has from there on, and for each 64 groups that it unsets. A loop over ASCII characters whose iterations are run at once counts 1 for each of them. A search
-    /// counts 1 for each 64 groups of the pattern, and 1 for each byte offset up to the match, also where the first byte
-    /// shows that no match begins. The result is [`Outcome::OutOfSteps`] as soon as `remaining` is used up, and with 0 for
-    /// each `from` in the text. A step that is begun is completed, even if it counts more than remains. If the first bytes
-    /// show that no match begins in the rest of the text, that rest counts nothing.
+    /// bytes of the capture that a back reference is compared with (with `icase` for each byte), but no more of them
+    /// than the text has from there on, for each 64 characters before one that fails in a loop that is one instruction,
+    /// and for each 64 groups that it unsets. A loop over ASCII characters whose iterations are run at once counts 1
+    /// for each of them. A search counts 1 for each 64 groups of the pattern, and 1 for each byte offset up to the
+    /// match, also where the first byte shows that no match begins. The result is [`Outcome::OutOfSteps`] as soon as
+    /// `remaining` is used up, and with 0 for each `from` in the text. A step that is begun is completed, even if it
+    /// counts more than remains. If the first bytes show that no match begins in the rest of the text, that rest counts
+    /// nothing.
     ///
     /// A search that finds a match takes at least a step for each byte offset up to its start and one for each 64 groups,
     /// or all steps that remain. It takes at most its cost: the steps that following every outcome from every byte offset
@@ -80,31 +84,31 @@ impl Backtracker<'_, '_> {
     /// [`Outcome::OutOfSteps`].
     ///
     /// So the limit bounds the time: it is at most `remaining` and the length of the text together, times a factor that depends
-    /// only on the program. The memory is at most `remaining` times such a factor, and is kept for the next search. Recursion is
-    /// as deep as lookarounds are nested.
+    /// only on the program. The memory is at most `remaining` times such a factor, and the cache keeps it. Recursion is as deep
+    /// as lookarounds are nested.
     ///
     /// # Errors
     /// Returns [`AllocError`] if an allocation fails.
     pub fn find(
-        &mut self,
+        &self,
         alloc: Global,
+        cache: &mut Cache,
         from: usize,
         remaining: &mut u64,
     ) -> Result<Outcome, AllocError>
-        ensures solved { IfOk result (λ outcome. (outs : ℕ → Out) → AreOutcomes self.old outs →
-            IsSearchResult (run_text self.old) (outcomes_at self.old outs) from outcome) }
-        ensures finds { IfOk result (λ outcome. (t : Tree) → IsPattern (code_routines (run_code self.old)) t →
-            IsSearchResult (run_text self.old) (tree_outcomes_at self.old t) from outcome) }
+        ensures solved { IfOk result (λ outcome. (outs : ℕ → Out) → AreOutcomes self.now outs →
+            IsSearchResult (run_text self.now) (outcomes_at self.now outs) from outcome) }
+        ensures finds { IfOk result (λ outcome. (t : Tree) → IsPattern (code_routines (run_code self.now)) t →
+            IsSearchResult (run_text self.now) (tree_outcomes_at self.now t) from outcome) }
         ensures remaining { IfOk result (λ _. remaining.new ≤ remaining.old) }
-        ensures costs { IfOk result (λ _. (outs : ℕ → Out) (costs : ℕ → Cost) → AreCosts self.old outs costs →
-            remaining.old ≤ remaining.new + search_cost_at self.old costs from) }
+        ensures costs { IfOk result (λ _. (outs : ℕ → Out) (costs : ℕ → Cost) → AreCosts self.now outs costs →
+            remaining.old ≤ remaining.new + search_cost_at self.now costs from) }
         ensures spent { IfOk result (λ outcome. outcome ≡ OutOfSteps → remaining.new ≡ 0) }
         ensures counted { IfOk result (λ outcome. IfMatched outcome (λ m.
-            remaining.new ≤ remaining.old - (captures_cost_of self.old + positions_tried (run_text self.old) from (Some m)))) }
-        ensures same { SameRuns self.old self.new }
+            remaining.new ≤ remaining.old - (captures_cost_of self.now + positions_tried (run_text self.now) from (Some m)))) }
     {
         *remaining = remaining.saturating_sub(self.captures_cost());
-        self.run_from(alloc, from, remaining)
+        self.run_from(alloc, cache, from, remaining)
     }
 
     /// Returns the leftmost match as [`Backtracker::find`]. The captures of the match are counted before.
@@ -112,25 +116,26 @@ impl Backtracker<'_, '_> {
     /// # Errors
     /// Returns [`AllocError`] if an allocation fails.
     fn run_from(
-        &mut self,
+        &self,
         alloc: Global,
+        cache: &mut Cache,
         from: usize,
         remaining: &mut u64,
     ) -> Result<Outcome, AllocError>
-        ensures solved { IfOk result (λ outcome. (outs : ℕ → Out) → AreOutcomes self.old outs →
-            IsSearchResult (run_text self.old) (outcomes_at self.old outs) from outcome) }
-        ensures finds { IfOk result (λ outcome. (t : Tree) → IsPattern (code_routines (run_code self.old)) t →
-            IsSearchResult (run_text self.old) (tree_outcomes_at self.old t) from outcome) }
+        ensures solved { IfOk result (λ outcome. (outs : ℕ → Out) → AreOutcomes self.now outs →
+            IsSearchResult (run_text self.now) (outcomes_at self.now outs) from outcome) }
+        ensures finds { IfOk result (λ outcome. (t : Tree) → IsPattern (code_routines (run_code self.now)) t →
+            IsSearchResult (run_text self.now) (tree_outcomes_at self.now t) from outcome) }
         ensures remaining { IfOk result (λ _. remaining.new ≤ remaining.old) }
-        ensures costs { IfOk result (λ _. (outs : ℕ → Out) (costs : ℕ → Cost) → AreCosts self.old outs costs →
-            remaining.old ≤ remaining.new + runs_cost_at self.old costs from) }
+        ensures costs { IfOk result (λ _. (outs : ℕ → Out) (costs : ℕ → Cost) → AreCosts self.now outs costs →
+            remaining.old ≤ remaining.new + runs_cost_at self.now costs from) }
         ensures spent { IfOk result (λ outcome. outcome ≡ OutOfSteps → remaining.new ≡ 0) }
-        ensures tried { IfOk result (λ outcome. IfMatched outcome (λ m. remaining.new ≤ remaining.old - positions_tried (run_text self.old) from (Some m))) }
-        ensures same { SameRuns self.old self.new }
+        ensures tried { IfOk result (λ outcome. IfMatched outcome (λ m. remaining.new ≤ remaining.old - positions_tried (run_text self.now) from (Some m))) }
     {
         let code = self.code;
         let text = self.text;
         let input = input_of(code, self.known, text);
+        cache.machine.unset_all(code.program.groups)?;
         let mut from = from;
         while from <= text.len() {
             if *remaining == 0 {
@@ -142,7 +147,7 @@ impl Backtracker<'_, '_> {
             // the bytes that are skipped, and the position that is tried
             *remaining = remaining.saturating_sub((position - from) as u64 + 1);
             if text.is_char_boundary(position) {
-                match self.match_in(alloc, &input, position, remaining)? {
+                match self.match_in(alloc, &input, &mut cache.machine, position, remaining)? {
                     Outcome::Matched(found) => return Ok(Outcome::Matched(found)),
                     Outcome::NoMatch => {}
                     Outcome::OutOfSteps => return Ok(Outcome::OutOfSteps),

@@ -9,7 +9,7 @@ ghost use Rattle.regress_tree.specs.Steps.{Matcher};
 ghost use Rattle.regress_tree.specs.Tree.{tree};
 ghost use Rattle.regress_found.specs.Found.{state};
 ghost use Rattle.regress_program.specs.Cost as cost;
-ghost use Rattle.regress_program.specs.Cost.{Cost, bytes_ahead, compared};
+ghost use Rattle.regress_program.specs.Cost.{Cost, bytes_ahead, characters_cost, compared};
 ghost use Rattle.regress_program.specs.Program.{Out, goto, matcher_of, outcomes_by};
 ghost use Rattle.regress_program.specs.Shape.{IsPart};
 ghost use Rattle.regress_code.specs.Code.{code_routines};
@@ -26,7 +26,7 @@ use regress_leaves::leaves::simple_leaf;
 use regress_leaves::test::Test;
 use regress_program::blocks::{blocks, unset_cost};
 use regress_program::instruction::Instruction;
-use regress_program::leaf::leaf_end;
+use regress_program::leaf::{bytes_ahead, leaf_end};
 use std::alloc::AllocError;
 
 /// What follows an instruction.
@@ -49,7 +49,7 @@ pub enum Next {
 ///
 /// # Complexity
 /// It subtracts from `remaining` one for each 64 bytes by which it moves the position, for each 64 bytes that a back
-/// reference is compared with, and for each 64 groups that it unsets.
+/// reference is compared with, for each 64 characters before one that fails, and for each 64 groups that it unsets.
 ///
 /// # Errors
 /// Returns [`AllocError`] if an allocation fails.
@@ -230,27 +230,40 @@ fn match_characters(
     let Some(test) = test_at(input, leaf) else {
         return Next::Back;
     };
-    let to = characters_end(input, test, count, here.position);
+    let to = characters_end(input, test, count, here.position, remaining);
     reach(here, next, to, remaining)
 }
 
-/// Returns the position after exactly `count` characters, each of which matches a leaf, or `None` if there are fewer.
+/// Returns the position after exactly `count` characters, each of which matches a leaf, or `None` if there are fewer. If
+/// one fails, it subtracts from `remaining` one for each 64 characters before it.
 ///
 /// # Preconditions
-/// The leaf matches one character.
+/// The leaf matches one character, and the position is inside the text.
 #[inline(always)]
 fn characters_end(
     input: &Input<'_, '_>,
     test: &Test,
     count: usize,
     position: usize,
+    remaining: &mut u64,
 ) -> Option<usize>
-    requires { takes_one (tree test.now.node) ≡ true }
-    ensures { GoesTo (subject input.now.rules input.now.text.now) position (exactly count (tree test.now.node)) result }
+    requires one { takes_one (tree test.now.node) ≡ true }
+    requires inside { position ≤ length input.now.text.now }
+    ensures to { GoesTo (subject input.now.rules input.now.text.now) position (exactly count (tree test.now.node)) result }
+    ensures remaining { remaining.new ≤ remaining.old }
+    ensures costs { remaining.old ≤ remaining.new + characters_cost (bytes_ahead (subject input.now.rules input.now.text.now).direction (length input.now.text.now) position) count }
 {
+    // each character has at least one byte
+    if count > bytes_ahead(input.text, input.rules.backwards, position) {
+        return None;
+    }
     let mut end = position;
-    for _i in 0..count {
-        end = character_end(input, test, end)?;
+    for i in 0..count {
+        let Some(to) = character_end(input, test, end) else {
+            *remaining = remaining.saturating_sub(blocks(i));
+            return None;
+        };
+        end = to;
     }
     Some(end)
 }

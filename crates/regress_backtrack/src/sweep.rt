@@ -3,11 +3,11 @@ ghost use Rattle.std.specs.Prelude.{◌≡◌, ◌≤◌, ◌<◌, ◌+◌, ◌+
 ghost use Rattle.regress_program.specs.Cost.{Cost};
 ghost use Rattle.regress_program.specs.Program.{Out};
 ghost use Rattle.regress_backtrack.specs.Costs.{HasCost, points_cost};
-ghost use Rattle.regress_backtrack.specs.Machine.{at, groups_of, points, rewound};
-ghost use Rattle.regress_backtrack.specs.Next.{Inside, IsInput, Solve};
+ghost use Rattle.regress_backtrack.specs.Machine.{Groups, at, groups_of, points, rewound};
+ghost use Rattle.regress_backtrack.specs.Next.{Fails, Inside, IsInput, Solve};
 ghost use Rattle.regress_backtrack.specs.Sweep.{IsSwept};
 
-use crate::alternatives::Looping;
+use crate::alternatives::{Looping, fails, skip};
 use crate::input::{Input, instruction_at, test_at};
 use crate::machine::{Machine, Place};
 use regress_base::bytesearch::ByteBitmap;
@@ -26,8 +26,8 @@ struct Swept<'c> {
 }
 
 /// Consumes the ASCII characters at a place at once, if the body of a greedy loop is a leaf that matches one character.
-/// Each is an iteration, and what follows the loop is tried after each of them, the last one first. Returns where the
-/// last iteration ends, or `None` if there is none, where nothing has changed.
+/// Each is an iteration, and what follows the loop is tried after each of them, the last one first. Returns where the run
+/// goes on after the last iteration, or `None` if there is none, where nothing has changed.
 ///
 /// # Preconditions
 /// The loop is greedy, its body and what follows are inside the routine, and the position is inside the text.
@@ -78,13 +78,93 @@ pub fn sweep(
         pc: looping.next,
         ..here
     };
-    machine.choose_range(after, count - 1)?;
-    *remaining = remaining.saturating_sub(count as u64);
-    Ok(Some(Place {
+    let end = Place {
         pc: swept.repeat_pc,
         moved: true,
         position: here.position + count,
-    }))
+    };
+    let to = leave(input, swept, looping, end);
+    let more = points_kept(input, to, after, count - 1);
+    machine.choose_range(after, more)?;
+    *remaining = remaining.saturating_sub(count as u64);
+    Ok(Some(to))
+}
+
+/// Returns how many of the `more` positions after the place `first` are kept as backtrack points, if the run goes on at
+/// `to`. If it is known to fail there, the last positions at which it is known to fail, too, are left out.
+///
+/// # Preconditions
+/// The routines are a program, and the last position is at most `usize::MAX`.
+#[inline(always)]
+fn points_kept(input: &Input<'_, '_>, to: Place, first: Place, more: usize) -> usize
+    requires input { IsInput input.now }
+    requires last { first.position + more ≤ usize.MAX }
+    ensures within { result ≤ more }
+    ensures fails { (k : ℕ) → result < k → k ≤ more →
+        Fails input.now (record { pc = first.pc; moved = true; position = first.position + k }) }
+{
+    if !fails(input, to) {
+        return more;
+    }
+    let mut kept = more;
+    while kept > 0 && fails_after(input, first, kept) {
+        kept -= 1;
+    }
+    kept
+}
+
+/// Returns whether a run is known to fail at the instruction of a place, `more` bytes after it.
+///
+/// # Preconditions
+/// The routines are a program, and the position is at most `usize::MAX`.
+#[inline(always)]
+fn fails_after(input: &Input<'_, '_>, first: Place, more: usize) -> bool
+    requires input { IsInput input.now }
+    requires position { first.position + more ≤ usize.MAX }
+    ensures { result ≡ true → Fails input.now (record { pc = first.pc; moved = true; position = first.position + more }) }
+{
+    let place = Place {
+        pc: first.pc,
+        moved: true,
+        position: first.position + more,
+    };
+    fails(input, place)
+}
+
+/// Leaves a loop at the end of an iteration, if another one is known to fail there.
+///
+/// # Preconditions
+/// The place is at the end of an iteration, which has advanced, and the body and what follows are inside the
+/// routine.
+#[inline(always)]
+fn leave(input: &Input<'_, '_>, swept: Swept<'_>, looping: Looping, to: Place) -> Place
+    requires input { IsInput input.now }
+    requires swept { IsSwept input.now looping swept.set.now swept.repeat_pc }
+    requires body { looping.body < length input.now.instructions.now }
+    requires next { looping.next < length input.now.instructions.now }
+    requires pc { to.pc ≡ swept.repeat_pc }
+    requires moved { to.moved ≡ true }
+    requires position { to.position ≤ length input.now.text.now }
+    ensures pc { result.pc < length input.now.instructions.now }
+    ensures position { result.position ≡ to.position }
+    ensures same { (outs : ℕ → Out) (g : Groups) → Solve input.now outs → outs input.now.index (at result g) ≡ outs input.now.index (at to g) }
+    ensures costs { (outs : ℕ → Out) (costs : ℕ → Cost) (g : Groups) → HasCost input.now outs costs →
+        costs input.now.index (at result g) ≤ costs input.now.index (at to g) }
+{
+    let again = Place {
+        pc: looping.body,
+        moved: false,
+        position: to.position,
+    };
+    if fails(input, again) {
+        let after = Place {
+            pc: looping.next,
+            ..to
+        };
+        skip(input, after)
+    } else {
+        to
+    }
 }
 
 /// Returns the leaf of a loop and the end of an iteration, if the body is a leaf that matches one character forwards.

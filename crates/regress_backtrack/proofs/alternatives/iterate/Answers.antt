@@ -1,4 +1,4 @@
-use Rattle.std.proofs.Common.{rules, arith, ◌≡◌, ◌+◌, ◌≤◌, ◌++◌, false, flat_map, subst, sym}
+use Rattle.std.proofs.Common.{rules, arith, ◌≡◌, ◌+◌, ◌≤◌, ◌++◌, ◌∷◌, false, flat_map, subst, sym}
 use Rattle.regress_program.specs.Program.{either}
 use Rattle.regress_backtrack.specs.declared.machine.Place.{Place}
 use Rattle.regress_backtrack.specs.Costs.{cost_ahead, points_cost}
@@ -6,6 +6,19 @@ use Rattle.regress_backtrack.specs.Machine.{at, groups_of, points}
 use Rattle.regress_backtrack.specs.Next.{Leads}
 use Rattle.regress_backtrack.proofs.StepLemmas.{ok_map}
 use Rattle.regress_backtrack.proofs.alternatives.iterate.Goals as goal
+
+pub returns-in-Some-clause-leads : goal.returns-in-Some-clause-leads
+returns-in-Some-clause-leads c = λ outs solve.
+    let out = outs c.args.input.now.index in
+    let m = c.args.machine.now in
+    let m' = c.sweep.new.machine in
+    let g = groups_of m in
+    let again : Place = record { pc = c.args.looping.body; moved = false; position = c.args.here.position } in
+    let after : Place = record { pc = c.args.looping.next; moved = c.args.here.moved; position = c.args.here.position } in
+    let swept : (out (at again g) ++ out (at after g)) ++ flat_map out (points m) ≡ flat_map out (at c.in-Some.to (groups_of m') ∷ points m') =
+    (rw c.in-Some.is at c.in_ok-to.ensures.leads) outs solve in
+    subst (λ greedy. Leads (either out greedy (at again g) (at after g) ++ flat_map out (points m)) out m' c.on.result) (sym c.if-looping.true)
+    (subst (λ states. Leads states out m' c.on.result) (sym swept) (c.on.ensures.leads m' outs solve))
 
 pub returns-in-None-clause-leads : goal.returns-in-None-clause-leads
 returns-in-None-clause-leads c =
@@ -48,7 +61,8 @@ returns-in-Some-clause-costs c = λ outs costs has.
     let taken : c.args.remaining.now + (cost (at c.in-Some.to (groups_of m')) + points_cost cost m')
     ≤ c.sweep.new.remaining + ((cost (at again g) + cost (at after g)) + points_cost cost m) =
     (rw c.in-Some.is at c.in_ok-to.ensures.costs) outs costs has in
-    taken
+    let ahead = c.on.ensures.costs m' cost in
+    omega (arith, taken, ahead)
 
 pub returns-in-None-clause-costs : goal.returns-in-None-clause-costs
 returns-in-None-clause-costs c =

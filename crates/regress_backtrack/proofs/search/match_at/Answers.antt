@@ -7,19 +7,19 @@ use Rattle.regress_backtrack.proofs.search.match_at.Goals as goal
 
 pub returns-clause-solved : goal.returns-clause-solved
 returns-clause-solved c =
-    let made = c.in_ok-backtracker.ensures in
-    for_solution c.in_ok-backtracker.backtracker c.args.code.now c.args.known.tables.now c.args.text.now
+    let made = c.new-backtracker.ensures in
+    for_solution c.new-backtracker.result c.args.code.now c.args.known.tables.now c.args.text.now
     (λ text at. IsMatchResult c.args.position (at c.args.position) c.in_ok-outcome.outcome) made.code made.tables made.text c.in_ok-outcome.ensures.solved
 
 pub returns-clause-first : goal.returns-clause-first
 returns-clause-first c =
-    let made = c.in_ok-backtracker.ensures in
-    for_tree c.in_ok-backtracker.backtracker c.args.code.now c.args.known.tables.now c.args.text.now
+    let made = c.new-backtracker.ensures in
+    for_tree c.new-backtracker.result c.args.code.now c.args.known.tables.now c.args.text.now
     (λ text at. IsMatchResult c.args.position (at c.args.position) c.in_ok-outcome.outcome) made.code made.tables made.text c.in_ok-outcome.ensures.first
 
 pub returns-clause-costs : goal.returns-clause-costs
 returns-clause-costs c = λ outs costs has.
-    let made = c.in_ok-backtracker.ensures in
+    let made = c.new-backtracker.ensures in
     let steps = c.args.steps in
     let remaining = c.match_at.new.remaining in
     let taken : steps ≤ remaining + match_cost c.args.code.now c.args.known.tables.now c.args.text.now costs c.args.position =

@@ -11,4 +11,7 @@ abbrev pub invariant-loop-i : goal.invariant-loop-i
 invariant-loop-i l =
     let u = subject l.input.rules l.input.text.now in
     let f : Matcher = steps u.setting u.bytes u.direction (tree l.test.node) in
-    (s : MatchState) → s.position ≡ l.position → iterations (l.count - l._i) f (record s { position = l.end }) ≡ iterations l.count f s
+    record {
+      so_far : (s : MatchState) → s.position ≡ l.position → iterations (l.count - l.i) f (record s { position = l.end }) ≡ iterations l.count f s;
+      same : l.remaining ≡ l.fn.remaining;
+    }

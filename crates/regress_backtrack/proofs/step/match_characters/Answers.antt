@@ -1,7 +1,7 @@
 use Rattle.regress_found.specs.Found.{state}
 use Rattle.std.proofs.Common.{slice_get, refl}
 use Rattle.regress_leaves.specs.Subject.{subject}
-use Rattle.regress_backtrack.proofs.CostLemmas.{characters_cost}
+use Rattle.regress_backtrack.proofs.CostLemmas.{exactly_cost}
 use Rattle.regress_backtrack.proofs.StepLemmas.{characters_inside, characters_named}
 use Rattle.regress_backtrack.proofs.step.match_characters.Goals as goal
 
@@ -22,12 +22,12 @@ returns-clause-inside c = λ m.
     let here = c.args.here in
     characters_inside input m (slice_get input.code.now.program.leaves.items c.args.leaf) c.args.next here c.reach.result c.in-Some.test.now c.args.count
     c.characters_end-to.result u.setting u.direction c.in-Some.ensures c.requires
-    (c.characters_end-to.ensures (state m.captures.items here.position) refl) c.reach.ensures.next
+    (c.characters_end-to.ensures.to (state m.captures.items here.position) refl) c.reach.ensures.next
 
 pub returns-clause-costs : goal.returns-clause-costs
 returns-clause-costs c = λ m outs costs.
     let input = c.args.input.now in
     let here = c.args.here in
-    characters_cost input outs costs m here c.args.next c.reach.result c.args.remaining.now c.args.remaining.now c.reach.new.remaining
+    exactly_cost input outs costs m here c.args.next c.reach.result c.args.remaining.now c.characters_end-to.new.remaining c.reach.new.remaining
     (slice_get input.code.now.program.leaves.items c.args.leaf) c.in-Some.test.now c.args.count c.characters_end-to.result c.in-Some.ensures
-    (c.characters_end-to.ensures (state m.captures.items here.position) refl) c.reach.ensures.next c.reach.ensures.costs
+    (c.characters_end-to.ensures.to (state m.captures.items here.position) refl) c.reach.ensures.next c.characters_end-to.ensures.costs c.reach.ensures.costs

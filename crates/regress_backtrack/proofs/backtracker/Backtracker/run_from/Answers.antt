@@ -1,4 +1,4 @@
-use Rattle.std.proofs.Common.{rules, arith, ◌≤◌, ◌<◌, ℕ, length, sym, ap, subst, IfSome, MatchOption}
+use Rattle.std.proofs.Common.{rules, arith, ◌≤◌, ◌<◌, ℕ, length, sym, ◌∙◌, subst, IfSome, MatchOption}
 use Rattle.std.specs.Str.{IsCharBoundary}
 use Rattle.regress_found.specs.Found.{NoneBefore}
 use Rattle.regress_program.specs.Program.{Out}
@@ -9,7 +9,7 @@ use Rattle.regress_found.specs.Results.{IsMatchResult}
 use Rattle.regress_found.specs.declared.outcome.Outcome.TheVariants as outcomes
 use Rattle.regress_backtrack.proofs.CandidateLemmas.{none_after, none_before}
 use Rattle.regress_backtrack.proofs.CostLemmas.{searched, tried_on}
-use Rattle.regress_backtrack.proofs.SearchLemmas.{SameRuns-trans, found_leftmost, none_more, not_true, same_input, same_solved, same_taken, tree_finds}
+use Rattle.regress_backtrack.proofs.SearchLemmas.{found_leftmost, none_more, not_true, tree_finds}
 use Rattle.regress_backtrack.proofs.backtracker.Backtracker.run_from.Goals as goal
 use Rattle.regress_backtrack.proofs.backtracker.Backtracker.run_from.Goals.{then-is_char_boundary+in_ok-found+in-NoMatch, else-is_char_boundary}
 
@@ -17,8 +17,9 @@ pub match_in-requires : goal.match_in-requires
 match_in-requires c =
     let on : IsCharBoundary (run_text c.args.self.now) c.in-Some.position = search rules in
     record {
-      input = same_input c.args.self.now c.loop-from.self c.loop-from.invariant.same c.input_of-input.result c.input_of-input.ensures;
-      position = omega (arith, on.0, ap length c.loop-from.invariant.same.text);
+      input = c.input_of-input.ensures;
+      unset = c.loop-from.invariant.unset;
+      position = on.0;
     }
 
 pub returns-clause-solved : goal.returns-clause-solved
@@ -39,13 +40,12 @@ returns-in_default-clause-finds c = tree_finds c.args.self.now c.args.from outco
 pub returns-in-Matched-clause-solved : goal.returns-in-Matched-clause-solved
 returns-in-Matched-clause-solved c = λ outs are.
     let a = c.args.self.now in
-    let b = c.loop-from.self in
     let k = c.in-Some.position in
     let on : IsCharBoundary (run_text a) k = search rules in
     let within = subst (λ r. IfSome r (λ (p : ℕ). (c.loop-from.from ≤ p) × (p ≤ length (run_text a)))) c.in-Some.is c.next_start.ensures.within in
     found_leftmost (run_text a) (outcomes_at a outs) c.args.from k c.in-Matched.found (omega (arith, c.loop-from.invariant.from, within.0)) on
     (subst (IsMatchResult k (outcomes_at a outs k)) c.in-Matched.is
-    (same_solved a b (λ states. IsMatchResult k states c.in_ok-found.field-0) k c.loop-from.invariant.same c.in_ok-found.ensures.solved outs are))
+    (c.in_ok-found.ensures.solved outs are))
     (none_before (run_text a) (outcomes_at a outs) c.args.from c.loop-from.from (c.loop-from.invariant.solved outs are) k
     (λ p low le lt. c.next_start.ensures.skipped (run_tables a) c.input_of-input.ensures outs are p low le (subst (λ r. MatchOption r Unit (λ q. p < q)) (sym c.in-Some.is) lt)))
 
@@ -56,7 +56,6 @@ returns-in-Matched-clause-finds c =
 pub loop-from-preserved : goal.loop-from-preserved
 loop-from-preserved c =
     let a = c.args.self.now in
-    let b = c.loop-from.self in
     let text = run_text a in
     let k = c.in-Some.position in
     let so_far = c.loop-from.invariant in
@@ -66,27 +65,27 @@ loop-from-preserved c =
     (λ p low le lt. c.next_start.ensures.skipped (run_tables a) c.input_of-input.ensures outs are p low le (subst (λ r. MatchOption r Unit (λ q. p < q)) (sym c.in-Some.is) lt)) in
     elim c.if-is_char_boundary.branch [
       | then-is_char_boundary+in_ok-found+in-NoMatch w ↦ record {
-        same = rw w.self-is (SameRuns-trans a b w.match_in.new.self so_far.same w.match_in.ensures.same);
+        unset = rw w.cache-is (w.in_ok-found.ensures.unset w.in-NoMatch.is ∙ so_far.unset);
         from = omega (arith, so_far.from, within.0);
         remaining = omega (arith, w.remaining-is, w.in_ok-found.ensures.remaining, c.saturating_sub.ensures, so_far.remaining);
         counted = omega (arith, w.remaining-is, w.in_ok-found.ensures.remaining, c.saturating_sub.ensures, so_far.counted, so_far.from, within.0);
         solved = λ outs are.
             none_more text (outcomes_at a outs) c.args.from k (none outs are)
             (λ on. subst (IsMatchResult k (outcomes_at a outs k)) w.in-NoMatch.is
-            (same_solved a b (λ states. IsMatchResult k states w.in_ok-found.field-0) k so_far.same w.in_ok-found.ensures.solved outs are));
+            (w.in_ok-found.ensures.solved outs are));
         costs = λ outs costs are.
             let before = so_far.costs outs costs are in
-            let taken = same_taken a b k c.saturating_sub.result w.match_in.new.remaining outs costs so_far.same (w.in_ok-found.ensures.costs outs costs) are in
+            let taken = w.in_ok-found.ensures.costs outs costs are in
             let on = tried_on (cost_at a costs) c.args.from c.loop-from.from k so_far.from within.0 in
             omega (arith, before, taken, on, w.remaining-is, c.saturating_sub.ensures);
         enough = λ outs costs are.
-            let taken = same_taken a b k c.saturating_sub.result w.match_in.new.remaining outs costs so_far.same (w.in_ok-found.ensures.costs outs costs) are in
+            let taken = w.in_ok-found.ensures.costs outs costs are in
             let all = searched (cost_at a costs) c.args.from c.loop-from.from k (length text) c.args.remaining.now c.loop-from.remaining c.saturating_sub.result
             w.match_in.new.remaining so_far.from within.0 within.1 (so_far.costs outs costs are) (omega (arith, c.saturating_sub.ensures)) taken in
             omega (arith, all, w.remaining-is);
       }
       | else-is_char_boundary w ↦ record {
-        same = rw w.self-is so_far.same;
+        unset = rw w.cache-is so_far.unset;
         from = omega (arith, so_far.from, within.0);
         remaining = omega (arith, w.remaining-is, c.saturating_sub.ensures, so_far.remaining);
         counted = omega (arith, w.remaining-is, c.saturating_sub.ensures, so_far.counted, so_far.from, within.0);
@@ -114,7 +113,7 @@ returns-in-Matched-clause-tried c =
     let within = subst (λ r. IfSome r (λ (p : ℕ). (c.loop-from.from ≤ p) × (p ≤ length (run_text a)))) c.in-Some.is c.next_start.ensures.within in
     let so_far = c.loop-from.invariant in
     let first = subst (IsMatchResult k (outcomes_at a some.0 k)) c.in-Matched.is
-    (same_solved a c.loop-from.self (λ states. IsMatchResult k states c.in_ok-found.field-0) k so_far.same c.in_ok-found.ensures.solved some.0 some.1) in
+    (c.in_ok-found.ensures.solved some.0 some.1) in
     omega (arith, first.0, within.0, so_far.from, so_far.counted, c.saturating_sub.ensures, c.in_ok-found.ensures.remaining)
 
 pub returns-in-Matched-clause-costs : goal.returns-in-Matched-clause-costs
@@ -125,7 +124,7 @@ returns-in-Matched-clause-costs c = λ outs costs are.
     let so_far = c.loop-from.invariant in
     searched (cost_at a costs) c.args.from c.loop-from.from k (length (run_text a)) c.args.remaining.now c.loop-from.remaining c.saturating_sub.result
     c.match_in.new.remaining so_far.from within.0 within.1 (so_far.costs outs costs are) (omega (arith, c.saturating_sub.ensures))
-    (same_taken a c.loop-from.self k c.saturating_sub.result c.match_in.new.remaining outs costs so_far.same (c.in_ok-found.ensures.costs outs costs) are)
+    (c.in_ok-found.ensures.costs outs costs are)
 
 pub returns-in-OutOfSteps-clause-costs : goal.returns-in-OutOfSteps-clause-costs
 returns-in-OutOfSteps-clause-costs c = λ outs costs are.
@@ -135,4 +134,4 @@ returns-in-OutOfSteps-clause-costs c = λ outs costs are.
     let so_far = c.loop-from.invariant in
     searched (cost_at a costs) c.args.from c.loop-from.from k (length (run_text a)) c.args.remaining.now c.loop-from.remaining c.saturating_sub.result
     c.match_in.new.remaining so_far.from within.0 within.1 (so_far.costs outs costs are) (omega (arith, c.saturating_sub.ensures))
-    (same_taken a c.loop-from.self k c.saturating_sub.result c.match_in.new.remaining outs costs so_far.same (c.in_ok-found.ensures.costs outs costs) are)
+    (c.in_ok-found.ensures.costs outs costs are)
