@@ -15,7 +15,8 @@
 
    A handle is a variable that regress_compile writes, and may be moved. It owns the compiled pattern, until
    regress_free frees it and makes it zero. A regress_matches is the same for matches, from regress_matches_new to
-   regress_matches_free, and a regress_replaced for a text, from regress_replaced_new to regress_replaced_free.
+   regress_matches_free, and a regress_replaced for a text, from regress_replaced_new to regress_replaced_free. A
+   regress_searcher keeps the memory of searches, from regress_searcher_new to regress_searcher_free.
    Everything else that a call allocates, with malloc, is freed before it returns. No call keeps a pointer that it is
    given. A call must not be made in a signal handler.
 
@@ -62,6 +63,11 @@ typedef struct regress_replaced {
     void *inside;
 } regress_replaced;
 
+/* The memory of searches for one match, which is kept from one search to the next. `inside` is as that of a handle. */
+typedef struct regress_searcher {
+    void *inside;
+} regress_searcher;
+
 /* Statuses. docs/c-api.md lists when each is returned, and what to do. Those of regress_front.h have the same
    numbers. */
 #define REGRESS_OK 0u              /* success: the result is written */
@@ -93,9 +99,10 @@ typedef struct regress_replaced {
    - steps: the steps of a search that is not linear, by default a billion. docs/performance.md says what a step is.
    - nodes: the nodes of the tree of the pattern, as regress_front_node_bound_utf8 bounds them, by default a million.
    - instructions: those of its program, where the body of a loop {n,m} counts m times, or if it is one character, about
-     m / 64 times; by default 250,000.
-   - linear_instructions: the number of instructions up to which a search may be linear, by default a thousand. It takes
-     up to two bits of memory for each instruction and byte of the text.
+     m / 64 times, and if that is too much, a few times; by default 250,000.
+   - linear_instructions: the number of instructions up to which a search may be linear, where one character always counts
+     about m / 64 times; by default a thousand. It takes up to two bits of memory for each instruction and byte of the
+     text.
    - memory: the bytes that the tables of one search may take, by default 256 MiB: a quarter of a byte for each
      instruction, and 8 bytes, for each byte of the text, and once more. A lookaround takes up to 4 bytes more for each
      byte of the text, which do not count. */
@@ -110,8 +117,8 @@ typedef struct regress_limits {
 /* What a group without a capture has as its start and its end. */
 #define REGRESS_UNSET SIZE_MAX
 
-/* A construct of a pattern that in the dialect REGRESS may match otherwise than in JavaScript (ECMA-262): its kind, and
-   the half-open range of code-point indices of the pattern where it is. docs/differences.md has the differences. */
+/* A part of a pattern that in the dialect REGRESS matches otherwise than in JavaScript (ECMA-262): its kind, and the
+   half-open range of code-point indices of the pattern where it is. docs/differences.md has the differences. */
 typedef struct regress_difference {
     uint32_t kind;
     size_t start;
@@ -120,8 +127,9 @@ typedef struct regress_difference {
 
 /* The kinds of differences. Their numbers never change; a later version may have more kinds. */
 #define REGRESS_DIFFERENCE_CASE_CLOSURE 1u /* a class, class escape or property, where the flag i may be in force */
-#define REGRESS_DIFFERENCE_STRING_SET 2u   /* a property of strings, which is not compared */
+#define REGRESS_DIFFERENCE_STRING_SET 2u   /* a property of strings, which JavaScript tries in another order */
 #define REGRESS_DIFFERENCE_SAME_NAME 3u    /* a reference by name to several groups */
+#define REGRESS_DIFFERENCE_GRAMMAR 4u      /* JavaScript rejects the pattern here, or parses it otherwise */
 
 /* The functions of the library. They are as those below, but no pointer may be NULL, also if its length is 0, and a
    handle must be that of a compiled pattern. They change the handle while they run, so that only one call at a time
@@ -135,6 +143,12 @@ uint64_t regress_steps_per_byte_raw(regress_regex *handle);
 uint64_t regress_find_steps_per_byte_raw(regress_regex *handle);
 uint32_t regress_find_raw(regress_regex *handle, const uint8_t *text, size_t length, size_t from, size_t *spans,
                           size_t room, size_t *needed);
+uint32_t regress_searcher_new_raw(regress_searcher *searcher);
+uint32_t regress_searcher_find_raw(regress_searcher *searcher, regress_regex *handle, const uint8_t *text,
+                                   size_t length, size_t from, size_t *spans, size_t room, size_t *needed);
+uint32_t regress_searcher_is_match_raw(regress_searcher *searcher, regress_regex *handle, const uint8_t *text,
+                                       size_t length);
+void regress_searcher_free_raw(regress_searcher *searcher);
 uint32_t regress_find_all_raw(regress_regex *handle, const uint8_t *text, size_t length, size_t from, size_t *spans,
                               size_t room, size_t *needed);
 uint32_t regress_matches_new_raw(regress_regex *handle, const uint8_t *text, size_t length, size_t from,
@@ -313,6 +327,54 @@ REGRESS_INLINE uint32_t regress_find(const regress_regex *handle, const uint8_t 
     own = *handle;
     return regress_find_raw(&own, REGRESS_OR(text, no_byte), length, from, REGRESS_OR(spans, no_span), room,
                             REGRESS_OR(needed, no_needed));
+}
+
+/* Writes `searcher`, which keeps the memory of searches for one match. It serves any number of compiled patterns, and one
+   thread at a time. What `searcher` had before is not freed.
+
+   Returns OK, MEMORY or BAD_INPUT. With OK `searcher` is written, and has to be freed by regress_searcher_free; else it
+   is unchanged. */
+REGRESS_INLINE uint32_t regress_searcher_new(regress_searcher *searcher) {
+    if (!searcher) {
+        return REGRESS_BAD_INPUT;
+    }
+    return regress_searcher_new_raw(searcher);
+}
+
+/* As regress_find, in the memory of `searcher`. It allocates only where the search needs more memory than all searches
+   before with this searcher, or tables. */
+REGRESS_INLINE uint32_t regress_searcher_find(regress_searcher *searcher, const regress_regex *handle,
+                                              const uint8_t *text, size_t length, size_t from, size_t *spans,
+                                              size_t room, size_t *needed) {
+    regress_regex own;
+    size_t no_span = 0, no_needed = 0;
+    uint8_t no_byte = 0;
+    if (!searcher || !searcher->inside || regress_is_zero(handle) || REGRESS_IS_MISSING(text, length)
+        || REGRESS_IS_MISSING(spans, room)) {
+        return regress_bad_input(needed);
+    }
+    own = *handle;
+    return regress_searcher_find_raw(searcher, &own, REGRESS_OR(text, no_byte), length, from,
+                                     REGRESS_OR(spans, no_span), room, REGRESS_OR(needed, no_needed));
+}
+
+/* As regress_is_match, in the memory of `searcher`, as regress_searcher_find. */
+REGRESS_INLINE uint32_t regress_searcher_is_match(regress_searcher *searcher, const regress_regex *handle,
+                                                  const uint8_t *text, size_t length) {
+    regress_regex own;
+    uint8_t no_byte = 0;
+    if (!searcher || !searcher->inside || regress_is_zero(handle) || REGRESS_IS_MISSING(text, length)) {
+        return REGRESS_BAD_INPUT;
+    }
+    own = *handle;
+    return regress_searcher_is_match_raw(searcher, &own, REGRESS_OR(text, no_byte), length);
+}
+
+/* Frees the memory, and makes the handle zero. It does nothing if that is zero, or if the pointer is NULL. */
+REGRESS_INLINE void regress_searcher_free(regress_searcher *searcher) {
+    if (searcher && searcher->inside) {
+        regress_searcher_free_raw(searcher);
+    }
 }
 
 /* Searches for all non-overlapping matches that start at the byte offset `from` or later, from left to right: the first
@@ -617,13 +679,12 @@ REGRESS_INLINE void regress_free(regress_regex *handle) {
     }
 }
 
-/* Finds the constructs of a pattern that in the dialect REGRESS may match otherwise than in JavaScript.
+/* Finds the parts of a pattern that in the dialect REGRESS match otherwise than in JavaScript.
 
    If there are none, JavaScript's first match in a text is that of regress_find with the same flags and
-   REGRESS_DIALECT_REGRESS, provided that UNICODE_SETS comes with UNICODE, alone it is no flag of JavaScript, and that
-   SMALL_TABLE is not used. Not reported is what only one of the two accepts or what they parse otherwise, such as
-   \u{61} without UNICODE, nor that without UNICODE JavaScript reads a text by code units. Some constructs are reported
-   that do not differ.
+   REGRESS_DIALECT_REGRESS, provided that SMALL_TABLE is not used; but without UNICODE JavaScript reads a text by code
+   units. What JavaScript rejects is one part, at the place of its syntax error. What follows a part that is parsed
+   otherwise, such as \u{61} without UNICODE, is not compared.
 
    Returns OK, ROOM, SYNTAX, MEMORY or BAD_INPUT. With OK `differences`, a buffer of `room` elements, begins with them.
    `needed` is their number with OK and ROOM, else 0. With SYNTAX `kind` and `position` are those of the syntax error,

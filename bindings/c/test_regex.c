@@ -195,6 +195,51 @@ static void allocations(void) {
     regress_free(&regex);
 }
 
+static uint32_t found_with(regress_searcher *searcher, const regress_regex *regex, const char *text) {
+    mark();
+    return regress_searcher_find(searcher, regex, (const uint8_t *)text, strlen(text), 0, spans, ROOM, &needed);
+}
+
+/* A searcher allocates for the first search with a pattern, and then for none that needs no more memory. The spans are
+   those of V8. */
+static void searchers(void) {
+    regress_regex mail, looking, numbers;
+    regress_searcher searcher = {NULL};
+    CHECK(compiled("(\\w+)@(\\w+)\\.com", SMALL, &mail) == REGRESS_OK);
+    CHECK(compiled("(?=(a+))a", SMALL, &looking) == REGRESS_OK);
+    CHECK(compiled("^(\\d+)-(\\d+)$", SMALL, &numbers) == REGRESS_OK);
+    CHECK(regress_searcher_new(&searcher) == REGRESS_OK);
+    long before = 0;
+    for (int round = 0; round < 3; round++) {
+        CHECK(found_with(&searcher, &mail, "to joe@example.com") == REGRESS_OK && ARE(3, 18, 3, 6, 7, 14));
+        CHECK(found_with(&searcher, &mail, "to joe@example.org") == REGRESS_NO_MATCH && needed == 0 && spans[0] == MARK);
+        CHECK(found_with(&searcher, &looking, "baaa") == REGRESS_OK && ARE(1, 2, 1, 4));
+        CHECK(found_with(&searcher, &looking, "b") == REGRESS_NO_MATCH);
+        CHECK(found_with(&searcher, &numbers, "2024-11") == REGRESS_OK && ARE(0, 7, 0, 4, 5, 7));
+        CHECK(found_with(&searcher, &numbers, "2024-x") == REGRESS_NO_MATCH);
+        CHECK(regress_searcher_find(&searcher, &mail, (const uint8_t *)"a@b.com", 7, 0, spans, ROOM, &needed) == REGRESS_OK
+              && needed == 6);
+        CHECK(regress_searcher_find(&searcher, &numbers, (const uint8_t *)"1-2", 3, 1, spans, ROOM, &needed)
+              == REGRESS_NO_MATCH);
+        CHECK(regress_searcher_is_match(&searcher, &numbers, (const uint8_t *)"1-2", 3) == REGRESS_OK);
+        CHECK(regress_searcher_is_match(&searcher, &looking, (const uint8_t *)"xyz", 3) == REGRESS_NO_MATCH);
+        CHECK(found_with(&searcher, &mail, "\xFF") == REGRESS_BAD_INPUT && needed == 0);
+        CHECK(round == 0 || requests == before);
+        before = requests;
+    }
+    /* a buffer that is too small: the numbers are counted in a list */
+    CHECK(regress_searcher_find(&searcher, &mail, (const uint8_t *)"a@b.com", 7, 0, spans, 5, &needed) == REGRESS_ROOM
+          && needed == 6);
+    regress_free(&mail);
+    regress_free(&looking);
+    regress_free(&numbers);
+    regress_searcher_free(&searcher);
+    CHECK(searcher.inside == NULL);
+    regress_searcher_free(&searcher);
+    regress_searcher_free(NULL);
+    CHECK(regress_searcher_new(NULL) == REGRESS_BAD_INPUT);
+}
+
 /* A buffer for texts, and one more byte that must stay unchanged. */
 static uint8_t bytes[ROOM + 1];
 
@@ -577,8 +622,9 @@ static void lists_of_differences(void) {
     CHECK(differences("[k][s]", REGRESS_ICASE, 1) == REGRESS_ROOM && needed == 2 && has_no_more(0));
     CHECK(differences("[k][s]", REGRESS_ICASE, 0) == REGRESS_ROOM && needed == 2 && has_no_more(0));
     CHECK(differences("[k][s]", 0, 0) == REGRESS_OK && needed == 0 && has_no_more(0));
-    CHECK(differences("\\p{RGI_Emoji}", REGRESS_UNICODE | REGRESS_UNICODE_SETS, ROOM) == REGRESS_OK && needed == 1);
-    CHECK(is_difference(0, REGRESS_DIFFERENCE_STRING_SET, 0, 13) && has_no_more(1));
+    CHECK(differences("\\p{RGI_Emoji}", REGRESS_UNICODE | REGRESS_UNICODE_SETS, ROOM) == REGRESS_OK && needed == 0);
+    CHECK(differences("x\\u{61}", SMALL, ROOM) == REGRESS_OK && needed == 1);
+    CHECK(is_difference(0, REGRESS_DIFFERENCE_GRAMMAR, 1, 7) && has_no_more(1));
     CHECK(differences("(?:(?<a>x)|(?<a>y))\\k<a>", SMALL, ROOM) == REGRESS_OK && needed == 1);
     CHECK(is_difference(0, REGRESS_DIFFERENCE_SAME_NAME, 19, 24) && has_no_more(1));
     CHECK(differences("", SMALL, 0) == REGRESS_OK && needed == 0);
@@ -588,15 +634,16 @@ static void lists_of_differences(void) {
     CHECK(name_of_difference(REGRESS_DIFFERENCE_CASE_CLOSURE, ROOM) == REGRESS_OK && is_text("case-closure"));
     CHECK(name_of_difference(REGRESS_DIFFERENCE_STRING_SET, ROOM) == REGRESS_OK && is_text("string-set"));
     CHECK(name_of_difference(REGRESS_DIFFERENCE_SAME_NAME, ROOM) == REGRESS_OK && is_text("same-name"));
+    CHECK(name_of_difference(REGRESS_DIFFERENCE_GRAMMAR, ROOM) == REGRESS_OK && is_text("grammar"));
     CHECK(name_of_difference(REGRESS_DIFFERENCE_SAME_NAME, 8) == REGRESS_ROOM && needed == 9 && bytes[0] == 0xA5);
     CHECK(name_of_difference(0, ROOM) == REGRESS_BAD_INPUT && are_bytes(""));
-    CHECK(name_of_difference(4, ROOM) == REGRESS_BAD_INPUT && are_bytes(""));
-    for (uint32_t each = 1; each <= 3; each++) {
+    CHECK(name_of_difference(5, ROOM) == REGRESS_BAD_INPUT && are_bytes(""));
+    for (uint32_t each = 1; each <= 4; each++) {
         CHECK(text_of_difference(each, text, sizeof text) == REGRESS_OK && needed > 40);
         CHECK(text[needed] == 0 && text[needed + 1] == 0xA5);
         CHECK(text_of_difference(each, text, 40) == REGRESS_ROOM && needed > 40 && text[0] == 0xA5);
     }
-    CHECK(text_of_difference(4, text, sizeof text) == REGRESS_BAD_INPUT && needed == 0 && text[0] == 0xA5);
+    CHECK(text_of_difference(5, text, sizeof text) == REGRESS_BAD_INPUT && needed == 0 && text[0] == 0xA5);
 }
 
 static void errors(void) {
@@ -680,6 +727,7 @@ static void limits(void) {
 /* NULL is allowed with the length 0, and for a number and for the limits; with any other one nothing is written. */
 static void null_pointers(void) {
     regress_regex regex = {NULL}, zero = {NULL};
+    regress_searcher searcher = {NULL};
     const uint8_t *text = (const uint8_t *)"a";
     CHECK(regress_compile(text, 1, SMALL, NULL, &regex, NULL, NULL) == REGRESS_OK);
     CHECK(regress_find(&regex, text, 1, 0, spans, ROOM, NULL) == REGRESS_OK && spans[1] == 1);
@@ -692,6 +740,19 @@ static void null_pointers(void) {
     CHECK(regress_find_all(&regex, text, 1, 0, NULL, 1, &needed) == REGRESS_BAD_INPUT);
     CHECK(regress_is_match(&regex, NULL, 0) == REGRESS_NO_MATCH);
     CHECK(regress_is_match(&regex, NULL, 1) == REGRESS_BAD_INPUT);
+    CHECK(regress_searcher_new(&searcher) == REGRESS_OK);
+    CHECK(regress_searcher_find(&searcher, &regex, text, 1, 0, spans, ROOM, NULL) == REGRESS_OK && spans[1] == 1);
+    CHECK(regress_searcher_find(&searcher, &regex, NULL, 0, 0, NULL, 0, &needed) == REGRESS_NO_MATCH);
+    CHECK(regress_searcher_find(&searcher, &regex, NULL, 1, 0, NULL, 0, &needed) == REGRESS_BAD_INPUT);
+    CHECK(regress_searcher_find(&searcher, &regex, text, 1, 0, NULL, 1, &needed) == REGRESS_BAD_INPUT);
+    CHECK(regress_searcher_find(&searcher, &zero, text, 1, 0, spans, ROOM, &needed) == REGRESS_BAD_INPUT && needed == 0);
+    CHECK(regress_searcher_find(NULL, &regex, text, 1, 0, spans, ROOM, &needed) == REGRESS_BAD_INPUT);
+    CHECK(regress_searcher_is_match(&searcher, &regex, NULL, 0) == REGRESS_NO_MATCH);
+    CHECK(regress_searcher_is_match(&searcher, &regex, NULL, 1) == REGRESS_BAD_INPUT);
+    CHECK(regress_searcher_is_match(&searcher, &zero, text, 1) == REGRESS_BAD_INPUT);
+    regress_searcher_free(&searcher);
+    CHECK(regress_searcher_find(&searcher, &regex, text, 1, 0, spans, ROOM, &needed) == REGRESS_BAD_INPUT);
+    CHECK(regress_searcher_is_match(&searcher, &regex, text, 1) == REGRESS_BAD_INPUT);
     CHECK(regress_replace(&regex, text, 1, NULL, 0, NULL, 0, NULL) == REGRESS_OK);
     CHECK(regress_replace_all(&regex, text, 1, NULL, 0, bytes, ROOM, &needed) == REGRESS_OK && needed == 0);
     CHECK(regress_replace(&regex, NULL, 1, NULL, 0, NULL, 0, NULL) == REGRESS_BAD_INPUT);
@@ -874,6 +935,41 @@ static void refuse_search(enum searching how, const char *pattern, const char *t
     printf("%s: out of memory in %zu of %ld searches\n", pattern, wanting, most);
 }
 
+/* As `refuse`, for searches with a searcher. After a failure it serves further searches. */
+static void refuse_searcher(const char *pattern, const char *text, uint32_t expected) {
+    regress_regex regex;
+    regress_searcher searcher = {NULL};
+    size_t ample[ROOM + 1], wanting = 0;
+    CHECK(compiled(pattern, SMALL, &regex) == REGRESS_OK);
+    long before = blocks;
+    requests = 0;
+    CHECK(regress_searcher_new(&searcher) == REGRESS_OK);
+    CHECK(found_with(&searcher, &regex, text) == expected);
+    memcpy(ample, spans, sizeof ample);
+    regress_searcher_free(&searcher);
+    long most = requests;
+    for (long each = 0; each < most; each++) {
+        requests = 0;
+        refused = each;
+        uint32_t status = regress_searcher_new(&searcher);
+        CHECK(status == REGRESS_OK ? searcher.inside != NULL : status == REGRESS_MEMORY && searcher.inside == NULL);
+        if (status == REGRESS_OK) {
+            status = found_with(&searcher, &regex, text);
+            refused = -1;
+            CHECK(status == REGRESS_MEMORY ? needed == 0 && spans[0] == MARK
+                                           : status == expected && memcmp(spans, ample, sizeof ample) == 0);
+            CHECK(found_with(&searcher, &regex, text) == expected && memcmp(spans, ample, sizeof ample) == 0);
+        }
+        refused = -1;
+        regress_searcher_free(&searcher);
+        CHECK(blocks == before);
+        wanting += status == REGRESS_MEMORY;
+    }
+    CHECK(wanting > 0);
+    regress_free(&regex);
+    printf("%s: out of memory in %zu of %ld searches with a searcher\n", pattern, wanting, most);
+}
+
 /* A call that writes a text, and what it writes. */
 enum writing { REPLACING, REPLACING_ALL, REPLACING_ONE, KEEPING, EXPANDING, ESCAPING };
 
@@ -958,6 +1054,7 @@ int main(void) {
     dialects();
     rooms();
     allocations();
+    searchers();
     errors();
     limits();
     lists();
@@ -984,6 +1081,9 @@ int main(void) {
         refuse_search(how, "(a*)*b", "aaaaaaaaaaaaaaaaaaaaaaaacb", REGRESS_OK);
         refuse_search(how, "(a*)*b", "aaaaaaaaaaaaaaaaaaaaaaaa", REGRESS_NO_MATCH);
     }
+    refuse_searcher("(?<a>x)z|(?<b>y+)\\k<b>", "xyyzyyyy", REGRESS_OK);
+    refuse_searcher("(?=(y)|x)x(?!z|y+z)|(.)y*", "xyyzyyyy", REGRESS_OK);
+    refuse_searcher("(a*)*b", "aaaaaaaaaaaaaaaaaaaaaaaa", REGRESS_NO_MATCH);
     refuse_text(REPLACING, "-<yyxyy>xyy");
     refuse_text(REPLACING_ALL, "-<yyxyy><yy>");
     refuse_text(REPLACING_ONE, "-<yyxyy>xyy");

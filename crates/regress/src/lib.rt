@@ -17,6 +17,7 @@ mod outside_pairs;
 mod pattern;
 mod replacing;
 mod search;
+mod searcher;
 mod source;
 mod splitting;
 
@@ -33,3 +34,4 @@ pub use regress_front::types::Flags;
 pub use regress_front::unicode::Tables;
 pub use regress_match::Nonlinear;
 pub use search::Matches;
+pub use searcher::Searcher;

@@ -16,11 +16,12 @@ pub struct Options {
     /// the pattern is parsed. A million by default.
     pub nodes: usize,
     /// The number of instructions that the program of the pattern may have, where the body of a loop `{n,m}` counts m
-    /// times, or if it is one character, about m / 64 times. 250,000 by default: up to some 100 MiB.
+    /// times, or if it is one character, about m / 64 times, and if that is too much, a few times. 250,000 by default: up
+    /// to some 100 MiB.
     pub instructions: usize,
-    /// The number of instructions up to which a program is searched in linear time, where it can be. The tables that this
-    /// needs take up to two bits for each instruction and byte of the text. A thousand by default, so at most 250 times
-    /// the length of the text.
+    /// The number of instructions up to which a program is searched in linear time, where it can be. A body of one character
+    /// always counts about m / 64 times here. The tables that this needs take up to two bits for each instruction and byte
+    /// of the text. A thousand by default, so at most 250 times the length of the text.
     pub linear_instructions: usize,
     /// The memory in bytes that the tables of one search may take: a quarter of a byte for each instruction, and 8 bytes,
     /// for each byte of the text, and once more. A search that needs larger tables ends with

@@ -10,6 +10,7 @@ use crate::groups::GroupNames;
 use crate::letters::parse_flags;
 use crate::limits::Options;
 use crate::search::{self, Matches};
+use crate::searcher::Searcher;
 use crate::source::text_of;
 use regress_front::parse::node_bound;
 use regress_front::types::Flags;
@@ -45,11 +46,11 @@ use std::sync::Arc;
 pub struct Regex {
     source: String,
     /// The tree in normal form, its program, and the tables.
-    matcher: Matcher,
+    pub(crate) matcher: Matcher,
     /// The capture groups in the order of their ids.
     pub(crate) groups: Vec<Group>,
     /// The number of steps that a search may take if it is not linear.
-    steps: u64,
+    pub(crate) steps: u64,
     /// Whether each code point of the pattern is one character ([`Regex::is_exact_for`]).
     exact: bool,
     /// Whether it matches outside of surrogate pairs ([`Regex::is_exact_for`]).
@@ -72,7 +73,7 @@ impl Regex {
     ghost use Rattle.regress_match.specs.Matcher.{IsFactorOf, IsFindFactorOf, IsNonlinearOf, is_find_linear_tree};
     ghost use Rattle.regress_found.specs.Repeated.{AreAllMatches};
     ghost use Rattle.regress_prefilter.specs.Literals.{bytes_in, literals, longest};
-    ghost use Rattle.regress_program.specs.Size.{program_size};
+    ghost use Rattle.regress_program.specs.Size.{compiled_size};
     ghost use Rattle.regress_replace.specs.Order.{AreInOrder};
     ghost use Rattle.regress.specs.Costs.{AllCostLimit, CostsLimit, factor_of, find_factor_of, limit_of, matcher_of, nonlinear_of};
     ghost use Rattle.regress.specs.Kept.{Keeps};
@@ -84,7 +85,7 @@ impl Regex {
     ghost use Rattle.regress.specs.Searched.{MatchesSomewhere, has_failed, next_from, search_limit, search_remaining, search_taken, searched_factor, searched_groups, searched_matcher, searched_outcomes, searched_text};
     ghost use Rattle.regress.specs.Groups.{names_left};
     ghost use Rattle.regress.specs.Letters.{AreFlags, flags_of, no_flags};
-    ghost use Rattle.regress.specs.Limits.{default_options};
+    ghost use Rattle.regress.specs.Limits.{default_options, linear_limit};
     ghost use Rattle.regress.specs.Required.{RequiresLiteral};
     ghost use Rattle.regress.specs.declared.failure.SearchError.TheVariants.{OutOfSteps, TooMuchMemory};
 
@@ -135,13 +136,14 @@ impl Regex {
     ///
     /// # Errors
     /// - [`Error::TooLarge`] if `node_bound` of the pattern exceeds `options.nodes`, whether or not the pattern is
-    ///   valid, or if its program has more than `options.instructions` instructions.
+    ///   valid, or if its program has more than `options.instructions` instructions, as [`Options::instructions`] counts
+    ///   them.
     /// - [`Error::Syntax`] if the pattern is rejected.
     /// - [`Error::Memory`] if an allocation fails.
     ///
     /// # Complexity
     /// As for `parse_and_optimize` of `regress_front`. If the pattern is too large, it is not parsed. Compiling takes time
-    /// and memory in proportion to the number of instructions, as [`Options::instructions`] counts them.
+    /// and memory in proportion to the number of instructions.
     pub fn with_options(
         alloc: Global,
         pattern: &str,
@@ -154,14 +156,14 @@ impl Regex {
         ensures failed { let setting = setting_under (flags_in_force options.dialect flags) (arc_value tables.now) in
             IfErr result (IsDue setting (chars pattern.now) options) }
         ensures small { IfOk result (λ _. options.nodes < usize.MAX → HasAtMost (flags_in_force options.dialect flags) (chars pattern.now) options.nodes) }
-        ensures within { IfOk result (λ regex. program_size (tree_of regex) ≤ options.instructions) }
+        ensures within { IfOk result (λ regex. instructions_of regex ≤ options.instructions) }
         ensures limit { IfOk result (λ regex. limit_of regex ≡ options.steps) }
         ensures memory { IfOk result (λ regex. memory_of regex ≡ options.memory) }
-        ensures instructions { IfOk result (λ regex. instructions_of regex ≡ program_size (tree_of regex)) }
-        ensures linear { IfOk result (λ regex. IsFactorOf options.linear_instructions (tree_of regex) (factor_of regex)) }
-        ensures find_linear { IfOk result (λ regex. IsFindFactorOf options.linear_instructions (tree_of regex) (find_factor_of regex)) }
-        ensures find_linear_tree { IfOk result (λ regex. is_some (find_factor_of regex) ≡ is_find_linear_tree options.linear_instructions (tree_of regex)) }
-        ensures nonlinear { IfOk result (λ regex. IsNonlinearOf options.linear_instructions (tree_of regex) (nonlinear_of regex)) }
+        ensures instructions { IfOk result (λ regex. instructions_of regex ≡ compiled_size options.instructions (tree_of regex)) }
+        ensures linear { IfOk result (λ regex. IsFactorOf (linear_limit options) (tree_of regex) (factor_of regex)) }
+        ensures find_linear { IfOk result (λ regex. IsFindFactorOf (linear_limit options) (tree_of regex) (find_factor_of regex)) }
+        ensures find_linear_tree { IfOk result (λ regex. is_some (find_factor_of regex) ≡ is_find_linear_tree (linear_limit options) (tree_of regex)) }
+        ensures nonlinear { IfOk result (λ regex. IsNonlinearOf (linear_limit options) (tree_of regex) (nonlinear_of regex)) }
     {
         let points = code_points(alloc, pattern)?;
         let source = String::from_str(alloc, pattern)?;
@@ -192,14 +194,14 @@ impl Regex {
         ensures failed { let setting = setting_under (flags_in_force options.dialect flags) (arc_value tables.now) in
             IfErr result (IsDue setting pattern.now options) }
         ensures small { IfOk result (λ _. options.nodes < usize.MAX → HasAtMost (flags_in_force options.dialect flags) pattern.now options.nodes) }
-        ensures within { IfOk result (λ regex. program_size (tree_of regex) ≤ options.instructions) }
+        ensures within { IfOk result (λ regex. instructions_of regex ≤ options.instructions) }
         ensures limit { IfOk result (λ regex. limit_of regex ≡ options.steps) }
         ensures memory { IfOk result (λ regex. memory_of regex ≡ options.memory) }
-        ensures instructions { IfOk result (λ regex. instructions_of regex ≡ program_size (tree_of regex)) }
-        ensures linear { IfOk result (λ regex. IsFactorOf options.linear_instructions (tree_of regex) (factor_of regex)) }
-        ensures find_linear { IfOk result (λ regex. IsFindFactorOf options.linear_instructions (tree_of regex) (find_factor_of regex)) }
-        ensures find_linear_tree { IfOk result (λ regex. is_some (find_factor_of regex) ≡ is_find_linear_tree options.linear_instructions (tree_of regex)) }
-        ensures nonlinear { IfOk result (λ regex. IsNonlinearOf options.linear_instructions (tree_of regex) (nonlinear_of regex)) }
+        ensures instructions { IfOk result (λ regex. instructions_of regex ≡ compiled_size options.instructions (tree_of regex)) }
+        ensures linear { IfOk result (λ regex. IsFactorOf (linear_limit options) (tree_of regex) (factor_of regex)) }
+        ensures find_linear { IfOk result (λ regex. IsFindFactorOf (linear_limit options) (tree_of regex) (find_factor_of regex)) }
+        ensures find_linear_tree { IfOk result (λ regex. is_some (find_factor_of regex) ≡ is_find_linear_tree (linear_limit options) (tree_of regex)) }
+        ensures nonlinear { IfOk result (λ regex. IsNonlinearOf (linear_limit options) (tree_of regex) (nonlinear_of regex)) }
     {
         let source = text_of(alloc, pattern)?;
         Regex::with_source(alloc, source, pattern, flags, options, tables)
@@ -228,14 +230,14 @@ impl Regex {
         ensures failed { let setting = setting_under (flags_in_force options.dialect flags) (arc_value tables.now) in
             IfErr result (IsDue setting pattern.now options) }
         ensures small { IfOk result (λ _. options.nodes < usize.MAX → HasAtMost (flags_in_force options.dialect flags) pattern.now options.nodes) }
-        ensures within { IfOk result (λ regex. program_size (tree_of regex) ≤ options.instructions) }
+        ensures within { IfOk result (λ regex. instructions_of regex ≤ options.instructions) }
         ensures limit { IfOk result (λ regex. limit_of regex ≡ options.steps) }
         ensures memory { IfOk result (λ regex. memory_of regex ≡ options.memory) }
-        ensures instructions { IfOk result (λ regex. instructions_of regex ≡ program_size (tree_of regex)) }
-        ensures linear { IfOk result (λ regex. IsFactorOf options.linear_instructions (tree_of regex) (factor_of regex)) }
-        ensures find_linear { IfOk result (λ regex. IsFindFactorOf options.linear_instructions (tree_of regex) (find_factor_of regex)) }
-        ensures find_linear_tree { IfOk result (λ regex. is_some (find_factor_of regex) ≡ is_find_linear_tree options.linear_instructions (tree_of regex)) }
-        ensures nonlinear { IfOk result (λ regex. IsNonlinearOf options.linear_instructions (tree_of regex) (nonlinear_of regex)) }
+        ensures instructions { IfOk result (λ regex. instructions_of regex ≡ compiled_size options.instructions (tree_of regex)) }
+        ensures linear { IfOk result (λ regex. IsFactorOf (linear_limit options) (tree_of regex) (factor_of regex)) }
+        ensures find_linear { IfOk result (λ regex. IsFindFactorOf (linear_limit options) (tree_of regex) (find_factor_of regex)) }
+        ensures find_linear_tree { IfOk result (λ regex. is_some (find_factor_of regex) ≡ is_find_linear_tree (linear_limit options) (tree_of regex)) }
+        ensures nonlinear { IfOk result (λ regex. IsNonlinearOf (linear_limit options) (tree_of regex) (nonlinear_of regex)) }
     {
         let in_force = options.dialect.flags_in_force(flags);
         let bound = node_bound(pattern, in_force);
@@ -357,14 +359,8 @@ impl Regex {
         ensures costs { IfErr result (λ error. error ≡ OutOfSteps → CostsLimit self.now text.now start) }
         ensures too_much { IfErr result (λ error. error ≡ TooMuchMemory → TablesNeedMore self.now text.now) }
     {
-        let found = search::find(alloc, &self.matcher, text, start, self.steps)?;
-        match found {
-            Some(found) => Ok(Some(Match {
-                found,
-                groups: &self.groups,
-            })),
-            None => Ok(None),
-        }
+        let mut searcher = Searcher::new(alloc);
+        searcher.find_at(alloc, self, text, start)
     }
 
     /// Returns an iterator over the non-overlapping matches in `text`, from left to right. The step limit of

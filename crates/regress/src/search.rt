@@ -14,12 +14,14 @@ ghost use Rattle.regress.specs.declared.failure.SearchError.TheVariants.{OutOfSt
 
 use crate::failure::SearchError;
 use crate::found::Match;
-use regress_match::{Group, Match as Found, Matcher, MatcherMatches, Outcome};
+use regress_match::{Cache, Group, Match as Found, Matcher, MatcherMatches, Outcome};
 use std::alloc::Global;
 
-/// Returns the leftmost match of a pattern that starts at the byte offset `from` or later.
+/// Returns the leftmost match of a pattern that starts at the byte offset `from` or later, searched for in the memory of a
+/// cache.
 pub(crate) fn find(
     alloc: Global,
+    cache: &mut Cache,
     matcher: &Matcher,
     text: &str,
     from: usize,
@@ -32,7 +34,7 @@ pub(crate) fn find(
     ensures costs { IfErr result (λ error. error ≡ OutOfSteps → IsWithinFindCost matcher.now text.now from steps) }
     ensures too_much { IfErr result (λ error. error ≡ TooMuchMemory → TablesNeedMore matcher.now text.now) }
 {
-    let found = matcher.find(alloc, text, from, steps)?;
+    let found = matcher.find_with(alloc, cache, text, from, steps)?;
     match found.outcome {
         Outcome::Matched(found) => Ok(Some(found)),
         Outcome::NoMatch => Ok(None),

@@ -8,4 +8,5 @@ mod entry_matches;
 mod entry_regex;
 mod entry_replace;
 mod entry_replaced;
+mod entry_searcher;
 mod entry_spans;

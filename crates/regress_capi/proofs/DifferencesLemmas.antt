@@ -9,10 +9,10 @@ use Rattle.regress_parse.specs.declared.fault.PlacedFault.{PlacedFault}
 use Rattle.regress_parse.specs.declared.fault.PlacedFault.TheVariants.{Syntax, Memory}
 use Rattle.regress_parse.specs.Settled.{IsFaultOf}
 use Rattle.regress_spans.specs.Paired.{spanned_of}
-use Rattle.regress_ecma.specs.Compared.{IsComparable}
-use Rattle.regress_ecma.specs.Differences.{HasCaseDataOfUnicode}
-use Rattle.regress_differences.specs.CaseMode.{widest_flags}
-use Rattle.regress_differences.specs.Reported.{reported}
+use Rattle.regress_parse.specs.TreeOf.{tree_of}
+use Rattle.regress_ecma.specs.Compared.{IsOfUnicode}
+use Rattle.regress_differences.specs.InEcma.{FindsMatchesOfEcma}
+use Rattle.regress_differences.specs.Kinds as differing
 use Rattle.regress_differences.specs.declared.kind.Difference.{Difference}
 use Rattle.regress_capi.specs.DifferencesResults.{AreDifferences, AreNumbered, DifferencesResult, differences_written, differences_out_of_memory, differences_little, differences_bad, differences_rejected}
 use Rattle.regress_capi.specs.Replies.{of_fault, of_items}
@@ -22,13 +22,13 @@ module _ (setting : Setting) (source : Source) where
   -- what is stated of the differences of a pattern, as one record
   pub differences-are : {V : Type 0} (items : V → List Difference) (r : Result V PlacedFault) →
       IfOk r (λ v. (p : Pattern) × (accepted : IsAccepted setting source p)
-      × (items v ≡ reported (widest_flags setting.flags source) source (spanned_of setting source p accepted.derived))) →
-      IfOk r (λ v. items v ≡ [] → HasCaseDataOfUnicode setting.table →
-      (setting.flags.unicode_sets ≡ true → setting.flags.unicode ≡ true) → OfAccepted setting source (IsComparable setting)) →
+      × differing.AreDifferences setting source (tree_of setting.table p) (spanned_of setting source p accepted.derived) (items v)) →
+      IfOk r (λ v. items v ≡ [] → IsOfUnicode setting.table →
+      OfAccepted setting source (λ p. FindsMatchesOfEcma setting source (tree_of setting.table p))) →
       IfOk r (λ v. AreDifferences setting source (items v))
-  differences-are items (Ok v) listed comparable =
-      record { pattern = listed.0; accepted = listed.1; listed = listed.2; comparable = comparable }
-  differences-are items (Err e) listed comparable = tt
+  differences-are items (Ok v) listed matches =
+      record { pattern = listed.0; accepted = listed.1; listed = listed.2; matches = matches }
+  differences-are items (Err e) listed matches = tt
 
 module _ {setting : Setting} {source : Source} where
   -- the differences written are those that are computed

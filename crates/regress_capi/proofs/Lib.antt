@@ -12,5 +12,6 @@ mod ReplacedHandleValues
 mod ReplacedLemmas
 mod ResultLemmas
 mod SearchLemmas
+mod SearcherHandleValues
 mod SpannedLemmas
 mod TextLemmas

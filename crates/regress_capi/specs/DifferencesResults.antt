@@ -1,28 +1,28 @@
 -- The results of the calls for the differences of a pattern.
-use Rattle.std.specs.Prelude.{◌≡◌, ◌<◌, ◌≤◌, ℕ, List, [], map, true}
+use Rattle.std.specs.Prelude.{◌≡◌, ◌<◌, ◌≤◌, ℕ, List, [], map}
 use Rattle.regress_tree.specs.Steps.{Setting}
 use Rattle.regress_lexer.specs.Source.{Source}
 use Rattle.regress_syntax.specs.Syntax.{Pattern}
 use Rattle.regress_parse.specs.Accepted.{IsAccepted, OfAccepted}
 use Rattle.regress_parse.specs.Rejected.{NoneIsAccepted}
+use Rattle.regress_parse.specs.TreeOf.{tree_of}
 use Rattle.regress_spans.specs.Paired.{spanned_of}
-use Rattle.regress_ecma.specs.Compared.{IsComparable}
-use Rattle.regress_ecma.specs.Differences.{HasCaseDataOfUnicode}
-use Rattle.regress_differences.specs.CaseMode.{widest_flags}
+use Rattle.regress_ecma.specs.Compared.{IsOfUnicode}
+use Rattle.regress_differences.specs.InEcma.{FindsMatchesOfEcma}
+use Rattle.regress_differences.specs.Kinds as differing
 use Rattle.regress_differences.specs.Kinds.{name_of, number_of, text_of}
-use Rattle.regress_differences.specs.Reported.{reported}
 use Rattle.regress_differences.specs.declared.kind.Difference.{Difference}
 use Rattle.regress_differences.specs.declared.kind.DifferenceKind.{DifferenceKind}
 use Rattle.regress_capi.specs.Results.{IsError, Gives, IsTooSmall}
 use Rattle.regress_capi.specs.declared.differing.NumberedDifference.{NumberedDifference}
 
--- What is reported of the pattern that the source denotes. If that is nothing, it can be compared with ECMA-262.
+-- What is reported of the pattern that the source denotes. If that is nothing, its tree finds the matches of ECMA-262.
 pub record AreDifferences (setting : Setting) (source : Source) (found : List Difference) : Type 0 where
   pub pattern : Pattern
   pub accepted : IsAccepted setting source pattern
-  pub listed : found ≡ reported (widest_flags setting.flags source) source (spanned_of setting source pattern accepted.derived)
-  pub comparable : found ≡ [] → HasCaseDataOfUnicode setting.table →
-      (setting.flags.unicode_sets ≡ true → setting.flags.unicode ≡ true) → OfAccepted setting source (IsComparable setting)
+  pub listed : differing.AreDifferences setting source (tree_of setting.table pattern) (spanned_of setting source pattern accepted.derived) found
+  pub matches : found ≡ [] → IsOfUnicode setting.table →
+      OfAccepted setting source (λ p. FindsMatchesOfEcma setting source (tree_of setting.table p))
 
 -- a difference with its kind as a number
 abbrev pub numbered : Difference → NumberedDifference
@@ -52,7 +52,7 @@ pub data DifferencesResult (Asked : Type 0) (setting : Setting) (source : Source
 
 -- There is a kind of difference with this number.
 abbrev pub HasDifferenceKind : (number : ℕ) → Type 0
-HasDifferenceKind number = (0 < number) × (number ≤ 3)
+HasDifferenceKind number = (0 < number) × (number ≤ 4)
 
 -- the name of the kind of difference with this number
 abbrev pub IsDifferenceName : (number : ℕ) → List ℕ → Type 0

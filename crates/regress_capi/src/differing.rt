@@ -19,7 +19,7 @@ use regress_front::types::Flags;
 use regress_front::unicode::Tables;
 use std::alloc::{AllocError, Global};
 
-/// A construct that may match otherwise than in ECMA-262.
+/// A part of a pattern that matches otherwise than in ECMA-262.
 #[repr(C)]
 #[derive(Clone, Copy)]
 pub struct NumberedDifference {
@@ -160,6 +160,7 @@ fn kind_with_number(number: u32) -> Option<DifferenceKind>
         1 => Some(DifferenceKind::CaseClosure),
         2 => Some(DifferenceKind::StringSet),
         3 => Some(DifferenceKind::SameName),
+        4 => Some(DifferenceKind::Grammar),
         _ => None,
     }
 }

@@ -23,6 +23,7 @@ pub mod replacing;
 mod reply;
 mod request;
 pub mod results;
+pub mod searcher_handle;
 pub mod searches;
 pub mod spanning;
 pub mod splitting;

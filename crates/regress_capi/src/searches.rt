@@ -14,7 +14,8 @@ ghost use Rattle.regress_found.specs.Found.{Finds};
 use super::buffer::copy_to;
 use super::ends::{push_spans, put_spans};
 use super::results::{BAD_INPUT, MEMORY, OK, ROOM};
-use regress::{Match, Regex, SearchError};
+use super::searcher_handle::SearcherHandle;
+use regress::{Match, Regex, SearchError, Searcher};
 use std::alloc::Global;
 
 pub(crate) const NO_MATCH: u32 = 1;
@@ -28,6 +29,23 @@ const TOO_MUCH_MEMORY: u32 = 8;
 pub struct Searched<'a> {
     pub text: &'a [u8],
     pub from: usize,
+}
+
+/// Writes the handle to a searcher without memory. A handle that was there before is not freed. Returns the status.
+///
+/// # Errors
+/// The status is 2 if an allocation failed. The handle is unchanged then.
+pub fn write_searcher(alloc: Global, handle: &mut SearcherHandle) -> u32
+    ensures made { result ≡ 0 → handle.new.value ≡ None → ⊥ }
+    ensures failed { (result ≡ 0 → ⊥) → (result ≡ 2) × (handle.new.value ≡ handle.old.value) }
+{
+    match Box::new(alloc, Searcher::new(alloc)) {
+        Ok(searcher) => {
+            *handle = SearcherHandle::of(searcher);
+            OK
+        }
+        Err(_) => MEMORY,
+    }
 }
 
 /// Writes the ends of the leftmost match from an offset on and of its groups. Returns the status.
@@ -50,11 +68,35 @@ pub fn write_first(
         (Finds searched.entry.text.now (outcomes_of regex.now searched.entry.text.now) searched.entry.from None)
         (IsTooCostly regex.now searched.entry.text.now searched.entry.from) (TablesNeedMore regex.now searched.entry.text.now) spans.old result needed.new spans.new }
 {
+    let mut searcher = Searcher::new(alloc);
+    write_first_with(alloc, &mut searcher, regex, searched, spans, needed)
+}
+
+/// Writes the same, by a searcher, which keeps the memory of the search. Returns the status.
+///
+/// # Errors
+/// As `write_first`.
+///
+/// # Complexity
+/// Where `spans` is large enough, only the search allocates, and only where it needs more memory than the searcher has.
+pub fn write_first_with(
+    alloc: Global,
+    searcher: &mut Searcher,
+    regex: &Regex,
+    searched: Searched<'_>,
+    spans: &mut [usize],
+    needed: &mut usize,
+) -> u32
+    ensures status { SearchResult (IsUtf8 searched.entry.text.now)
+        (AreEndsOfFirst searched.entry.text.now (outcomes_of regex.now searched.entry.text.now) searched.entry.from)
+        (Finds searched.entry.text.now (outcomes_of regex.now searched.entry.text.now) searched.entry.from None)
+        (IsTooCostly regex.now searched.entry.text.now searched.entry.from) (TablesNeedMore regex.now searched.entry.text.now) spans.old result needed.new spans.new }
+{
     *needed = 0;
     match str::from_utf8(searched.text) {
         Ok(text) => {
-            let found = regex.find_at(alloc, text, searched.from);
-            report_first(alloc, found, spans, needed)
+            let found = searcher.find_at(alloc, regex, text, searched.from);
+            report_first(alloc, searcher, found, spans, needed)
         }
         Err(_) => BAD_INPUT,
     }
@@ -92,8 +134,21 @@ pub fn test(alloc: Global, regex: &Regex, text: &[u8]) -> u32
         (MatchesSomewhere text.now (outcomes_of regex.now text.now) → ⊥) (IsTooCostly regex.now text.now 0)
         (TablesNeedMore regex.now text.now) result }
 {
+    let mut searcher = Searcher::new(alloc);
+    test_with(alloc, &mut searcher, regex, text)
+}
+
+/// Returns the same, by a searcher, which keeps the memory of the search.
+///
+/// # Errors
+/// As `test`.
+pub fn test_with(alloc: Global, searcher: &mut Searcher, regex: &Regex, text: &[u8]) -> u32
+    ensures status { TestResult (IsUtf8 text.now) (MatchesSomewhere text.now (outcomes_of regex.now text.now))
+        (MatchesSomewhere text.now (outcomes_of regex.now text.now) → ⊥) (IsTooCostly regex.now text.now 0)
+        (TablesNeedMore regex.now text.now) result }
+{
     match str::from_utf8(text) {
-        Ok(text) => match regex.is_match(alloc, text) {
+        Ok(text) => match searcher.is_match(alloc, regex, text) {
             Ok(true) => OK,
             Ok(false) => NO_MATCH,
             Err(error) => error_status(error),
@@ -113,9 +168,11 @@ pub fn is_exact_for(regex: &Regex, text: &[u8]) -> u32
     }
 }
 
-/// Writes the ends of the match that a search has found, and of its groups. Returns the status.
+/// Writes the ends of the match that a search has found, and of its groups. The searcher takes the memory of the match back.
+/// Returns the status.
 fn report_first(
     alloc: Global,
+    searcher: &mut Searcher,
     found: Result<Option<Match<'_>>, SearchError>,
     buffer: &mut [usize],
     needed: &mut usize,
@@ -126,7 +183,11 @@ fn report_first(
 {
     *needed = 0;
     match found {
-        Ok(Some(found)) => give_match(alloc, &found, buffer, needed),
+        Ok(Some(found)) => {
+            let status = give_match(alloc, &found, buffer, needed);
+            searcher.recycle(found);
+            status
+        }
         Ok(None) => NO_MATCH,
         Err(error) => error_status(error),
     }

@@ -20,6 +20,13 @@ impl Match {
         Match { start, end, groups }
     }
 
+    /// Returns the captures of the groups by their ids. Their memory may be used for another match.
+    pub fn into_groups(self) -> Vec<Option<(usize, usize)>>
+        ensures { result.items ≡ (state_of self).captures }
+    {
+        self.groups
+    }
+
     /// Returns the byte offset at which the match starts.
     pub fn start(&self) -> usize
         ensures { result ≡ start_of self.now }

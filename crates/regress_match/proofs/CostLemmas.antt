@@ -1,20 +1,16 @@
 -- The cost of searches by backtracking.
 use Rattle.std.proofs.Common.{◌≡◌, ℕ, ◌+◌, ◌-◌, ◌≤◌, List, length, sym, ap, subst, ◌∙◌, arith}
-use Rattle.std.specs.Prelude.{Result, Ok, Err, IfOk}
 use Rattle.std.specs.Arc.{arc_value}
-use Rattle.std.specs.declared.alloc.AllocError.{AllocError}
 use Rattle.regress_program.specs.Cost.{Cost, IsCost}
 use Rattle.regress_program.specs.Program.{Out}
-use Rattle.regress_code.specs.Code.{captures_cost, code_routines, search_cost, setting_with}
-use Rattle.regress_backtrack.specs.Backtracker.{SameRuns, run_code, run_tables, run_text}
+use Rattle.regress_code.specs.Code.{code_routines, search_cost, setting_with}
+use Rattle.regress_backtrack.specs.Backtracker as runs
+use Rattle.regress_backtrack.specs.Backtracker.{run_code, run_tables, run_text, search_cost_at}
 use Rattle.regress_backtrack.specs.declared.backtracker.Backtracker.{Backtracker}
 use Rattle.regress_unicode.specs.declared.Tables.{Tables}
 use Rattle.regress_code.specs.declared.code.Code.{Code}
-use Rattle.regress_match.specs.Compiled.{IsCodeOf}
 use Rattle.regress_match.specs.Costs.{AreCosts, IsWithinFindCost, find_cost}
 use Rattle.regress_match.specs.Iterated.{IsSameIteration, iterated_from, iterated_matcher, iterated_text, steps_remaining}
-use Rattle.regress_match.specs.Kept.{IsRunOf}
-use Rattle.regress_match.specs.Pattern.{matcher_setting, matcher_tree}
 use Rattle.regress_match.specs.declared.matcher.Matcher.{Matcher}
 use Rattle.regress_match.specs.declared.matcher_matches.MatcherMatches.{MatcherMatches}
 
@@ -35,37 +31,15 @@ module _ (c c' : Code) (ts ts' : Tables) (text text' : List ℕ) (code : c' ≡ 
       ap (λ c. search_cost c ts' text' costs from) code ∙ ap (λ ts. search_cost c ts text' costs from) tables
       ∙ ap (λ t. search_cost c ts t costs from) same
 
--- A new run is one of the matcher's program.
-pub new_run : (m : Matcher) (text : List ℕ) (b : Backtracker) → run_code b ≡ m.code → run_tables b ≡ arc_value m.tables → run_text b ≡ text →
-    IsRunOf m text b
-new_run m text b code tables same = record {
-  code = subst (λ c. IsCodeOf (matcher_setting m) (matcher_tree m) (run_tables b) c) (sym code)
-      (subst (λ ts. IsCodeOf (matcher_setting m) (matcher_tree m) ts m.code) (sym tables) m.compiled);
-  costs = same_costs m.code (run_code b) (arc_value m.tables) (run_tables b) text (run_text b) code tables same;
-  captures = ap captures_cost code;
-  find_cost = same_cost m.code (run_code b) (arc_value m.tables) (run_tables b) text (run_text b) code tables same;
-  same_text = same;
-}
-
-pub new_runs : (m : Matcher) (text : List ℕ) (ts : Tables) → ts ≡ arc_value m.tables → (r : Result Backtracker AllocError) →
-    IfOk r (λ b. run_code b ≡ m.code) → IfOk r (λ b. run_tables b ≡ ts) → IfOk r (λ b. run_text b ≡ text) → IfOk r (IsRunOf m text)
-new_runs m text ts is (Ok b) code tables same = new_run m text b code (tables ∙ is) same
-new_runs m text ts is (Err e) code tables same = tt
-
--- After a run the same program is run in the same text.
-pub runs_on : (m : Matcher) (text : List ℕ) (b new : Backtracker) → IsRunOf m text b → SameRuns b new → IsRunOf m text new
-runs_on m text b new is same = record {
-  code = subst (λ c. IsCodeOf (matcher_setting m) (matcher_tree m) (run_tables new) c) (sym same.code)
-      (subst (λ ts. IsCodeOf (matcher_setting m) (matcher_tree m) ts (run_code b)) (sym same.tables) is.code);
-  costs = λ outs costs are.
-      same_costs (run_code b) (run_code new) (run_tables b) (run_tables new) (run_text b) (run_text new) same.code same.tables same.text outs costs
-      (is.costs outs costs are);
-  captures = ap captures_cost same.code ∙ is.captures;
-  find_cost = λ costs from.
-      same_cost (run_code b) (run_code new) (run_tables b) (run_tables new) (run_text b) (run_text new) same.code same.tables same.text costs from
-      ∙ is.find_cost costs from;
-  same_text = same.text ∙ is.same_text;
-}
+module _ (m : Matcher) (text : List ℕ) (b : Backtracker) (code : run_code b ≡ m.code) (tables : run_tables b ≡ arc_value m.tables) (same : run_text b ≡ text) where
+  -- A run of the matcher's program takes at most the cost of the search.
+  pub run_within : (from remaining remaining' : ℕ) →
+      ((outs : ℕ → Out) (costs : ℕ → Cost) → runs.AreCosts b outs costs → remaining ≤ remaining' + search_cost_at b costs from) →
+      (outs : ℕ → Out) (costs : ℕ → Cost) → AreCosts m text outs costs → remaining ≤ remaining' + find_cost m text costs from
+  run_within from remaining remaining' ran outs costs are =
+      subst (λ n. remaining ≤ remaining' + n)
+      (same_cost m.code (run_code b) (arc_value m.tables) (run_tables b) text (run_text b) code tables same costs from)
+      (ran outs costs (same_costs m.code (run_code b) (arc_value m.tables) (run_tables b) text (run_text b) code tables same outs costs are))
 
 -- ---- searches
 

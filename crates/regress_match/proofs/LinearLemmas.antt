@@ -1,5 +1,6 @@
 -- Which searches take linear time, from the tree.
-use Rattle.std.proofs.Common.{◌≡◌, ℕ, Bool, true, false, not, ◌&&◌, ◌||◌, nat_le, List, Some, None, refl, ap, ap₂, ◌∙◌}
+use Rattle.std.proofs.Common.{◌≡◌, ℕ, ◌+◌, ◌≤◌, Bool, true, false, not, ◌&&◌, ◌||◌, nat_le, min, List, Some, None, refl, sym, ap, ap₂, ◌∙◌, arith}
+use Rattle.std.proofs.lemmas.Bool.{le-leb, leb-false, leb-true, lt-leb}
 use Rattle.std.specs.Prelude.{if◌then◌else◌, is_some, length, option_map}
 use Rattle.regress_tree.specs.Tree.{Tree}
 use Rattle.regress_tree.specs.WellFormed.{captures}
@@ -7,26 +8,61 @@ use Rattle.regress_program.specs.Compiled.{total}
 use Rattle.regress_program.specs.Linear.{has_back_reference, is_linear, is_linear_tree}
 use Rattle.regress_program.specs.Program.{Routine}
 use Rattle.regress_program.specs.Ranges.{inner_groups}
-use Rattle.regress_program.specs.Size.{program_size}
+use Rattle.regress_program.specs.declared.counts.Counts.{Counts}
+use Rattle.regress_program.specs.declared.counts.Counts.TheVariants.{Bounded, Unbounded}
+use Rattle.regress_program.specs.Size.{compiled_size, counts_within, is_bounded, program_size, size}
 use Rattle.regress_program.specs.Tidy.{has_no_back_reference}
 use Rattle.regress_program.proofs.lemmas.Strict.{reason-tree}
 use Rattle.regress_match.specs.Matcher.{IsFactorOf, IsNonlinearOf, factor, factor_with, find_factor, find_factor_with, is_find_linear_tree, nonlinear_by, nonlinear_with}
 
-module _ (groups : ℕ) (routines : List Routine) (t : Tree) (limit : ℕ) (counted : groups ≡ length (captures t)) (size : total routines ≡ program_size t)
+-- whether the program is within the limits, and has bounded counts
+module _ (limit linear : ℕ) (t : Tree) where
+  abbrev counts_if : Bool → Counts
+  counts_if b = if b then Bounded else Unbounded
+
+  fits : (b : Bool) → nat_le (program_size t) limit ≡ b →
+      (is_bounded (counts_if b) && nat_le (size (counts_if b) t + 1) linear) ≡ nat_le (program_size t) (min linear limit)
+  fits true is = by (nat_le (program_size t) linear) refl
+    where
+      by : (b : Bool) → nat_le (program_size t) linear ≡ b → b ≡ nat_le (program_size t) (min linear limit)
+      by true small =
+          sym (le-leb (program_size t) (min linear limit) (omega (arith, leb-true (program_size t) limit is, leb-true (program_size t) linear small)))
+      by false large = sym (lt-leb (program_size t) (min linear limit) (omega (arith, leb-false (program_size t) linear large)))
+  fits false is = sym (lt-leb (program_size t) (min linear limit) (omega (arith, leb-false (program_size t) limit is)))
+
+  pub within_limits : (counts : Counts) (n : ℕ) → counts ≡ counts_within limit t → n ≡ compiled_size limit t →
+      (is_bounded counts && nat_le n linear) ≡ nat_le (program_size t) (min linear limit)
+  within_limits counts n is counted =
+      ap₂ (λ c k. is_bounded c && nat_le k linear) is counted ∙ fits (nat_le (program_size t) limit) refl
+
+  sized : (b : Bool) → nat_le (program_size t) limit ≡ b → program_size t ≤ limit → size (counts_if b) t + 1 ≡ program_size t
+  sized true is le = refl
+  sized false is le = absurd (omega (arith, leb-false (program_size t) limit is, le))
+
+  pub size_within : (n : ℕ) → n ≡ compiled_size limit t → program_size t ≤ limit → n ≡ program_size t
+  size_within n counted le = counted ∙ sized (nat_le (program_size t) limit) refl le
+
+module _ (groups : ℕ) (routines : List Routine) (t : Tree) (limit : ℕ) (within : Bool) (counted : groups ≡ length (captures t))
+    (fits : within ≡ nat_le (program_size t) limit) (size_if : program_size t ≤ limit → total routines ≡ program_size t)
     (linear : is_linear routines ≡ is_linear_tree t) (plain : has_no_back_reference routines ≡ not (has_back_reference t)) where
-  pub factor_tree : IsFactorOf limit t (factor_with groups routines (nat_le (total routines) limit))
+  sized-factor : (b l : Bool) → b ≡ nat_le (program_size t) limit →
+      (if b && l then Some (factor (total routines) groups) else None) ≡ (if b && l then Some (factor (program_size t) groups) else None)
+  sized-factor true true is = ap (λ n. Some (factor n groups)) (size_if (leb-true (program_size t) limit (sym is)))
+  sized-factor true false is = refl
+  sized-factor false l is = refl
+
+  pub factor_tree : IsFactorOf limit t (factor_with groups routines within)
   factor_tree =
-      ap₂ (λ (n : ℕ) (b : Bool). if nat_le n limit && b then Some (factor n groups) else None) size linear
+      sized-factor within (is_linear routines) fits
+      ∙ ap₂ (λ (b l : Bool). if b && l then Some (factor (program_size t) groups) else None) fits linear
       ∙ ap (λ k. if nat_le (program_size t) limit && is_linear_tree t then Some (factor (program_size t) k) else None) counted
 
-  pub nonlinear_tree : IsNonlinearOf limit t (nonlinear_with routines (nat_le (total routines) limit))
-  nonlinear_tree = ap₂ nonlinear_by (reason-tree routines t plain linear) (ap (λ n. nat_le n limit) size)
+  pub nonlinear_tree : IsNonlinearOf limit t (nonlinear_with routines within)
+  nonlinear_tree = ap₂ nonlinear_by (reason-tree routines t plain linear) fits
 
-  pub find_linear_tree : (tidy : Bool) → tidy ≡ true →
-      is_some (find_factor_with groups tidy routines (nat_le (total routines) limit)) ≡ is_find_linear_tree limit t
+  pub find_linear_tree : (tidy : Bool) → tidy ≡ true → is_some (find_factor_with groups tidy routines within) ≡ is_find_linear_tree limit t
   find_linear_tree tidy is =
-      by (nat_le (total routines) limit) (has_no_back_reference routines) (is_linear routines) tidy is
-      ∙ ap₂ ◌&&◌ (ap (λ n. nat_le n limit) size) plain
+      by within (has_no_back_reference routines) (is_linear routines) tidy is ∙ ap₂ ◌&&◌ fits plain
     where
       by : (within none straight tidy : Bool) → tidy ≡ true →
           is_some (if within then option_map (find_factor (total routines) groups) (if none && (straight || tidy) then Some (inner_groups routines) else None) else None) ≡ (within && none)

@@ -40,7 +40,7 @@ use Rattle.regress_found.specs.declared.outcome.Found.{Found}
 use Rattle.regress_found.specs.declared.outcome.Outcome.{Outcome}
 use Rattle.regress_found.specs.declared.outcome.Outcome.TheVariants as outcomes
 use Rattle.regress_match.specs.Compiled.{IsCodeOf, all_outcomes}
-use Rattle.regress_match.specs.Kept.{IfKept, IsKept, IsRunOf}
+use Rattle.regress_match.specs.Kept.{IfKept, IsKept}
 use Rattle.regress_found.specs.Results.{IsSearchResult, IfMatched, IsMatchResult}
 use Rattle.regress_match.specs.Matcher.{factor, factor_of, factor_with, nonlinear_by, nonlinear_with, outcome_if}
 use Rattle.regress_match.specs.Pattern.{matcher_outcomes, matcher_setting, matcher_tree}
@@ -323,19 +323,15 @@ module _ (m : Matcher) (text : List ℕ) (from taken : ℕ) (s : TextSearch) (ke
 
 -- ---- a run of the program
 
-module _ (m : Matcher) (text : List ℕ) (b : Backtracker) (is : IsRunOf m text b) (from : ℕ) (outcome : Outcome)
-    (solved : (outs : ℕ → Out) → AreOutcomes b outs → IsSearchResult (run_text b) (runs.outcomes_at b outs) from outcome) where
-  pub run_matches : IsSearchResult text (matcher_outcomes m text) from outcome
-  run_matches =
-      run_finds (matcher_setting m) (matcher_tree m) (run_tables b) (run_code b) text from outcome is.code
-      (subst (λ (t : List ℕ). (outs : ℕ → Out) → IsSolution (setting_with (run_code b) (run_tables b)) t (code_routines (run_code b)) outs →
-      IsSearchResult t (outcomes_from (run_code b) (run_tables b) t outs) from outcome) is.same_text solved)
-
-  pub run_starts : IfMatched outcome (λ x. start_of x ≤ length text)
-  run_starts = starts_inside text (matcher_outcomes m text) from outcome run_matches
-
-  pub run_inside : IsUtf8 text → IsWellFormed (matcher_tree m) → IfMatched outcome (IsInside text)
-  run_inside utf8 = found_inside (matcher_setting m) text utf8 (matcher_tree m) from outcome run_matches
+pub run_matches : (m : Matcher) (text : List ℕ) (b : Backtracker) (from : ℕ) (outcome : Outcome) → run_code b ≡ m.code →
+    run_tables b ≡ arc_value m.tables → run_text b ≡ text →
+    ((outs : ℕ → Out) → AreOutcomes b outs → IsSearchResult (run_text b) (runs.outcomes_at b outs) from outcome) →
+    IsSearchResult text (matcher_outcomes m text) from outcome
+run_matches m text b from outcome code tables same solved =
+    run_finds (matcher_setting m) (matcher_tree m) (run_tables b) (run_code b) text from outcome
+    (code_of m (run_tables b) (run_code b) tables code m.compiled)
+    (subst (λ (t : List ℕ). (outs : ℕ → Out) → IsSolution (setting_with (run_code b) (run_tables b)) t (code_routines (run_code b)) outs →
+    IsSearchResult t (outcomes_from (run_code b) (run_tables b) t outs) from outcome) same solved)
 
 -- ---- the tables of a text, before the first search
 

@@ -1,29 +1,15 @@
 -- What a repeated search keeps from one match to the next.
-use Rattle.std.specs.Prelude.{◌≡◌, ℕ, ◌+◌, ◌*◌, ◌≤◌, true, List, length, min, Option, Some, MatchOption, IfSome}
+use Rattle.std.specs.Prelude.{◌≡◌, ℕ, ◌+◌, ◌*◌, ◌≤◌, true, List, length, min, Option, Some, MatchOption}
 use Rattle.std.proofs.Props.{props}
 use Rattle.regress_program.specs.Linear.{is_linear}
 use Rattle.regress_code.specs.Code.{captures_cost, code_routines}
 use Rattle.regress_tables.specs.Search.{walk_weight}
 use Rattle.regress_tables.specs.TextSearch.{searched_code, searched_groups, searched_size, searched_tables, searched_text}
 use Rattle.regress_tables.specs.declared.text.TextSearch.{TextSearch}
-use Rattle.regress_program.specs.Cost.{Cost}
-use Rattle.regress_program.specs.Program.{Out}
-use Rattle.regress_backtrack.specs.Backtracker as runs
-use Rattle.regress_backtrack.specs.Backtracker.{run_code, run_tables, run_text, search_cost_at}
-use Rattle.regress_backtrack.specs.declared.backtracker.Backtracker.{Backtracker}
-use Rattle.regress_match.specs.Compiled.{IsCodeOf, IsCodeOf-prop, MatchState-set}
-use Rattle.regress_match.specs.Costs.{AreCosts, find_cost}
+use Rattle.regress_match.specs.Compiled.{IsCodeOf, IsCodeOf-prop}
 use Rattle.regress_match.specs.Matcher.{factor, factor_of}
 use Rattle.regress_match.specs.Pattern.{matcher_setting, matcher_tree}
 use Rattle.regress_match.specs.declared.matcher.Matcher.{Matcher}
-
--- The program that is run is one of the matcher's pattern, with the costs of the matcher's, and the text is this one.
-pub record IsRunOf (m : Matcher) (text : List ℕ) (b : Backtracker) : Type 0 where
-  pub code : IsCodeOf (matcher_setting m) (matcher_tree m) (run_tables b) (run_code b)
-  pub costs : (outs : ℕ → Out) (costs : ℕ → Cost) → AreCosts m text outs costs → runs.AreCosts b outs costs
-  pub captures : captures_cost (run_code b) ≡ captures_cost m.code
-  pub find_cost : (costs : ℕ → Cost) (from : ℕ) → search_cost_at b costs from ≡ find_cost m text costs from
-  pub same_text : run_text b ≡ text
 
 -- The tables are those of a linear program of the matcher's pattern and of the text. The steps are those of making them, and of
 -- searches in them, each of which took at most one walk for each byte that it has passed.
@@ -41,12 +27,6 @@ abbrev pub IfKept : (m : Matcher) (text : List ℕ) (from steps : ℕ) → Optio
 IfKept m text from steps s = MatchOption s (steps ≡ 0) (IsKept m text from steps)
 
 -- Each has at most one proof.
-pub IsRunOf-prop : (m : Matcher) (text : List ℕ) (b : Backtracker) → IsProp (IsRunOf m text b)
-IsRunOf-prop m text b = hlevel (props, IsCodeOf-prop, MatchState-set)
-
-pub IfRunOf-prop : (m : Matcher) (text : List ℕ) (b : Option Backtracker) → IsProp (IfSome b (IsRunOf m text))
-IfRunOf-prop m text b = hlevel (props, IsRunOf-prop)
-
 pub IsKept-prop : (m : Matcher) (text : List ℕ) (from steps : ℕ) (s : TextSearch) → IsProp (IsKept m text from steps s)
 IsKept-prop m text from steps s = hlevel (props, IsCodeOf-prop)
 

@@ -49,18 +49,18 @@ IsFactorOf limit t bound = bound ≡ (if nat_le (program_size t) limit && is_lin
 abbrev pub is_find_linear_tree : (limit : ℕ) → Tree → Bool
 is_find_linear_tree limit t = nat_le (program_size t) limit && not (has_back_reference t)
 
--- The bound is that of a search for one match in a program that matches the tree, with as many instructions as the size of
--- the tree: it takes linear time if tables lead to the matches of the program, and it is within the limit. Of a well-formed
--- tree there is a bound exactly if the tree has no back reference and the program is within the limit.
+-- The bound is that of a search for one match in a program that matches the tree: it takes linear time if tables lead to the
+-- matches of the program, and it is within the limit. Then it has as many instructions as the size of the tree. Of a
+-- well-formed tree there is a bound exactly if the tree has no back reference and the program is within the limit.
 pub record IsFindFactorOf (limit : ℕ) (t : Tree) (bound : Option ℕ) : Type 0 where
   pub routines : List Routine
   pub pattern : IsPattern routines t
-  pub size : total routines ≡ program_size t
+  pub size : program_size t ≤ limit → total routines ≡ program_size t
   pub linear : is_linear routines ≡ is_linear_tree t
   pub plain : has_no_back_reference routines ≡ not (has_back_reference t)
   pub tidy : Bool
   pub tidy_if : IsWellFormed t → tidy ≡ true
-  pub is : bound ≡ find_factor_with (length (captures t)) tidy routines (nat_le (total routines) limit)
+  pub is : bound ≡ find_factor_with (length (captures t)) tidy routines (nat_le (program_size t) limit)
   pub exactly : IsWellFormed t → is_some bound ≡ is_find_linear_tree limit t
 
 -- why a program is not searched in linear time: by its instructions, or else because it is not within the limit on tables;

@@ -1,5 +1,5 @@
 //! Compiling a pattern for searches.
-ghost use Rattle.std.specs.Prelude.{◌≡◌, ◌<◌, ◌≤◌, ℕ, Err, IfOk, List, is_some, length, min, not, option_map, true};
+ghost use Rattle.std.specs.Prelude.{◌≡◌, ◌<◌, ◌≤◌, ◌&&◌, ℕ, Err, IfOk, List, is_some, length, min, nat_le, not, option_map, true};
 ghost use Rattle.std.specs.Arc.{arc_value};
 ghost use Rattle.regress_tree.specs.Tree.{tree};
 ghost use Rattle.regress_tree.specs.WellFormed.{IsWellFormed, captures};
@@ -7,11 +7,11 @@ ghost use Rattle.regress_unicode.specs.TableOf.{table_of};
 ghost use Rattle.regress_unicode.specs.declared.Tables.{Tables};
 ghost use Rattle.regress_program.specs.Compiled.{IsPattern, total};
 ghost use Rattle.regress_program.specs.Linear.{has_back_reference, is_linear, is_linear_tree};
-ghost use Rattle.regress_program.specs.Size.{program_size};
+ghost use Rattle.regress_program.specs.Size.{compiled_size, counts_within, is_bounded, least_size};
 ghost use Rattle.regress_program.specs.Tidy.{has_no_back_reference};
 ghost use Rattle.regress_program.specs.declared.fault.CompileFault.TheVariants.{TooLong};
 ghost use Rattle.regress_tables.specs.Search.{walk_weight};
-ghost use Rattle.regress_code.specs.Code.{code_groups, code_routines, code_tidy};
+ghost use Rattle.regress_code.specs.Code.{code_counts, code_groups, code_routines, code_tidy};
 ghost use Rattle.regress_match.specs.Compiled.{IsCodeOf};
 ghost use Rattle.regress_match.specs.Costs.{HasCosts};
 ghost use Rattle.regress_match.specs.Matcher.{IsFactorOf, IsFindFactorOf, IsNonlinearOf, factor, factor_of, find_factor, find_factor_of, nonlinear_of};
@@ -33,12 +33,14 @@ use std::sync::Arc;
 impl Matcher {
     /// Compiles a pattern into a program of at most `limits.instructions` instructions.
     ///
-    /// Searches for all matches take linear time exactly if the program has at most `limits.linear_instructions` instructions,
-    /// and the tree has no back reference, and no capture group in a lookaround that is not negated; of a well-formed tree
-    /// searches for one match also where lookarounds capture. What is in a loop without iterations does not count.
+    /// Searches for all matches take linear time exactly if the program, with at most 64 characters for each instruction, has
+    /// at most `limits.linear_instructions` instructions, and no more than it may have; and the tree has no back reference,
+    /// and no capture group in a lookaround that is not negated; of a well-formed tree searches for one match also where
+    /// lookarounds capture. What is in a loop without iterations does not count.
     ///
     /// # Errors
-    /// - [`CompileFault::TooLong`] if the program would have more instructions than the limit.
+    /// - [`CompileFault::TooLong`] if the program would have more instructions than the limit, also if one instruction
+    ///   matches any number of characters.
     /// - [`CompileFault::Memory`] if an allocation fails.
     ///
     /// # Complexity
@@ -51,17 +53,17 @@ impl Matcher {
     ) -> Result<Matcher, CompileFault>
         ensures setting { IfOk result (λ m. matcher_setting m ≡ record { flags = regex.flags; table = table_of (arc_value tables.now) }) }
         ensures tree { IfOk result (λ m. matcher_tree m ≡ tree regex.node) }
-        ensures linear { IfOk result (λ m. IsFactorOf limits.linear_instructions (tree regex.node) (factor_of m)) }
-        ensures find_linear { IfOk result (λ m. IsFindFactorOf limits.linear_instructions (tree regex.node) (find_factor_of m)) }
-        ensures nonlinear { IfOk result (λ m. IsNonlinearOf limits.linear_instructions (tree regex.node) (nonlinear_of m)) }
+        ensures linear { IfOk result (λ m. IsFactorOf (min limits.linear_instructions limits.instructions) (tree regex.node) (factor_of m)) }
+        ensures find_linear { IfOk result (λ m. IsFindFactorOf (min limits.linear_instructions limits.instructions) (tree regex.node) (find_factor_of m)) }
+        ensures nonlinear { IfOk result (λ m. IsNonlinearOf (min limits.linear_instructions limits.instructions) (tree regex.node) (nonlinear_of m)) }
         ensures costs { IfOk result (λ m. (text : List ℕ) → HasCosts m text) }
         ensures memory { IfOk result (λ m. memory_of m ≡ limits.memory) }
-        ensures instructions { IfOk result (λ m. instructions_of m ≡ program_size (tree regex.node)) }
-        ensures within { IfOk result (λ _. program_size (tree regex.node) ≤ limits.instructions) }
-        ensures too_long { result ≡ Err TooLong → length (captures (tree regex.node)) < usize.MAX → limits.instructions < program_size (tree regex.node) }
+        ensures instructions { IfOk result (λ m. instructions_of m ≡ compiled_size limits.instructions (tree regex.node)) }
+        ensures within { IfOk result (λ m. instructions_of m ≤ limits.instructions) }
+        ensures too_long { result ≡ Err TooLong → length (captures (tree regex.node)) < usize.MAX → limits.instructions < least_size (tree regex.node) }
     {
         let code = compiled(alloc, &regex, limits.instructions)?;
-        let within = code.instructions() <= limits.linear_instructions;
+        let within = is_within(&code, limits.linear_instructions);
         let required_byte = required_byte(&regex.node);
         let facts = CaseFacts::find(tables, regex.flags);
         let tables = Arc::try_clone(tables)?;
@@ -132,10 +134,11 @@ fn compiled(alloc: Global, regex: &Regex, limit: usize) -> Result<Code, CompileF
     ensures linear { IfOk result (λ code. is_linear (code_routines code) ≡ is_linear_tree (tree regex.now.node)) }
     ensures plain { IfOk result (λ code. has_no_back_reference (code_routines code) ≡ not (has_back_reference (tree regex.now.node))) }
     ensures tidy { IfOk result (λ code. IsWellFormed (tree regex.now.node) → code_tidy code ≡ true) }
-    ensures size { IfOk result (λ code. total (code_routines code) ≡ program_size (tree regex.now.node)) }
+    ensures counts { IfOk result (λ code. code_counts code ≡ counts_within limit (tree regex.now.node)) }
+    ensures size { IfOk result (λ code. total (code_routines code) ≡ compiled_size limit (tree regex.now.node)) }
     ensures groups { IfOk result (λ code. code_groups code ≡ length (captures (tree regex.now.node))) }
     ensures within { IfOk result (λ code. total (code_routines code) ≤ limit) }
-    ensures too_long { result ≡ Err TooLong → length (captures (tree regex.now.node)) < usize.MAX → limit < program_size (tree regex.now.node) }
+    ensures too_long { result ≡ Err TooLong → length (captures (tree regex.now.node)) < usize.MAX → limit < least_size (tree regex.now.node) }
 {
     let code = Code::compile(alloc, regex, limit)?;
     // the number of groups is exact only below this
@@ -143,6 +146,13 @@ fn compiled(alloc: Global, regex: &Regex, limit: usize) -> Result<Code, CompileF
         return Err(CompileFault::TooLong);
     }
     Ok(code)
+}
+
+/// Returns whether a program has bounded counts, and at most `limit` instructions.
+fn is_within(code: &Code, limit: usize) -> bool
+    ensures { result ≡ (is_bounded (code_counts code.now) && nat_le (min (total (code_routines code.now)) usize.MAX) limit) }
+{
+    code.has_bounded_counts() && code.instructions() <= limit
 }
 
 /// Returns an upper bound for the steps for each byte, at most `u64::MAX`: those of backtracking, of making the tables, and

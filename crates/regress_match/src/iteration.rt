@@ -115,7 +115,7 @@ impl<'m> MatcherMatches<'m> {
         ensures spent { Spends self.old self.new }
         ensures searched { self.new.searched ≡ self.old.searched }
     {
-        if self.backtracker.is_some() {
+        if self.cache.is_some() {
             return false;
         }
         let mut left = self.remaining;
@@ -152,8 +152,8 @@ impl<'m> MatcherMatches<'m> {
         let mut remaining = self.remaining;
         let outcome = self.matcher.find_by_kept(
             alloc,
+            &mut self.cache,
             self.text,
-            &mut self.backtracker,
             self.from,
             &mut remaining,
         )?;

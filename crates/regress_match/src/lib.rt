@@ -19,6 +19,7 @@ pub use matcher::Matcher;
 pub use matcher_matches::MatcherMatches;
 pub use names::{Group, groups};
 pub use nonlinear::Nonlinear;
+pub use regress_backtrack::Cache;
 pub use regress_found::{Found, Match, MemoryFault, Outcome};
 pub use regress_prefilter::{first_bytes, next_candidate};
 pub use regress_program::CompileFault;

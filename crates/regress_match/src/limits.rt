@@ -4,9 +4,11 @@
 #[derive(Clone, Copy, Debug, PartialEq, Eq)]
 pub struct Limits {
     /// The number of instructions that a program may have, where the body of a loop `{n,m}` counts m times, or if it is one
-    /// character, about m / 64 times. A pattern that needs more is not compiled. 250,000 by default: up to some 100 MiB.
+    /// character, about m / 64 times; but if that is too much, once for n, and a few times for each bit of m. A pattern that
+    /// needs more is not compiled. 250,000 by default: up to some 100 MiB.
     pub instructions: usize,
-    /// The number of instructions up to which a program is searched by tables, in linear time. The tables take up to two
+    /// The number of instructions up to which a program is searched by tables, in linear time, where a body of one character
+    /// always counts about m / 64 times. The tables take up to two
     /// bits for each instruction and byte of a text. A thousand by default, so at most 250 times the length of the text.
     pub linear_instructions: usize,
     /// The memory in bytes that the tables of a search may take: a quarter of a byte for each instruction, and 8 bytes, for

@@ -23,7 +23,7 @@ pub struct Matcher {
     /// What is precomputed about the case mappings.
     pub(crate) facts: CaseFacts,
     pub(crate) code: Code,
-    /// Whether the program is within the limit on tables.
+    /// Whether the program is within the limit on tables, with at most 64 characters for each instruction.
     pub(crate) within: bool,
     /// The number of bytes that the tables of a search may take.
     pub(crate) memory: usize,

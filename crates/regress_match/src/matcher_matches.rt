@@ -1,14 +1,14 @@
 //! The matches of a matcher in a text.
 ghost use Rattle.std.specs.Prelude.{◌≤◌, ◌+◌, ◌*◌, IfSome, length};
 ghost use Rattle.std.proofs.Props.{props};
-ghost use Rattle.regress_match.specs.Kept.{IfKept, IfKept-prop, IfRunOf-prop, IsRunOf};
+ghost use Rattle.regress_match.specs.Kept.{IfKept, IfKept-prop};
 ghost use Rattle.regress_match.specs.Matcher.{factor_of};
 ghost use Rattle.regress_match.specs.Memory.{memory_of};
 ghost use Rattle.regress_tables.specs.Memory.{table_bytes};
 ghost use Rattle.regress_tables.specs.TextSearch.{searched_size};
 
 use crate::matcher::Matcher;
-use regress_backtrack::Backtracker;
+use regress_backtrack::Cache;
 use regress_tables::TextSearch;
 
 /// The non-overlapping matches of a [`Matcher`] in a text, from left to right: each starts at the end of the one before
@@ -24,13 +24,12 @@ pub struct MatcherMatches<'m> {
     pub(crate) remaining: u64,
     /// The number of steps of making the tables, and of searches in them.
     pub(crate) searched: u64,
-    /// The runs of the program, after the first call of `next`.
-    pub(crate) backtracker: Option<Backtracker<'m, 'm>>,
+    /// The memory of backtracking, after the first call of `next`.
+    pub(crate) cache: Option<Cache>,
     /// The tables, once backtracking has used up its steps.
     pub(crate) search: Option<TextSearch<'m>>,
     ghost within: { remaining ≤ limit },
     ghost short: { IfSome (factor_of matcher.now) (λ _. limit ≤ 64 * (length text.now + 1)) } by { Prim.hlevel props },
     ghost fits: { IfSome search (λ s. table_bytes (searched_size s) text.now ≤ memory_of matcher.now) } by { Prim.hlevel props },
-    ghost runs: { IfSome backtracker (IsRunOf matcher.now text.now) } by { IfRunOf-prop matcher.now text.now backtracker },
     ghost kept: { IfKept matcher.now text.now from searched search } by { IfKept-prop matcher.now text.now from searched search },
 }

@@ -11,6 +11,7 @@ ghost use Rattle.regress_match.specs.Pattern.{matcher_outcomes, matcher_tree};
 
 use crate::iteration::outcome_of;
 use crate::matcher::Matcher;
+use regress_backtrack::Cache;
 use regress_found::{Found, MemoryFault, Outcome};
 use regress_tables::Linear;
 use std::alloc::{AllocError, Global};
@@ -24,6 +25,7 @@ impl Matcher {
     pub(crate) fn find_in_linear_time(
         &self,
         alloc: Global,
+        cache: &mut Cache,
         text: &str,
         from: usize,
     ) -> Result<Found, MemoryFault>
@@ -32,7 +34,7 @@ impl Matcher {
         ensures bounded { IfOk result (λ found. IfSome (find_factor_of self.now) (λ n. IsLinear n text.now found.outcome found.steps)) }
         ensures too_much { IfErr result (λ fault. fault ≡ TooMuchMemory → TablesNeedMore self.now text.now) }
     {
-        let first = self.find_within(alloc, text, from, self.steps_before_tables(text))?;
+        let first = self.find_within(alloc, cache, text, from, self.steps_before_tables(text))?;
         let steps = first.steps;
         match first.outcome {
             Outcome::OutOfSteps => {
@@ -46,13 +48,15 @@ impl Matcher {
         }
     }
 
-    /// Returns the leftmost match that starts at the byte offset `from` or later, by backtracking within `limit` steps.
+    /// Returns the leftmost match that starts at the byte offset `from` or later, by backtracking within `limit` steps, in the
+    /// memory of the cache.
     ///
     /// # Errors
     /// Returns [`AllocError`] if an allocation fails.
     pub(crate) fn find_within(
         &self,
         alloc: Global,
+        cache: &mut Cache,
         text: &str,
         from: usize,
         limit: u64,
@@ -69,8 +73,7 @@ impl Matcher {
                 steps: limit - remaining,
             });
         }
-        let mut backtracker = None;
-        let outcome = self.find_by_kept(alloc, text, &mut backtracker, from, &mut remaining)?;
+        let outcome = self.find_by_backtracking(alloc, cache, text, from, &mut remaining)?;
         Ok(Found {
             outcome,
             steps: limit - remaining,

@@ -14,7 +14,7 @@ ghost use Rattle.regress_found.specs.Repeated.{AreAllMatches};
 
 use crate::matcher::Matcher;
 use crate::matcher_matches::MatcherMatches;
-use regress_backtrack::match_at;
+use regress_backtrack::{Cache, match_at};
 use regress_found::{Found, Match, MemoryFault, Outcome};
 use std::alloc::{AllocError, Global};
 
@@ -81,10 +81,55 @@ impl Matcher {
         ensures costs { IfOk result (λ found. IfNone (find_factor_of self.now) (IsWithinFindCost self.now text.now from found.steps)) }
         ensures too_much { IfErr result (λ fault. fault ≡ TooMuchMemory → TablesNeedMore self.now text.now) }
     {
+        let mut cache = Cache::new(alloc);
+        self.find_with(alloc, &mut cache, text, from, steps)
+    }
+
+    /// Returns the same match, searched for in the memory of a cache, which is kept for the next search. A search that needs
+    /// no tables allocates only where it needs more memory than the cache has. If an allocation fails, the cache may be
+    /// empty after it.
+    ///
+    /// # Errors
+    /// As for [`Matcher::find`].
+    ///
+    /// # Examples
+    /// ```
+    /// let tables = Arc::new(alloc, Tables::small(alloc)?)?;
+    /// let points = code_points(alloc, "(a+)b")?;
+    /// let regex = try_parse(alloc, &points, Flags::default(), &tables)?;
+    /// let matcher = Matcher::new(alloc, regex, &tables, Limits::default())?;
+    /// let mut cache = Cache::new(alloc);
+    /// for text in ["xab", "aab"] {
+    ///     let found = matcher.find_with(alloc, &mut cache, text, 0, 0)?;
+    ///     match found.outcome {
+    ///         Outcome::Matched(found) => {
+    ///             assert_eq!(rt; found.end(), 3);
+    ///             cache.recycle(found);
+    ///         }
+    ///         _ => assert!(rt; false, "it matches"),
+    ///     }
+    /// }
+    /// ```
+    pub fn find_with(
+        &self,
+        alloc: Global,
+        cache: &mut Cache,
+        text: &str,
+        from: usize,
+        steps: u64,
+    ) -> Result<Found, MemoryFault>
+        ensures finds { IfOk result (λ found. IsSearchResult text.now (matcher_outcomes self.now text.now) from found.outcome) }
+        ensures inside { IfOk result (λ found. IsWellFormed (matcher_tree self.now) → IfMatched found.outcome (IsInside text.now)) }
+        ensures linear { IfOk result (λ found. IfSome (factor_of self.now) (λ n. IsLinear n text.now found.outcome found.steps)) }
+        ensures bounded { IfOk result (λ found. IfSome (find_factor_of self.now) (λ n. IsLinear n text.now found.outcome found.steps)) }
+        ensures limited { IfOk result (λ found. IfNone (find_factor_of self.now) (IsLimited steps found.outcome found.steps)) }
+        ensures costs { IfOk result (λ found. IfNone (find_factor_of self.now) (IsWithinFindCost self.now text.now from found.steps)) }
+        ensures too_much { IfErr result (λ fault. fault ≡ TooMuchMemory → TablesNeedMore self.now text.now) }
+    {
         if self.is_find_linear() {
-            self.find_in_linear_time(alloc, text, from)
+            self.find_in_linear_time(alloc, cache, text, from)
         } else {
-            Ok(self.find_within(alloc, text, from, steps)?)
+            Ok(self.find_within(alloc, cache, text, from, steps)?)
         }
     }
 
@@ -148,7 +193,7 @@ impl Matcher {
             limit,
             remaining: limit,
             searched: 0,
-            backtracker: None,
+            cache: None,
             search: None,
         }
     }

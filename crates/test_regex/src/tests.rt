@@ -16,4 +16,5 @@ mod exact;
 mod examples;
 mod regular_expressions;
 mod schemas;
+mod searchers;
 mod theorems;

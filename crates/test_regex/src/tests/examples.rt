@@ -1,6 +1,6 @@
-//! The examples of the doc comments of `Regex`: each line of an example is here. Expected values are from ECMA-262.
+//! The examples of the doc comments of `Regex` and `Searcher`: each line of an example is here. Expected values are from ECMA-262.
 
-use regress::{Nonlinear, Regex, parse_flags};
+use regress::{Nonlinear, Regex, Searcher, parse_flags};
 use std::test::Fail;
 
 #[test]
@@ -157,5 +157,22 @@ fn captures_are_parts(rt: HostRuntime) -> Result<(), Fail> {
     let parts = regex.split_with_captures(alloc, "1-2+3", None)?;
     let expected = [Some("1"), Some("-"), Some("2"), None, Some("3")];
     expect_eq!(rt; parts.as_slice(), expected.as_slice());
+    Ok(())
+}
+
+#[test]
+fn a_searcher_finds_the_match_in_each_text(rt: HostRuntime) -> Result<(), Fail> {
+    let alloc = rt.alloc();
+    let regex = Regex::new(alloc, "(\\d\\d)-(\\d\\d)")?;
+    let mut searcher = Searcher::new(alloc);
+    for (text, end) in [("on 12-31", 8), ("01-02", 5)] {
+        match searcher.find_at(alloc, &regex, text, 0)? {
+            Some(found) => {
+                expect_eq!(rt; found.end(), end);
+                searcher.recycle(found);
+            }
+            None => assert!(rt; false, "it matches"),
+        }
+    }
     Ok(())
 }

@@ -207,6 +207,16 @@ fn searches_that_are_not_linear_have_a_step_limit(rt: HostRuntime) -> Result<(),
             },
         ),
         (
+            "x{2147483648}x",
+            1000,
+            Searches {
+                nonlinear: Some(Nonlinear::TooManyInstructions),
+                are_all_linear: false,
+                is_one_linear: false,
+                found: Some(false),
+            },
+        ),
+        (
             "(a*)*b",
             1000,
             Searches {

@@ -5,4 +5,4 @@ use Rattle.regress_capi.proofs.differing.find_differences.Goals as goal
 pub returns-clause-listed : goal.returns-clause-listed
 returns-clause-listed c =
     differences-are (setting_of c.args.flags c.args.tables.now) c.args.pattern.now (λ v. v.items) c.differences.result
-    c.differences.ensures.listed c.differences.ensures.comparable
+    c.differences.ensures.listed c.differences.ensures.matches

@@ -10,6 +10,7 @@ use Rattle.regress_front.specs.Tree.{tree}
 use Rattle.regress_match.specs.Matcher.{is_find_linear_tree}
 use Rattle.regress.specs.Compiled.{IsTreeOfIn}
 use Rattle.regress.specs.Failures.{IsDue}
+use Rattle.regress.specs.Limits.{linear_limit}
 use Rattle.regress.proofs.CompiledLemmas.{compiled, passed_on, too_long_is_due, with_tables}
 use Rattle.regress.proofs.pattern.Regex.with_source.Goals as goal
 
@@ -59,4 +60,4 @@ returns-clause-find_linear_tree c =
     let made = c.in_ok-matcher.ensures in
     let is : IsTreeOfIn c.args.options.dialect (setting_of flags tables) c.args.pattern.now t =
     with_tables (λ ts. IsTreeOfIn c.args.options.dialect (setting_of flags ts) c.args.pattern.now t) c.deref.result.now tables c.deref.ensures c.in_ok-compiled.ensures.tree in
-    made.find_linear.exactly is.well_formed ∙ ap (is_find_linear_tree c.args.options.linear_instructions) (sym made.tree)
+    made.find_linear.exactly is.well_formed ∙ ap (is_find_linear_tree (linear_limit c.args.options)) (sym made.tree)

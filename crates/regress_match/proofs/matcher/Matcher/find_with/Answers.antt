@@ -2,7 +2,7 @@ use Rattle.std.proofs.Common.{◌∙◌, sym}
 use Rattle.std.proofs.lemmas.Result.{IfOk-weaker}
 use Rattle.regress_match.specs.Matcher.{IsLinear, find_factor_of}
 use Rattle.regress_match.proofs.OneMatchLemmas.{all_by_one, if_none}
-use Rattle.regress_match.proofs.matcher.Matcher.find.Goals as goal
+use Rattle.regress_match.proofs.matcher.Matcher.find_with.Goals as goal
 
 pub returns-then-is_find_linear-clause-linear : goal.returns-then-is_find_linear-clause-linear
 returns-then-is_find_linear-clause-linear c =

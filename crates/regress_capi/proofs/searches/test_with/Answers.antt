@@ -5,7 +5,7 @@ use Rattle.regress.specs.Memory.{TablesNeedMore}
 use Rattle.regress.specs.Searched.{MatchesSomewhere}
 use Rattle.regress_capi.specs.SearchResults.{found, not_found, no_text}
 use Rattle.regress_capi.proofs.SearchLemmas.{test-fails}
-use Rattle.regress_capi.proofs.searches.test.Goals as goal
+use Rattle.regress_capi.proofs.searches.test_with.Goals as goal
 
 pub returns-in-Ok-true : goal.returns-in-Ok-true
 returns-in-Ok-true c = record {

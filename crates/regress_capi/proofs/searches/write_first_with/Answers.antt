@@ -7,7 +7,7 @@ use Rattle.regress_capi.specs.SearchResults.{SearchResult, bad}
 use Rattle.regress_capi.specs.Spans.{AreEndsOfFirst, match_ends}
 use Rattle.regress_found.specs.Found.{Finds}
 use Rattle.regress_capi.proofs.SearchLemmas.{first-found, search-reports, too-costly}
-use Rattle.regress_capi.proofs.searches.write_first.Goals as goal
+use Rattle.regress_capi.proofs.searches.write_first_with.Goals as goal
 
 pub returns-in-Ok : goal.returns-in-Ok
 returns-in-Ok c =
