@@ -549,7 +549,8 @@ class Calls(unittest.TestCase):
             return [found[:3] for found in regress.differences(*arguments)]
         self.assertEqual(listed(r'é[k]\w', 'i'), [('case-closure', 1, 4), ('case-closure', 4, 6)])
         self.assertEqual(listed(r'é[k]\w'.encode(), 'i'), [('case-closure', 2, 5), ('case-closure', 5, 7)])
-        self.assertEqual(listed(r'\p{RGI_Emoji}', 'v'), [('string-set', 0, 13)])
+        self.assertEqual(listed(r'x\u{61}'), [('grammar', 1, 7)])
+        self.assertEqual(listed(r'[\s\S]|\p{RGI_Emoji}', 'iv'), [])
         self.assertEqual(listed(r'(?:(?<a>x)|(?<a>y))\k<a>'), [('same-name', 19, 24)])
         self.assertEqual(listed(r'[k]\w'), [])
         self.assertEqual(len(listed('[k]' * 100, 'i')), 100)

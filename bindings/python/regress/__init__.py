@@ -135,10 +135,11 @@ def compile(pattern, flags='', *, dialect='ecma', steps=None, nodes=None, instru
         steps         the steps of one search that does not take linear time; a billion by default
         nodes         the nodes of the tree of the pattern, as node_bound() bounds them; a million by default
         instructions  those of its program, where the body of a loop {n,m} counts m times, or if it is one character,
-                      about m / 64 times; 250,000 by default
+                      about m / 64 times, and if that is too much, a few times; 250,000 by default
         linear_instructions
-                      the instructions up to which a search may take linear time; a thousand by default. It takes up to
-                      two bits of memory for each instruction and byte of the text
+                      the instructions up to which a search may take linear time, where one character always counts
+                      about m / 64 times; a thousand by default. It takes up to two bits of memory for each
+                      instruction and byte of the text
         memory        the bytes that the tables of one search may take, 256 MiB by default: a quarter of a byte for each
                       instruction, and 8 bytes, for each byte of the text in UTF-8, and once more; 4 bytes more for each
                       lookaround do not count
@@ -244,27 +245,27 @@ def node_bound(pattern, flags=''):
 
 
 Difference = collections.namedtuple('Difference', 'kind start end text')
-Difference.__doc__ = """A construct of a pattern that may match otherwise than in JavaScript.
+Difference.__doc__ = """A part of a pattern that matches otherwise than in JavaScript.
 
 Attributes:
-    kind: 'case-closure', 'string-set' or 'same-name'
+    kind: 'case-closure', 'string-set', 'same-name' or 'grammar'
     start, end: where it is in the pattern
     text: a sentence about the kind, with an example
 """
 
 
 def differences(pattern, flags=''):
-    r"""Returns the list of the constructs of a pattern that in the dialect 'regress' may match otherwise than in
-    JavaScript, each a Difference.
+    r"""Returns the list of the parts of a pattern that in the dialect 'regress' match otherwise than in JavaScript,
+    each a Difference.
 
         >>> import regress
         >>> [found[:3] for found in regress.differences('a[k]', 'i')]
         [('case-closure', 1, 4)]
 
-    If there are none, and the pattern is parsed as in JavaScript, its first match in a text is that of JavaScript; but
-    without u or v a text is read by characters, and not by code units. Some constructs are reported that do not differ.
-    What only one of the two accepts, or what they parse otherwise, such as \u{61} without u, is not reported:
-    docs/differences.md lists it. The tree may be large: for untrusted patterns call node_bound() first.
+    If there are none, its first match in a text is that of JavaScript; but without u or v a text is read by characters,
+    and not by code units. What JavaScript rejects is one part, at the place of its syntax error. What follows a part
+    that is parsed otherwise, such as \u{61} without u, is not compared. The tree may be large: for untrusted patterns
+    call node_bound() first.
 
     Raises error if the pattern or the flags are rejected.
     """

@@ -1,4 +1,4 @@
-//! The constructs of a pattern that may match otherwise than in JavaScript.
+//! The parts of a pattern that match otherwise than in JavaScript.
 
 use crate::ffi;
 use crate::flags::{bits, Flags, Table};
@@ -6,7 +6,7 @@ use crate::regex::{syntax_error, Error};
 use std::fmt;
 use std::ops::Range;
 
-/// A construct of a pattern that may match otherwise than in JavaScript.
+/// A part of a pattern that matches otherwise than in JavaScript.
 #[derive(Clone, Debug, PartialEq, Eq, Hash)]
 pub struct Difference {
     /// Why it is reported.
@@ -15,7 +15,7 @@ pub struct Difference {
     pub span: Range<usize>,
 }
 
-/// Why a construct is reported. `docs/differences.md` has the differences. The numbers are those of the library, and
+/// Why a part is reported. `docs/differences.md` has the differences. The numbers are those of the library, and
 /// never change.
 #[derive(Clone, Copy, Debug, PartialEq, Eq, Hash)]
 #[non_exhaustive]
@@ -23,14 +23,16 @@ pub struct Difference {
 pub enum DifferenceKind {
     /// A class, a class escape such as `\w`, or a property of code points, where the flag i may be in force.
     CaseClosure = 1,
-    /// A property of strings, which is not compared.
+    /// A property of strings, which JavaScript tries in another order.
     StringSet = 2,
     /// A reference by name to several groups.
     SameName = 3,
+    /// JavaScript rejects the pattern here, or parses it otherwise.
+    Grammar = 4,
 }
 
 /// The kinds in the order of their numbers, with their names and texts.
-const KINDS: [(DifferenceKind, &str, &str); 3] = [
+const KINDS: [(DifferenceKind, &str, &str); 4] = [
     (
         DifferenceKind::CaseClosure,
         "case-closure",
@@ -49,10 +51,17 @@ const KINDS: [(DifferenceKind, &str, &str); 3] = [
         "a reference to several groups of one name tries each of them, and an unset group gives the empty \
          string: (?:(?<a>x)|(?<a>y))\\k<a> matches y of yy, in JavaScript yy",
     ),
+    (
+        DifferenceKind::Grammar,
+        "grammar",
+        "JavaScript parses the pattern otherwise or rejects it: without u \\u{61} is u, 61 times, and \\b* is a \
+         syntax error",
+    ),
 ];
 
 impl DifferenceKind {
-    /// Returns the name of the kind, which never changes: `case-closure`, `string-set` or `same-name`.
+    /// Returns the name of the kind, which never changes: `case-closure`, `string-set`, `same-name` or
+    /// `grammar`.
     pub fn name(self) -> &'static str {
         KINDS[self as usize - 1].1
     }
@@ -62,7 +71,7 @@ impl DifferenceKind {
         KINDS[self as usize - 1].2
     }
 
-    /// Returns the number of the kind, which never changes: from 1 to 3.
+    /// Returns the number of the kind, which never changes: from 1 to 4.
     pub fn number(self) -> u32 {
         self as u32
     }
@@ -91,13 +100,12 @@ impl fmt::Display for Difference {
     }
 }
 
-/// Returns the constructs of a pattern that in the dialect [`Regress`](crate::Dialect::Regress) may match otherwise than
-/// in JavaScript, under the table of all of Unicode.
+/// Returns the parts of a pattern that in the dialect [`Regress`](crate::Dialect::Regress) match otherwise than in
+/// JavaScript, under the table of all of Unicode.
 ///
-/// If there are none, and the pattern is parsed as in JavaScript, its first match is that of JavaScript, on texts of
-/// code points and with `unicode_sets` only beside `unicode`: in this dialect v does not imply u. Some constructs are
-/// reported that do not differ. `docs/differences.md` lists what is not reported: what only one of the two accepts, and
-/// what they parse otherwise, such as `\u{61}` without u.
+/// If there are none, its first match is that of JavaScript, on texts of code points. What JavaScript rejects is one
+/// part, at the place of its syntax error. What follows a part that is parsed otherwise, such as `\u{61}` without u, is
+/// not compared. `docs/differences.md` has the differences.
 ///
 /// The size of the tree is not limited: for untrusted patterns test [`node_bound`](crate::node_bound) first.
 ///

@@ -84,10 +84,10 @@ pub struct Options {
     /// default a million.
     pub nodes: usize,
     /// The number of instructions that the program of the pattern may have, where the body of a loop `{n,m}` counts m
-    /// times, or if it is one character, about m / 64 times. By default 250,000.
+    /// times, or if it is one character, about m / 64 times, and if that is too much, a few times. By default 250,000.
     pub instructions: usize,
-    /// The number of instructions up to which a search may be linear. By default a thousand. It takes up to two bits of
-    /// memory for each instruction and byte of the text.
+    /// The number of instructions up to which a search may be linear, where one character always counts about m / 64 times.
+    /// By default a thousand. It takes up to two bits of memory for each instruction and byte of the text.
     pub linear_instructions: usize,
     /// The memory in bytes that the tables of one search may take: a quarter of a byte for each instruction, and 8
     /// bytes, for each byte of the text, and once more. By default 256 MiB. A lookaround takes up to 4 bytes more for

@@ -10,10 +10,11 @@ extern "C" {
         -> u32;
 }
 
-const KINDS: [DifferenceKind; 3] = [
+const KINDS: [DifferenceKind; 4] = [
     DifferenceKind::CaseClosure,
     DifferenceKind::StringSet,
     DifferenceKind::SameName,
+    DifferenceKind::Grammar,
 ];
 
 fn listed(pattern: &str, letters: &str) -> Vec<(&'static str, usize, usize)> {
@@ -33,7 +34,7 @@ fn differing_constructs_are_listed_with_their_spans() {
     assert_eq!(listed("é[k]\\w", "i"), closures);
     assert_eq!(listed("[\\W]", "iu"), [("case-closure", 0, 4)]);
     assert_eq!(listed("\\P{Lu}", "iv"), [("case-closure", 0, 6)]);
-    assert_eq!(listed("a\\p{RGI_Emoji}", "v"), [("string-set", 1, 14)]);
+    assert_eq!(listed("a\\u{61}", ""), [("grammar", 1, 7)]);
     let groups = "(?:(?<a>x)|(?<a>y))\\k<a>";
     assert_eq!(listed(groups, ""), [("same-name", 19, 24)]);
 }
@@ -44,7 +45,8 @@ fn most_patterns_have_no_difference() {
         ("", ""),
         ("[k]\\w", ""),
         ("[a]|\\d+x", "i"),
-        ("\\w[k]", "iu"),
+        ("\\w[k][\\s\\S]", "iu"),
+        ("[a-z]|a\\p{RGI_Emoji}", "iv"),
         ("(?<a>x)\\k<a>", "ims"),
     ] {
         assert!(listed(pattern, letters).is_empty(), "{pattern}");
@@ -96,7 +98,7 @@ fn names_and_texts_are_those_of_the_library() {
             assert_eq!(written(call, number), (0, own.to_owned()));
         }
     }
-    assert_eq!(written(regress_difference_name_raw, 4), (4, String::new()));
+    assert_eq!(written(regress_difference_name_raw, 5), (4, String::new()));
 }
 
 type Write = unsafe extern "C" fn(u32, *mut u8, usize, *mut usize) -> u32;

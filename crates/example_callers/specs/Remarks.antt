@@ -3,10 +3,9 @@ use Rattle.std.specs.Prelude.{◌≡◌, ℕ, List, map}
 use Rattle.regress_front.specs.Accepted.{IsAccepted}
 use Rattle.regress_front.specs.Steps.{Setting}
 use Rattle.regress_front.specs.Syntax.{Pattern}
-use Rattle.regress_differences.specs.CaseMode.{widest_flags}
-use Rattle.regress_differences.specs.Kinds.{name_of, text_of}
+use Rattle.regress_differences.specs.Kinds.{AreDifferences, name_of, text_of}
 use Rattle.regress_differences.specs.Paired.{spanned_of}
-use Rattle.regress_differences.specs.Reported.{reported}
+use Rattle.regress_differences.specs.TreeOf.{tree_of}
 use Rattle.regress_differences.specs.declared.kind.Difference.{Difference}
 use Rattle.example_callers.specs.declared.remarks.Remark.{Remark}
 
@@ -20,6 +19,6 @@ explained difference = (difference.span.start, difference.span.end, name_of diff
 
 -- The remarks explain the differences that are reported of the pattern, which is accepted.
 abbrev pub AreRemarksOn : Setting → (source : List ℕ) → List Remark → Type 0
-AreRemarksOn setting source remarks = (p : Pattern) × (accepted : IsAccepted setting source p)
-    × (map shown remarks
-    ≡ map explained (reported (widest_flags setting.flags source) source (spanned_of setting source p accepted.derived)))
+AreRemarksOn setting source remarks = (p : Pattern) × (accepted : IsAccepted setting source p) × (found : List Difference)
+    × AreDifferences setting source (tree_of setting.table p) (spanned_of setting source p accepted.derived) found
+    × (map shown remarks ≡ map explained found)

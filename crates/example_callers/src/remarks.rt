@@ -1,9 +1,11 @@
-//! A linter that explains where a pattern may match otherwise than in JavaScript.
-ghost use Rattle.std.specs.Prelude.{◌≡◌, false, [], IfOk, chars, map};
+//! A linter that explains where a pattern matches otherwise than in JavaScript.
+ghost use Rattle.std.specs.Prelude.{◌≡◌, [], IfOk, chars, map};
 ghost use Rattle.regress_front.specs.Meaning.{setting_of};
-ghost use Rattle.regress_front.specs.Syntax.{Pattern, names};
+ghost use Rattle.regress_front.specs.TableOf.{table_of};
 ghost use Rattle.regress_differences.specs.Accepted.{OfAccepted};
-ghost use Rattle.regress_differences.specs.Differences.{differs};
+ghost use Rattle.regress_differences.specs.Compared.{IsOfUnicode};
+ghost use Rattle.regress_differences.specs.InEcma.{FindsMatchesOfEcma};
+ghost use Rattle.regress_differences.specs.TreeOf.{tree_of};
 ghost use Rattle.example_callers.specs.Remarks.{AreRemarksOn, explained, shown};
 
 use regress_differences::{Difference, Span, differences};
@@ -13,7 +15,7 @@ use regress_front::unicode::Tables;
 use regress_front::util::code_points;
 use std::alloc::{AllocError, Global};
 
-/// A part of a pattern that may match otherwise than in JavaScript.
+/// A part of a pattern that matches otherwise than in JavaScript.
 #[derive(Debug, Drop)]
 pub struct Remark {
     /// Where the part is, in code-point indices of the pattern.
@@ -24,7 +26,7 @@ pub struct Remark {
     pub text: &'static str,
 }
 
-/// Returns a remark for each part of a pattern that may match otherwise than in JavaScript, in the order of
+/// Returns a remark for each part of a pattern that matches otherwise than in JavaScript, in the order of
 /// [`differences`].
 ///
 /// # Errors
@@ -38,9 +40,10 @@ pub fn remarks(
     // The remarks are those of the differences that are reported.
     ensures listed { IfOk result (λ remarks.
         AreRemarksOn (setting_of flags tables.now) (chars pattern.now) remarks.items) }
-    // Without remarks no construct of the pattern differs from ECMA-262.
-    ensures none { IfOk result (λ remarks. remarks.items ≡ [] →
-        OfAccepted (setting_of flags tables.now) (chars pattern.now) (λ p. differs (names p) flags p ≡ false)) }
+    // Without remarks each match of the pattern's tree is that of ECMA-262.
+    ensures matches { IfOk result (λ remarks. remarks.items ≡ [] → IsOfUnicode (table_of tables.now) →
+        OfAccepted (setting_of flags tables.now) (chars pattern.now)
+        (λ p. FindsMatchesOfEcma (setting_of flags tables.now) (chars pattern.now) (tree_of (table_of tables.now) p))) }
 {
     let points = code_points(alloc, pattern)?;
     let found = differences(alloc, &points, flags, tables)?;

@@ -1,9 +1,5 @@
-mod SourceLemmas
-mod HeadLemmas
-mod UnlikeLemmas
-mod QuietLemmas
-mod WithinLemmas
-mod DiffersLemmas
-mod AcceptedLemmas
-mod StepLemmas
+mod CaseLemmas
+mod InEcmaLemmas
+mod PartLemmas
+mod ReportLemmas
 mod TextLemmas

@@ -1,45 +1,46 @@
 -- The names, numbers and texts of the kinds of differences, and what is said of a difference. Names and numbers never
 -- change.
-use Rattle.std.specs.Prelude.{ℕ, Bool, true, false, not, ◌&&◌, List, [], ◌∷◌, ◌++◌, codes, length, Option, Some, None, drop, filter_map, option_map, if◌then◌else◌}
+use Rattle.std.specs.Prelude.{◌≡◌, ℕ, Bool, true, false, not, ◌&&◌, ◌==◌, List, [], ◌∷◌, ◌++◌, codes, length, map, Option, Some, None, drop, if◌then◌else◌}
 use Rattle.std.specs.Fmt.{decimal}
 use Rattle.std.specs.List.{filter}
 use Rattle.regress_base.specs.Intervals.{Bounds, is_member}
+use Rattle.regress_base.specs.declared.charclasses.CharacterClassType.{CharacterClassType}
 use Rattle.regress_base.specs.declared.types.Flags.{Flags}
 use Rattle.regress_tree.specs.Display.{code_point}
+use Rattle.regress_tree.specs.Steps.{Setting}
 use Rattle.regress_tree.specs.Tree.{Leaf, bracket, Tree, leaf}
-use Rattle.regress_lexer.specs.Source.{Source}
+use Rattle.regress_classes.specs.ClassProductions.{class_letter}
+use Rattle.regress_lexer.specs.Source.{Source, char}
 use Rattle.regress_parse.specs.declared.span.Span.{Span}
 use Rattle.regress_spans.specs.Remarks.{Said}
-use Rattle.regress_differences.specs.Reported.{class_escape_at, reported_at}
+use Rattle.regress_differences.specs.CaseMode.{widest_flags}
+use Rattle.regress_differences.specs.Reported.{apart, AreParts, difference_of, kind_of, Part}
 use Rattle.regress_differences.specs.declared.kind.Difference.{Difference}
 use Rattle.regress_differences.specs.declared.kind.DifferenceKind.{DifferenceKind}
-use Rattle.regress_differences.specs.declared.kind.DifferenceKind.TheVariants.{CaseClosure, StringSet, SameName}
+use Rattle.regress_differences.specs.declared.kind.DifferenceKind.TheVariants.{CaseClosure, StringSet, SameName, Grammar}
 
 -- the name of a kind
 abbrev pub name_of : DifferenceKind → List ℕ
 name_of CaseClosure = codes "case-closure"
 name_of StringSet = codes "string-set"
 name_of SameName = codes "same-name"
+name_of Grammar = codes "grammar"
 
--- the number of a kind, from 1 to 3
+-- the number of a kind, from 1 to 4
 abbrev pub number_of : DifferenceKind → ℕ
 number_of CaseClosure = 1
 number_of StringSet = 2
 number_of SameName = 3
+number_of Grammar = 4
 
 -- the text of a kind
 abbrev pub text_of : DifferenceKind → List ℕ
 text_of CaseClosure = codes "with the flag i other characters may match than in JavaScript: [k] without u also matches U+212A, and [\\W] with u also matches k"
 text_of StringSet = codes "the strings of a property such as \\p{RGI_Emoji} are tried in the order of the Unicode table, in JavaScript the longest first"
 text_of SameName = codes "a reference to several groups of one name tries each of them, and an unset group gives the empty string: (?:(?<a>x)|(?<a>y))\\k<a> matches y of yy, in JavaScript yy"
+text_of Grammar = codes "JavaScript parses the pattern otherwise or rejects it: without u \\u{61} is u, 61 times, and \\b* is a syntax error"
 
 -- ---- what is said of a difference
-
--- The characters that are case variants of others only with u: the upper case of each is not that of its simple case
--- folding.
-unfoldable pub apart : List ℕ
-apart =
-    0x17F ∷ 0x3F4 ∷ 0x1E9E ∷ 0x1F88 ∷ 0x1F89 ∷ 0x1F8A ∷ 0x1F8B ∷ 0x1F8C ∷ 0x1F8D ∷ 0x1F8E ∷ 0x1F8F ∷ 0x1F98 ∷ 0x1F99 ∷ 0x1F9A ∷ 0x1F9B ∷ 0x1F9C ∷ 0x1F9D ∷ 0x1F9E ∷ 0x1F9F ∷ 0x1FA8 ∷ 0x1FA9 ∷ 0x1FAA ∷ 0x1FAB ∷ 0x1FAC ∷ 0x1FAD ∷ 0x1FAE ∷ 0x1FAF ∷ 0x1FBC ∷ 0x1FCC ∷ 0x1FD3 ∷ 0x1FE3 ∷ 0x1FFC ∷ 0x2126 ∷ 0x212A ∷ 0x212B ∷ 0xFB05 ∷ []
 
 -- Some of these, the first two by their numbers: `U+1E9E, U+1F88 and 3 more`.
 abbrev pub listed : List ℕ → List ℕ
@@ -67,6 +68,16 @@ abbrev pub general_text : Flags → DifferenceKind → List ℕ
 general_text flags CaseClosure = case_text flags
 general_text flags StringSet = text_of StringSet
 general_text flags SameName = text_of SameName
+general_text flags Grammar = text_of Grammar
+
+-- the class escape at the start of the source, such as `\w`
+abbrev pub letter_at : Source → Option (CharacterClassType × Bool)
+letter_at [] = None
+letter_at (c ∷ t) = class_letter c
+
+abbrev pub class_escape_at : Source → Option (CharacterClassType × Bool)
+class_escape_at [] = None
+class_escape_at (c ∷ t) = if c == char "\\" then letter_at t else None
 
 abbrev pub is_escape : Source → Bool
 is_escape t = elim (class_escape_at t) [
@@ -79,6 +90,7 @@ abbrev pub is_of_members : Flags → Source → DifferenceKind → Bool
 is_of_members flags t CaseClosure = not flags.unicode_sets && not flags.unicode && not (is_escape t)
 is_of_members flags t StringSet = false
 is_of_members flags t SameName = false
+is_of_members flags t Grammar = false
 
 module _ (flags : Flags) (t : Source) (kind : DifferenceKind) where
   abbrev pub leaf_text : Leaf → List ℕ
@@ -86,18 +98,26 @@ module _ (flags : Flags) (t : Source) (kind : DifferenceKind) where
   leaf_text l = general_text flags kind
 
   -- the text about a difference of this kind, where `t` is the source from the start of its span on
-  abbrev pub text_at : Tree → List ℕ
-  text_at (leaf l) = leaf_text l
-  text_at u = general_text flags kind
+  abbrev pub text_at : Option Tree → List ℕ
+  text_at (Some (leaf l)) = leaf_text l
+  text_at other = general_text flags kind
 
 -- the flags of the pattern, with i if it may be matched with i somewhere, and its source
 module _ (flags : Flags) (source : Source) where
-  abbrev pub said_of : Tree → Difference → Said
-  said_of t d = (d.span, name_of d.kind, text_at flags (drop d.span.start source) d.kind t)
+  -- what is said of a part
+  abbrev pub said_of : Part → Said
+  said_of (node, span) =
+      let kind = kind_of flags (drop span.start source) node in
+      (span, name_of kind, text_at flags (drop span.start source) kind node)
 
-  -- what is said of a node with this span
-  abbrev pub said_at : Tree × Span → Option Said
-  said_at (t, span) = option_map (said_of t) (reported_at flags source (t, span))
+-- ---- what is reported of a whole pattern
 
-  abbrev pub all_said : List (Tree × Span) → List Said
-  all_said = filter_map said_at
+module _ (setting : Setting) (source : Source) (t : Tree) (nodes : List (Tree × Span)) where
+  -- the differences of the parts that are reported
+  abbrev pub AreDifferences : List Difference → Type 0
+  AreDifferences found =
+      (parts : List Part) × AreParts setting source t nodes parts × (found ≡ map (difference_of (widest_flags setting.flags source) source) parts)
+
+  -- what is said of them
+  abbrev pub AreSaid : List Said → Type 0
+  AreSaid found = (parts : List Part) × AreParts setting source t nodes parts × (found ≡ map (said_of (widest_flags setting.flags source) source) parts)

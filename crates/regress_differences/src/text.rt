@@ -1,31 +1,61 @@
 //! What is said of a difference.
-ghost use Rattle.std.specs.Prelude.{◌≡◌, ◌++◌, IfOk, codes, string_bytes};
+ghost use Rattle.std.specs.Borrow.{Bor};
+ghost use Rattle.std.specs.Prelude.{◌≡◌, ◌++◌, IfOk, codes, option_map, string_bytes};
 ghost use Rattle.std.specs.Fmt.{decimal};
 ghost use Rattle.std.specs.List.{filter};
 ghost use Rattle.regress_base.specs.Intervals.{is_member};
 ghost use Rattle.regress_tree.specs.Display.{code_point};
 ghost use Rattle.regress_tree.specs.Tree.{tree};
-ghost use Rattle.regress_differences.specs.Kinds.{apart, case_text, general_text, is_escape, is_of_members, listed, members_text, text_at};
+ghost use Rattle.regress_tree.specs.declared.ir.node.Node.{Node};
+ghost use Rattle.regress_spans.specs.Remarks.{said};
+ghost use Rattle.regress_differences.specs.Kinds.{case_text, class_escape_at, general_text, is_escape, is_of_members, listed, members_text, said_of, text_at};
+ghost use Rattle.regress_differences.specs.Views.{part_at};
 
-use crate::finder::class_escape_at;
-use crate::kind::DifferenceKind;
+use crate::kind::{Difference, DifferenceKind};
+use crate::parts::{Part, apart, difference_of};
+use regress_base::charclasses::CharacterClassType;
 use regress_base::codepointset::CodePointSet;
 use regress_base::types::Flags;
+use regress_classes::class_escape::class_letter;
+use regress_spans::Remark;
 use regress_tree::ir::Node;
 use std::alloc::{AllocError, Global};
 
-/// Returns a sentence about a node that is reported. `source` is the source from the start of its span on.
-pub(crate) fn text_at(
+/// Returns what is said of a part, given the flags and the source of the pattern. The flags have i if it may be in force
+/// somewhere in the pattern.
+///
+/// # Errors
+/// Returns [`AllocError`] if an allocation fails.
+pub(crate) fn remark_of(
+    alloc: Global,
+    flags: Flags,
+    pattern: &[u32],
+    part: Part<'_>,
+) -> Result<Remark, AllocError>
+    ensures { IfOk result (λ remark. said remark ≡ said_of flags pattern.now (part_at part.entry)) }
+{
+    let Difference { kind, span } = difference_of(flags, pattern, part);
+    let source = pattern.get(span.start..).unwrap_or(&[]);
+    let text = text_at(alloc, flags, source, part.node, kind)?;
+    Ok(Remark {
+        span,
+        name: kind.name(),
+        text,
+    })
+}
+
+/// Returns a sentence about a part. `source` is the source from the start of its span on.
+fn text_at(
     alloc: Global,
     flags: Flags,
     source: &[u32],
-    node: &Node,
+    node: Option<&Node>,
     kind: DifferenceKind,
 ) -> Result<String, AllocError>
-    ensures { IfOk result (λ text. string_bytes text ≡ text_at flags source.now kind (tree node.now)) }
+    ensures { IfOk result (λ text. string_bytes text ≡ text_at flags source.now kind (option_map (λ (n : Bor Node). tree n.now) node.entry)) }
 {
     match node {
-        Node::Bracket(contents) if is_of_members(flags, source, kind) => members_text(
+        Some(Node::Bracket(contents)) if is_of_members(flags, source, kind) => members_text(
             alloc,
             &contents.cps,
         ),
@@ -39,7 +69,7 @@ fn is_of_members(flags: Flags, source: &[u32], kind: DifferenceKind) -> bool
 {
     match kind {
         DifferenceKind::CaseClosure => !flags.unicode_sets && !flags.unicode && !is_escape(source),
-        DifferenceKind::StringSet | DifferenceKind::SameName => false,
+        DifferenceKind::StringSet | DifferenceKind::SameName | DifferenceKind::Grammar => false,
     }
 }
 
@@ -53,13 +83,25 @@ fn is_escape(source: &[u32]) -> bool
     }
 }
 
+/// Returns the class escape at the start of a source.
+fn class_escape_at(source: &[u32]) -> Option<(CharacterClassType, bool)>
+    ensures { result ≡ class_escape_at source.now }
+{
+    match source {
+        [backslash, letter, ..] if *backslash == u32::from('\\') => class_letter(*letter),
+        _ => None,
+    }
+}
+
 /// Returns a sentence about all differences of a kind in patterns with these flags.
 fn general_text(flags: Flags, kind: DifferenceKind) -> &'static str
     ensures { result.now ≡ general_text flags kind }
 {
     match kind {
         DifferenceKind::CaseClosure => case_text(flags),
-        DifferenceKind::StringSet | DifferenceKind::SameName => kind.text(),
+        DifferenceKind::StringSet | DifferenceKind::SameName | DifferenceKind::Grammar => {
+            kind.text()
+        },
     }
 }
 
@@ -135,16 +177,4 @@ fn number(alloc: Global, c: u32) -> Result<String, AllocError>
     ensures { IfOk result (λ text. string_bytes text ≡ code_point c) }
 {
     Ok(format!(in alloc; "U+{c:04X}")?)
-}
-
-/// Returns the characters that are case variants of others only with u.
-fn apart() -> [u32; 36]
-    ensures { result ≡ apart }
-{
-    [
-        0x17F, 0x3F4, 0x1E9E, 0x1F88, 0x1F89, 0x1F8A, 0x1F8B, 0x1F8C, 0x1F8D, 0x1F8E, 0x1F8F,
-        0x1F98, 0x1F99, 0x1F9A, 0x1F9B, 0x1F9C, 0x1F9D, 0x1F9E, 0x1F9F, 0x1FA8, 0x1FA9, 0x1FAA,
-        0x1FAB, 0x1FAC, 0x1FAD, 0x1FAE, 0x1FAF, 0x1FBC, 0x1FCC, 0x1FD3, 0x1FE3, 0x1FFC, 0x2126,
-        0x212A, 0x212B, 0xFB05,
-    ]
 }

@@ -1,7 +1,7 @@
 //! Calls of `differences`. The patterns that differ, and how, are those of docs/differences.md; what is expected of the
 //! others is from ECMA-262.
 
-use regress_differences::DifferenceKind::{CaseClosure, SameName, StringSet};
+use regress_differences::DifferenceKind::{CaseClosure, Grammar, SameName, StringSet};
 use regress_differences::{Difference, DifferenceKind, PlacedFault, differences};
 use regress_front::parse::Span;
 use regress_front::types::Flags;
@@ -54,11 +54,20 @@ fn constructs_that_differ_are_reported(rt: HostRuntime) -> Result<(), Fail> {
         ("\\P{Lu}", "iv", CaseClosure, 0, 6),
         ("[[^A]]", "iv", CaseClosure, 0, 6),
         ("[[A-Z]&&[a-z]]", "iv", CaseClosure, 0, 14),
-        ("[\\q{}]", "iv", CaseClosure, 0, 6),
         ("(?i:[k])", "", CaseClosure, 4, 7),
-        ("[\\q{ab}]", "iv", CaseClosure, 0, 8),
-        ("x\\p{RGI_Emoji}", "v", StringSet, 1, 14),
+        // the other class is the same with and without u
+        ("[j][k]", "i", CaseClosure, 3, 6),
+        ("[\\s\\S][\\W_]", "iu", CaseClosure, 6, 11),
         ("(?:(?<a>x)|(?<a>y))\\k<a>", "", SameName, 19, 24),
+        ("(?:(?<a>x)|(?<a>y)|(?<a>z))\\k<a>.", "", SameName, 27, 32),
+        // parsed otherwise
+        ("x\\u{61}", "", Grammar, 1, 7),
+        ("x[\u{1F600}]", "", Grammar, 1, 4),
+        ("x[\u{1F600}]", "i", Grammar, 1, 4),
+        // rejected, at the place of the syntax error
+        ("\\b*", "", Grammar, 2, 3),
+        ("(?<a>x)[\\k]", "", Grammar, 8, 9),
+        ("[\u{1F600}-\u{1F60E}]", "", Grammar, 1, 2),
     ] {
         let found = reported(alloc, pattern, flags_of(letters), &tables)?;
         assert!(rt; is_only(&found, *kind, *start, *end));
@@ -69,7 +78,7 @@ fn constructs_that_differ_are_reported(rt: HostRuntime) -> Result<(), Fail> {
 #[test]
 fn constructs_that_agree_are_not_reported(rt: HostRuntime) -> Result<(), Fail> {
     let alloc = rt.alloc();
-    let tables = Tables::small(alloc)?;
+    let tables = unicode_tables(alloc)?;
     for (pattern, letters) in &[
         ("", "i"),
         ("^k|s*?$", "i"),
@@ -85,6 +94,14 @@ fn constructs_that_agree_are_not_reported(rt: HostRuntime) -> Result<(), Fail> {
         ("(?<a>x)\\k<a>\\1", "i"),
         ("(.)(.)(?:\\1|\\2)", "i"),
         ("[a\\q{}\\q{bc}]", "v"),
+        // with i and u: no `\W`, or what it lacks is written
+        ("[\\s\\S][\\D][^\\S\\n][\\w\\W][\\Wks]", "iu"),
+        // with i and v: unions and ranges
+        ("[a-z0-9_][^\"k][\\w\\s][\\q{ab|}][[k-s]x]", "iv"),
+        // the table has the longest strings first
+        ("\\p{RGI_Emoji}", "v"),
+        // with u, the escapes and the pairs of the other test
+        ("\\u{61}[\u{1F600}-\u{1F60E}]", "u"),
         // alternatives without terms
         ("a|()", "iv"),
     ] {
@@ -104,6 +121,7 @@ fn kinds_have_a_name_and_a_text(rt: HostRuntime) -> Result<(), Fail> {
         ),
         (StringSet, "string-set", "\\p{RGI_Emoji}"),
         (SameName, "same-name", "(?:(?<a>x)|(?<a>y))\\k<a>"),
+        (Grammar, "grammar", "\\u{61} is u, 61 times"),
     ] {
         expect_eq!(rt; kind.name(), *name);
         assert!(rt; kind.text().contains(*example));

@@ -406,10 +406,10 @@ fn the_nodes_of_a_pattern_are_bounded(rt: HostRuntime) -> Result<(), Fail> {
 #[test]
 fn the_example_of_differences_holds(rt: HostRuntime) -> Result<(), Fail> {
     let alloc = rt.alloc();
-    // a construct differs
+    // one of two classes differs
     {
         let tables = Tables::small(alloc)?;
-        let points = code_points(alloc, "a[k]")?;
+        let points = code_points(alloc, "a[k][j]")?;
         let flags = Flags {
             icase: true,
             ..Flags::default()

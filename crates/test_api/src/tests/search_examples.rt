@@ -7,7 +7,7 @@ use regress_front::types::Flags;
 use regress_front::unicode::Tables;
 use regress_front::util::code_points;
 use regress_leaves::known::Known;
-use regress_match::{Limits, Matcher, Outcome};
+use regress_match::{Cache, Limits, Matcher, Outcome};
 use regress_tables::Linear;
 use std::alloc::Global;
 use std::sync::Arc;
@@ -112,5 +112,23 @@ fn a_pattern_matches_at_an_offset(rt: HostRuntime) -> Result<(), Fail> {
     }
     let found = matcher.match_at(alloc, "abb", 0, 1000)?;
     assert!(rt; matches!(&found.outcome, Outcome::NoMatch));
+    Ok(())
+}
+
+#[test]
+fn a_cache_serves_several_searches(rt: HostRuntime) -> Result<(), Fail> {
+    let alloc = rt.alloc();
+    let matcher = matcher_of(alloc, "(a+)b")?;
+    let mut cache = Cache::new(alloc);
+    for text in ["xab", "aab"] {
+        let found = matcher.find_with(alloc, &mut cache, text, 0, 0)?;
+        match found.outcome {
+            Outcome::Matched(found) => {
+                expect_eq!(rt; found.end(), 3);
+                cache.recycle(found);
+            }
+            _ => assert!(rt; false, "it matches"),
+        }
+    }
     Ok(())
 }
