@@ -3,6 +3,7 @@
 use regress_base::types::Quantifier;
 use regress_tree::ir::Node;
 use regress_tree::ir::held::body;
+use regress_words::has_character;
 use std::alloc::{AllocError, Global};
 
 /// How many characters are matched.
@@ -68,7 +69,7 @@ struct Group<'a> {
 /// The groups before a node.
 type Groups<'a> = Vec<Group<'a>>;
 
-/// Returns how many characters a tree matches, or `None` if it never matches since a set in it is empty.
+/// Returns how many characters a tree matches, or `None` if it never matches since a set in it has no character.
 ///
 /// # Errors
 /// Returns [`AllocError`] if an allocation fails.
@@ -224,13 +225,14 @@ fn length_around<'a>(
 /// Returns the length of a node without a body.
 fn length_of_leaf(node: &Node, groups: &Groups<'_>) -> Option<Length> {
     match node {
-        Node::Char { .. } | Node::MatchAny | Node::MatchAnyExceptLineTerminator => {
-            Some(Length::exactly(1))
+        Node::Char { .. } | Node::ByteSet(_) | Node::CharSet(_) | Node::Bracket(_) => {
+            if has_character(node) {
+                Some(Length::exactly(1))
+            } else {
+                None
+            }
         }
-        Node::ByteSet(bytes) if !bytes.is_empty() => Some(Length::exactly(1)),
-        Node::CharSet(all) if !all.is_empty() => Some(Length::exactly(1)),
-        Node::Bracket(contents) if !contents.is_empty() => Some(Length::exactly(1)),
-        Node::ByteSet(_) | Node::CharSet(_) | Node::Bracket(_) => None,
+        Node::MatchAny | Node::MatchAnyExceptLineTerminator => Some(Length::exactly(1)),
         Node::ByteSequence(bytes) => Some(Length {
             min: bytes.len().min(1),
             max: Some(bytes.len()),

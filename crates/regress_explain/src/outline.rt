@@ -5,7 +5,7 @@ use regress_labels::{Character, group_names};
 use regress_parse::{Span, SpannedRegex};
 use regress_tree::ir::Node;
 use regress_tree::ir::held::body;
-use regress_words::{Source, is_one_atom, literal, scanned, words};
+use regress_words::{Source, is_atom_after, is_one_atom, literal, scanned, words};
 use std::alloc::{AllocError, Global};
 use std::{mem, slice};
 
@@ -265,7 +265,7 @@ fn alternative(
 }
 
 /// Adds the alternatives of an alternation. It iterates over right sides: there may be as many nested ones as
-/// alternatives.
+/// alternatives. The last alternative may be written as one atom that is an alternation itself.
 #[cycle(add)]
 fn add_alternatives(
     node: &Node,
@@ -279,7 +279,9 @@ fn add_alternatives(
     all.push((parts, walker.last))?;
     let mut inner = 0_usize;
     let mut rest: &Node = right;
-    while let Node::Alt(left, right) = rest {
+    while let Node::Alt(left, right) = rest
+        && !is_atom_after(walker.last, left, walker.spans.as_slice())
+    {
         let parts = sequence(left, walker)?;
         all.push((parts, walker.last))?;
         inner = inner.saturating_add(1);

@@ -26,9 +26,9 @@ pub(crate) fn literal(text: String, either_case: bool) -> Diagram {
 }
 
 /// Returns a box for a set; an empty set has a box for what never matches, not for the empty text.
-pub(crate) fn set_box(alloc: Global, label: Option<Label>) -> Diagram {
+pub(crate) fn set_box(alloc: Global, kind: BoxKind, label: Option<Label>) -> Diagram {
     match label {
-        Some(label) => boxed(BoxKind::Set, label),
+        Some(label) => boxed(kind, label),
         None => boxed(BoxKind::Never, Label::words(alloc, "no character")),
     }
 }

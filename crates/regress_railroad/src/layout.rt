@@ -11,7 +11,7 @@ use regress_labels::{
 };
 use regress_parse::Span;
 use regress_tree::ir::Node;
-use regress_words::{is_as_written, is_one_atom, literal};
+use regress_words::{has_character, is_as_written, is_atom_after, is_one_atom, literal};
 use std::alloc::{AllocError, Global};
 use std::{mem, slice};
 
@@ -161,18 +161,21 @@ fn repeated(
     }
 }
 
-/// Lays out alternatives. It iterates over right sides: there may be as many nested ones as alternatives.
+/// Lays out alternatives. It iterates over right sides: there may be as many nested ones as alternatives. The last
+/// alternative may be written as one atom that is an alternation itself.
 #[cycle(lay_out)]
 fn lay_out_tracks(node: &Node, setting: &mut Setting<'_>) -> Result<Diagram, AllocError> {
     let Node::Alt(left, right) = node else {
         return Ok(Diagram::line());
     };
     let mut all = Vec::new(setting.alloc);
+    let mut before = next_span(setting).unwrap_or(NO_SPAN);
     all.push(lay_out(left, setting)?)?;
     let mut rest: &Node = right;
     while let Node::Alt(left, right) = rest
-        && !is_reference_by_name(rest, setting)
+        && !is_atom_after(before, left, setting.spans.as_slice())
     {
+        before = next_span(setting).unwrap_or(NO_SPAN);
         all.push(lay_out(left, setting)?)?;
         rest = right;
     }
@@ -239,7 +242,8 @@ fn written_box(node: &Node, setting: &mut Setting<'_>) -> Result<Diagram, AllocE
         skip_spans(2, setting);
         rest = right;
     }
-    Ok(property_box(text.unwrap_or(String::new(setting.alloc)), ""))
+    let text = text.unwrap_or(String::new(setting.alloc));
+    Ok(written_set(BoxKind::Set, text, ""))
 }
 
 /// The maximum number of groups that a reference by name lists.
@@ -359,7 +363,7 @@ fn leaf(node: &Node, setting: &Setting<'_>) -> Result<Option<Piece>, AllocError>
             icase,
         } => {
             let label = strings_label(alloc, alternatives, *icase)?;
-            Piece::Part(set_or_source(label, setting)?)
+            Piece::Part(set_or_source(BoxKind::Set, label, setting)?)
         }
         Node::BackRef { group, icase } => Piece::Part(reference(*group, *icase, setting)?),
         Node::Goal => Piece::Part(Diagram::end()),
@@ -426,17 +430,22 @@ fn shown_source(width: u32, setting: &Setting<'_>) -> Result<Option<String>, All
     })
 }
 
-fn property_box(text: String, after: &'static str) -> Diagram {
+/// Returns a box for a set that is shown as it is written.
+fn written_set(kind: BoxKind, text: String, after: &'static str) -> Diagram {
     let front = "";
-    boxed(BoxKind::Set, Label { front, text, after })
+    boxed(kind, Label { front, text, after })
 }
 
 /// Returns the box of a set: with its source text, or with a list of its members.
-fn set_or_source(label: Option<Label>, setting: &Setting<'_>) -> Result<Diagram, AllocError> {
+fn set_or_source(
+    kind: BoxKind,
+    label: Option<Label>,
+    setting: &Setting<'_>,
+) -> Result<Diagram, AllocError> {
     let width = label.as_ref().map_or(0, |label| label.columns());
     match shown_source(width, setting)? {
-        Some(text) => Ok(property_box(text, either_case(setting))),
-        None => Ok(set_box(setting.alloc, label)),
+        Some(text) => Ok(written_set(kind, text, either_case(setting))),
+        None => Ok(set_box(setting.alloc, kind, label)),
     }
 }
 
@@ -461,10 +470,15 @@ fn set(node: &Node, setting: &Setting<'_>) -> Result<Option<Piece>, AllocError> 
         return Ok(None);
     };
     let label = set_label(setting.alloc, negated, set)?;
-    let part = if is_as_written(node, span, setting.source.written)? {
-        set_or_source(label, setting)?
+    let kind = if has_character(node) {
+        BoxKind::Set
     } else {
-        set_box(setting.alloc, label)
+        BoxKind::Never
+    };
+    let part = if is_as_written(node, span, setting.source.written)? {
+        set_or_source(kind, label, setting)?
+    } else {
+        set_box(setting.alloc, kind, label)
     };
     Ok(Some(Piece::Part(part)))
 }

@@ -82,6 +82,16 @@ pub fn is_one_atom(node: &Node, span: Span, source: Source<'_>) -> Result<bool, 
     }
 }
 
+/// Returns whether alternatives that follow others are written as one atom, such as a class with strings: the first of
+/// them, `left`, and the node after it have the same span, and it is not in the atom of the span `before`, that of a node
+/// of the alternative before. `spans` are those of `left` and the nodes after it.
+pub fn is_atom_after(before: Span, left: &Node, spans: &[Span]) -> bool {
+    match spans {
+        [first, second, ..] => first == second && *first != before && !has_parts(left),
+        _ => false,
+    }
+}
+
 /// Returns whether other nodes are parts of a node.
 fn has_parts(node: &Node) -> bool {
     matches!(

@@ -3,6 +3,8 @@
 use crate::characters::is_cased;
 use crate::escape::character_at;
 use crate::member::{Member, Operator, class_of};
+use crate::texts::shown;
+use regress_base::util::code_points;
 use std::alloc::{AllocError, Global};
 
 /// What a class matches.
@@ -191,7 +193,8 @@ impl Reader<'_> {
         };
         self.is_cased = true;
         for text in all.split('|') {
-            let text = format!(in self.alloc; "\"{text}\"")?;
+            let shown = shown(self.alloc, &code_points(self.alloc, text)?)?;
+            let text = format!(in self.alloc; "\"{shown}\"")?;
             let member = Member::nouns(self.alloc, &text, &text)?;
             self.add(member)?;
         }

@@ -14,10 +14,10 @@ mod source;
 mod texts;
 mod units;
 
-pub use atoms::{is_one_atom, literal};
+pub use atoms::{is_atom_after, is_one_atom, literal};
 pub use characters::{character_words, name_of_character};
 pub use nodes::words;
 pub use scan::{Modifier, Scan, scanned};
 pub use source::Source;
 pub use texts::{TextEnd, shown, text_words};
-pub use units::is_as_written;
+pub use units::{has_character, is_as_written};

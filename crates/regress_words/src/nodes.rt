@@ -4,7 +4,7 @@ use crate::atoms::{is_reference_by_name, literal, written_set};
 use crate::characters::{case_words, character_words};
 use crate::counts::count_words;
 use crate::source::Source;
-use crate::units::is_as_written;
+use crate::units::{has_character, is_as_written};
 use regress_base::types::AnchorType;
 use regress_labels::{name_of, set_words};
 use regress_parse::Span;
@@ -143,8 +143,16 @@ fn set_or_character(node: &Node, span: Span, source: Source<'_>) -> Result<Strin
         return Ok(words);
     }
     let members = set_words(alloc, node)?.unwrap_or(String::new(alloc));
-    Ok(match members.as_str() {
-        "any character" | "no character" => members,
-        _ => ["a character: ", &members].concat(alloc)?,
-    })
+    if matches!(members.as_str(), "any character" | "no character") || is_strings(node) {
+        return Ok(members);
+    }
+    if has_character(node) {
+        ["a character: ", &members].concat(alloc)
+    } else {
+        ["a surrogate: ", &members, ", which no text contains"].concat(alloc)
+    }
+}
+
+fn is_strings(node: &Node) -> bool {
+    matches!(node, Node::StringSet { .. })
 }

@@ -1,6 +1,8 @@
 //! Classes that are read as code units.
 
 use crate::source::Source;
+use regress_base::codepointset::{CODE_POINT_MAX, Interval};
+use regress_base::types::BracketContents;
 use regress_labels::set_of;
 use regress_parse::Span;
 use regress_tree::ir::Node;
@@ -32,6 +34,41 @@ pub fn is_as_written(node: &Node, span: Span, source: Source<'_>) -> Result<bool
     let letters = [0x75_u32, 0x7B, 0x7D];
     let are_letters = letters.iter().all(|c| set.contains(*c) != is_complement);
     Ok(!are_units && !(has_braces && are_letters))
+}
+
+/// Returns whether a node that is a character or a set matches a character: it has one that is no surrogate, since no text
+/// contains these. `true` for any other node.
+pub fn has_character(node: &Node) -> bool {
+    match node {
+        Node::Char { c } => is_character(*c),
+        Node::ByteSet(bytes) => !bytes.is_empty(),
+        Node::CharSet(all) => all.iter().any(|c| is_character(*c)),
+        Node::Bracket(contents) => is_any_accepted(contents),
+        _ => true,
+    }
+}
+
+fn is_character(c: u32) -> bool {
+    char::from_u32(c).is_some()
+}
+
+/// Returns whether a bracket accepts a character that is no surrogate.
+fn is_any_accepted(contents: &BracketContents) -> bool {
+    let intervals = contents.cps.intervals();
+    if contents.invert {
+        !has_range(intervals, 0, 0xD7FF) || !has_range(intervals, 0xE000, CODE_POINT_MAX)
+    } else {
+        intervals
+            .iter()
+            .any(|one| one.first() < 0xD800 || one.last() > 0xDFFF)
+    }
+}
+
+/// Returns whether one of the intervals contains a range.
+fn has_range(intervals: &[Interval], first: u32, last: u32) -> bool {
+    intervals
+        .iter()
+        .any(|one| one.first() <= first && last <= one.last())
 }
 
 /// Returns whether a text contains an escape such as `\u{61}`.
