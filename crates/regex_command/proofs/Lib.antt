@@ -1,4 +1,5 @@
 pub mod BufferedLemmas
+pub mod CompiledLemmas
 pub mod CostLemmas
 pub mod ExplainLemmas
 pub mod LintLemmas

@@ -10,17 +10,20 @@ use Rattle.regress_arguments.specs.Output.{Took}
 use Rattle.regress_base.specs.declared.types.Flags.{Flags}
 use Rattle.regress_base.specs.Table.{Table}
 use Rattle.regress_front.specs.declared.parse.Dialect.{Dialect}
-use Rattle.regress_parse.specs.Accepted.{IsAcceptedIn}
+use Rattle.regress_parse.specs.Accepted.{IsAcceptedIn, OneIsDerivedIn}
+use Rattle.regress_parse.specs.Spans.{spans_in}
+use Rattle.regress_parse.specs.TreeOf.{tree_of}
 use Rattle.regress_parse.specs.declared.span.Span.{Span}
 use Rattle.regress_ucd.specs.UnicodeTable.{unicode_table}
 use Rattle.regress_spans.specs.Paired.{postorder, spanned_in}
 use Rattle.regress_spans.specs.Remarks.{Said, said, said_by}
 use Rattle.regress_spans.specs.declared.remark.Remark.{Remark}
 use Rattle.regress_syntax.specs.Syntax.{Pattern}
+use Rattle.regress_tree.specs.Steps.{Setting}
 use Rattle.regress_tree.specs.Tree.{Tree}
 use Rattle.regress_warnings.specs.Warned as warnings
 use Rattle.regex_command.specs.Remarks.{AreRemarks}
-use Rattle.regex_command.specs.Patterns.{differences_in, HasDifferences, HasWarnings, IsListed, IsListedNext, IsReport, MayFailToLint, line_of}
+use Rattle.regex_command.specs.Patterns.{AreDifferencesIn, HasDifferences, HasWarnings, IsListed, IsListedNext, IsReport, MayFailToLint, line_of}
 use Rattle.regex_command.specs.Size.{IsSizeWarning, said_of_size}
 use Rattle.regex_command.specs.declared.size.SizeWarning.{SizeWarning}
 use Rattle.regress.specs.Unicode.{unicode_setting}
@@ -70,23 +73,31 @@ all_listed remarks i first bytes all steps =
     subst (λ (some : List Remark). FoldsTo IsListedNext first (map line_of (said_by some)) bytes) (take_all i remarks all) steps
 
 module _ (dialect : Dialect) (flags : Flags) (points text : List ℕ) (table : Table) (characters : points ≡ chars text) (same : table ≡ unicode_table) where
+  abbrev under_table : Flags → Setting
+  under_table f = record { flags = f; table = table }
+
   -- the remarks on the pattern, and that on its size
   pub reports : (before remarks : List Said) (parsed : Flags) (t : Tree) (spans : List Span) (r : Result Bool Failure) (old new : Option (List ℕ)) →
-      AreRemarks dialect points parsed t spans before → parsed ≡ flags →
-      (p : Pattern) × (accepted : IsAcceptedIn dialect (record { flags = flags; table = table }) points p)
-      × (zip (postorder t) spans ≡ spanned_in dialect (record { flags = flags; table = table }) points p accepted.derived) →
+      AreRemarks dialect (under_table parsed) points t spans before → parsed ≡ flags → OneIsDerivedIn dialect (under_table flags) points →
+      (p : Pattern) × (accepted : IsAcceptedIn dialect (under_table flags) points p) × (t ≡ tree_of table p)
+      × (spans ≡ spans_in dialect (under_table flags) points p accepted.derived) →
+      (p : Pattern) × (accepted : IsAcceptedIn dialect (under_table flags) points p)
+      × (zip (postorder t) spans ≡ spanned_in dialect (under_table flags) points p accepted.derived) →
       (n : ℕ) → n ≡ length points →
       (size : Option SizeWarning) × IsSizeWarning dialect (unicode_setting flags) text size × (remarks ≡ before ++ said_of_size n size) →
       IfOk r (λ _. Took old new (IsListed remarks)) → IfOk r (λ clean. clean ≡ (length remarks == 0)) →
       IfOk r (λ clean. Took old new (IsReport dialect clean (unicode_setting flags) text))
-  reports before remarks parsed t spans (Ok clean) old new are same_flags (p, accepted, paired) n count (size, sized, is) (bytes, listed, appends) is_clean =
-      let nodes = spanned_in dialect (record { flags = flags; table = table }) points p accepted.derived in
-      let found = differences_in dialect points flags nodes in
+  reports before remarks parsed t spans (Ok clean) old new (found, differ, are) same_flags only (q, derived, is_tree, placed) (p, accepted, paired) n count (size, sized, is)
+      (bytes, listed, appends) is_clean =
+      let nodes = spanned_in dialect (under_table flags) points p accepted.derived in
       let warned = warnings.all_said flags.unicode_sets points nodes in
+      let of_pattern : t ≡ tree_of table p = is_tree ∙ ap (tree_of table) (only q p derived.derived accepted.derived) in
+      let differs : AreDifferencesIn dialect (under_table flags) points (tree_of table p) nodes found =
+      subst (λ (u : Tree). AreDifferencesIn dialect (under_table flags) points u nodes found) of_pattern
+      (subst (λ (xs : List (Tree × Span)). AreDifferencesIn dialect (under_table flags) points t xs found) paired
+      (subst (λ (f : Flags). AreDifferencesIn dialect (under_table f) points t (zip (postorder t) spans) found) same_flags differ)) in
       let first : before ≡ found ++ warned =
-      are
-      ∙ ap₂ (λ (f : Flags) (xs : List (Tree × Span)).
-      differences_in dialect points f xs ++ warnings.all_said f.unicode_sets points xs) same_flags paired in
+      are ∙ ap₂ (λ (f : Flags) (xs : List (Tree × Span)). found ++ warnings.all_said f.unicode_sets points xs) same_flags paired in
       let all : remarks ≡ found ++ warned ++ said_of_size (length (chars text)) size =
       is ∙ ap₂ (λ (xs : List Said) (n : ℕ). xs ++ said_of_size n size) first (count ∙ ap length characters) in (
         bytes,
@@ -95,7 +106,7 @@ module _ (dialect : Dialect) (flags : Flags) (points text : List ℕ) (table : T
           warned = warned;
           size = size;
           differ = under_unicode flags points (chars text) table characters same
-              (λ setting source. HasDifferences dialect setting source found) (p, accepted, refl);
+              (λ setting source. HasDifferences dialect setting source found) (p, accepted, differs);
           warns = under_unicode flags points (chars text) table characters same
               (λ setting source. HasWarnings dialect setting source warned) (p, accepted, refl);
           sized = sized;
@@ -104,7 +115,7 @@ module _ (dialect : Dialect) (flags : Flags) (points text : List ℕ) (table : T
         },
         appends,
       )
-  reports before remarks parsed t spans (Err failure) old new are same_flags accepted n count sized took is_clean = tt
+  reports before remarks parsed t spans (Err failure) old new are same_flags only spanned accepted n count sized took is_clean = tt
 
 -- A failure that may occur for a pattern under the setting may do so over all of Unicode.
 pub lint_under_unicode : (dialect : Dialect) (flags : Flags) (points source : List ℕ) (table : Table) → points ≡ source → table ≡ unicode_table →

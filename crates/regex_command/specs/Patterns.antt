@@ -7,8 +7,6 @@ use Rattle.regex_options.specs.Request.{Form, lines, page}
 use Rattle.regress.specs.Compiled.{IsCompiledIn, outcomes_of}
 use Rattle.regress.specs.Failures.{IsTooLarge}
 use Rattle.regress.specs.declared.pattern.Regex.{Regex}
-use Rattle.regress_base.specs.declared.types.Flags.{Flags}
-use Rattle.regress_differences.specs.CaseMode.{widest_flags}
 use Rattle.regress_differences.specs.Kinds as differences
 use Rattle.regress_display.specs.Request as display
 use Rattle.regress_display.specs.Fault.{IsFaultOutput}
@@ -22,6 +20,7 @@ use Rattle.regress_found.specs.Repeated.{AreAllMatches}
 use Rattle.regress_found.specs.declared.found.Match.{Match}
 use Rattle.regress_parse.specs.Accepted.{IsAcceptedIn}
 use Rattle.regress_parse.specs.Rejected.{NoneIsAcceptedIn}
+use Rattle.regress_parse.specs.TreeOf.{tree_of}
 use Rattle.regress_front.specs.declared.parse.Dialect.{Dialect}
 use Rattle.regress_front.specs.declared.parse.Dialect.TheVariants.{Regress, Ecma}
 use Rattle.regress_spans.specs.Paired.{spanned_in}
@@ -86,10 +85,10 @@ IsListedNext before line after = (shown : List ℕ) × (after ≡ before ++ (lin
 abbrev pub IsListed : List Said → List ℕ → Type 0
 IsListed remarks bytes = FoldsTo IsListedNext [] (map line_of remarks) bytes
 
--- What is said of differences from ECMA-262 in these nodes, which have spans. In the dialect `Ecma` that is nothing.
-abbrev pub differences_in : Dialect → (source : List ℕ) → Flags → List (Tree × Span) → List Said
-differences_in Regress source flags nodes = differences.all_said (widest_flags flags source) source nodes
-differences_in Ecma source flags nodes = []
+-- What is said of where a tree whose nodes have these spans differs from ECMA-262. In the dialect `Ecma` that is nothing.
+abbrev pub AreDifferencesIn : Dialect → Setting → (source : List ℕ) → Tree → List (Tree × Span) → List Said → Type 0
+AreDifferencesIn Regress setting source t nodes found = differences.AreSaid setting source t nodes found
+AreDifferencesIn Ecma setting source t nodes found = found ≡ []
 
 -- the bytes that a match spans
 abbrev pub range_of : Match → Range ℕ
@@ -110,7 +109,7 @@ module _ (dialect : Dialect) where
   -- what is said of the differences of an accepted pattern from ECMA-262
   abbrev pub HasDifferences : Setting → (source : List ℕ) → List Said → Type 0
   HasDifferences setting source found = (p : Pattern) × (accepted : IsAcceptedIn dialect setting source p)
-      × (found ≡ differences_in dialect source setting.flags (spanned_in dialect setting source p accepted.derived))
+      × AreDifferencesIn dialect setting source (tree_of setting.table p) (spanned_in dialect setting source p accepted.derived) found
 
   -- what is said of what is warned of in an accepted pattern
   abbrev pub HasWarnings : Setting → (source : List ℕ) → List Said → Type 0

@@ -1,5 +1,5 @@
 //! `lint`.
-ghost use Rattle.std.specs.Prelude.{◌≡◌, ◌==◌, ◌++◌, ℕ, List, IfOk, IfErr, OnOk, Option, chars, length, string_bytes, map, zip};
+ghost use Rattle.std.specs.Prelude.{◌≡◌, ◌==◌, ◌++◌, ℕ, List, All, IfOk, IfErr, OnOk, Option, chars, length, string_bytes, map, zip};
 ghost use Rattle.std.specs.List.{FoldsTo};
 ghost use Rattle.regress_arguments.specs.Output.{Took};
 ghost use Rattle.regress_spans.specs.Paired.{postorder};
@@ -7,9 +7,11 @@ ghost use Rattle.regress_spans.specs.Remarks.{said, said_by};
 ghost use Rattle.regress_tree.specs.Tree.{tree};
 ghost use Rattle.regex_lines.specs.Ending.{IsLate, OrOutput, setting_in};
 ghost use Rattle.regress_parse.specs.Settled.{IsFaultIn};
+ghost use Rattle.regress_front.specs.Meaning.{setting_of};
+ghost use Rattle.regress_front.specs.Source.{IsCodePoint};
 ghost use Rattle.regress_front.specs.declared.parse.Dialect.{Dialect};
 ghost use Rattle.regress_tree.specs.Steps.{Setting};
-ghost use Rattle.regex_command.specs.Patterns.{differences_in, IsAcceptedPattern, IsListed, IsListedNext, IsReport, MayFailToLint, line_of};
+ghost use Rattle.regex_command.specs.Patterns.{AreDifferencesIn, IsAcceptedPattern, IsListed, IsListedNext, IsReport, MayFailToLint, line_of};
 ghost use Rattle.regex_command.specs.Remarks.{AreRemarks};
 ghost use Rattle.regex_command.specs.Size.{IsSizeWarning, said_of_size};
 ghost use Rattle.regex_command.specs.declared.size.SizeWarning.{SizeWarning};
@@ -24,6 +26,7 @@ use regress_differences::remarks_of as differences;
 use regress_parse::PlacedFault;
 use regress_spans::{Remark, Span, SpannedRegex, try_parse_with_spans_in};
 use regress_ucd::unicode_tables;
+use regress_unicode::Tables;
 use regress_warnings::remarks_of as warnings;
 use std::alloc::{AllocError, Global};
 use std::io::Write;
@@ -47,7 +50,7 @@ pub(crate) fn print_lint<'f, W: Write>(
     let tables = unicode_tables(alloc)?;
     match try_parse_with_spans_in(alloc, &points, pattern.flags, &tables, pattern.dialect) {
         Ok(parsed) => {
-            let mut remarks = remarks_on(alloc, pattern.dialect, &points, &parsed)?;
+            let mut remarks = remarks_on(alloc, pattern.dialect, &points, &parsed, &tables)?;
             add_size_remark(alloc, pattern, points.len(), &mut remarks)?;
             print_remarks(alloc, &points, &remarks, out)
         }
@@ -101,10 +104,12 @@ fn remarks_on(
     dialect: Dialect,
     pattern: &[u32],
     parsed: &SpannedRegex,
+    tables: &Tables,
 ) -> Result<Vec<Remark>, AllocError>
-    ensures { IfOk result (λ remarks. AreRemarks dialect pattern.now parsed.now.regex.flags (tree parsed.now.regex.node) parsed.now.spans.items (said_by remarks.items)) }
+    requires { All IsCodePoint pattern.now }
+    ensures { IfOk result (λ remarks. AreRemarks dialect (setting_of parsed.now.regex.flags tables.now) pattern.now (tree parsed.now.regex.node) parsed.now.spans.items (said_by remarks.items)) }
 {
-    let mut remarks = differences_in(alloc, dialect, pattern, parsed)?;
+    let mut remarks = differences_in(alloc, dialect, pattern, parsed, tables)?;
     let mut others = warnings(alloc, pattern, parsed)?;
     remarks.append(&mut others)?;
     Ok(remarks)
@@ -116,12 +121,15 @@ fn differences_in(
     dialect: Dialect,
     pattern: &[u32],
     parsed: &SpannedRegex,
+    tables: &Tables,
 ) -> Result<Vec<Remark>, AllocError>
-    ensures { IfOk result (λ remarks. said_by remarks.items
-        ≡ differences_in dialect pattern.now parsed.now.regex.flags (zip (postorder (tree parsed.now.regex.node)) parsed.now.spans.items)) }
+    requires { All IsCodePoint pattern.now }
+    ensures { let t = tree parsed.now.regex.node in
+        IfOk result (λ remarks. AreDifferencesIn dialect (setting_of parsed.now.regex.flags tables.now) pattern.now t
+        (zip (postorder t) parsed.now.spans.items) (said_by remarks.items)) }
 {
     match dialect {
-        Dialect::Regress => differences(alloc, pattern, parsed),
+        Dialect::Regress => differences(alloc, pattern, parsed, tables),
         Dialect::Ecma => Ok(Vec::new(alloc)),
     }
 }

@@ -15,7 +15,7 @@ returns-in-Ok-clause-reported g c =
     c.in_ok-tables.ensures (said_by c.in_ok-remarks-in-Ok.remarks.items) (said_by c.deref-in-Ok-3.result.now) parsed.regex.flags (tree parsed.regex.node) parsed.spans.items c.print_remarks.result
     (g.W.Write.contents c.args.out.now) (g.W.Write.contents c.print_remarks.new.out)
     (rw c.deref.ensures.value (rw c.deref-in-Ok.ensures.value at c.in_ok-remarks-in-Ok.ensures))
-    c.in-Ok.ensures.flags c.in-Ok.ensures.paired
+    c.in-Ok.ensures.flags c.in-Ok.ensures.only c.in-Ok.ensures.spanned c.in-Ok.ensures.paired
     c.len.result (c.len.ensures ∙ c.in_ok-points.points.ok.0 ∙ ap length (sym c.deref.ensures.value))
     (rw c.deref-in-Ok-3.ensures.value c.in_ok-add_size_remark-in-Ok.ensures.added)
     c.print_remarks.ensures.written c.print_remarks.ensures.clean
