@@ -7,3 +7,4 @@ pub mod StepLemmas
 pub mod RunLemmas
 pub mod SearchLemmas
 pub mod SweepLemmas
+pub mod LeadLemmas

@@ -1,5 +1,5 @@
 -- Loops over one character, whose iterations are run at once.
-use Rattle.std.proofs.Common.{◌≡◌, ◌⊎◌, inl, inr, ℕ, zero, suc, ◌+◌, ◌-◌, ◌<◌, ◌≤◌, ◌==◌, ◌||◌, not, Bool, true, false, List, [], ◌∷◌, ◌++◌, length, slice_index, Some, All, flat_map, refl, sym, ap, ap₂, ◌∙◌, subst, append-nil, append_assoc, arith}
+use Rattle.std.proofs.Common.{◌≡◌, ◌⊎◌, inl, inr, ℕ, zero, suc, ◌+◌, ◌-◌, ◌<◌, ◌≤◌, ◌==◌, ◌||◌, not, Bool, true, false, List, [], ◌∷◌, ◌++◌, length, slice_get, slice_index, Some, All, flat_map, refl, sym, ap, ap₂, ◌∙◌, subst, append-nil, append_assoc, arith}
 use Rattle.std.proofs.Math.Nat.{eq-or-lt_of_le}
 use Rattle.std.proofs.lemmas.Grind.{flat_map-append}
 use Rattle.std.proofs.lemmas.List.Elements.{All-nil, All-cons, All-append}
@@ -52,30 +52,38 @@ module _ (out : Out) (g : Groups) (body repeat_pc next low : ℕ) (moved : Bool)
       ∙ ap (λ xs. (xs ++ after (low + suc more)) ++ flat_map out (range_points first more g)) (ends (suc more) (omega arith))
       ∙ append_assoc (at_repeat (low + suc (suc more))) (after (low + suc more)) (flat_map out (range_points first more g))
 
-ends_moved : (k : ℕ) → (false || not (k + 1 == k)) ≡ true
-ends_moved k = grind arith
+ends_moved : (moved : Bool) (k : ℕ) → (moved || not (k + 1 == k)) ≡ true
+ends_moved true k = refl
+ends_moved false k = grind arith
 
 module _ (input : Input) (is : IsInput input) (looping : Looping) (set : ByteBitmap) (repeat_pc : ℕ) (swept : IsSwept input looping set repeat_pc)
     (body_in : looping.body < length input.instructions.now) (outs : ℕ → Out) (solve : Solve input outs) (g : Groups) where
-  -- an iteration
-  pub iteration : (k : ℕ) → k < length input.text.now → slice_index input.text.now k < 128 → contains set (slice_index input.text.now k) ≡ true →
-      outs input.index (at (record { pc = looping.body; moved = false; position = k }) g)
-      ≡ outs input.index (at (record { pc = repeat_pc; moved = true; position = k + 1 }) g)
-  iteration k lt ascii member =
+  -- a character that the leaf of the loop matches, at an instruction that matches it
+  pub character : (pc next : ℕ) (moved : Bool) → pc < length input.instructions.now → slice_get input.instructions.now pc ≡ Some (insts.Leaf swept.leaf next) →
+      (k : ℕ) → k < length input.text.now → slice_index input.text.now k < 128 → contains set (slice_index input.text.now k) ≡ true →
+      outs input.index (at (record { pc = pc; moved = moved; position = k }) g)
+      ≡ outs input.index (at (record { pc = next; moved = true; position = k + 1 }) g)
+  character pc next moved pc_in at_pc k lt ascii member =
       let u = subject input.rules input.text.now in
       let out = outs input.index in
       let body_of = matcher_of u.setting u.bytes (code_routines input.code.now) outs in
-      let p : Place = record { pc = looping.body; moved = false; position = k } in
+      let p : Place = record { pc = pc; moved = moved; position = k } in
       let start : IsStart (starts.Ascii set) (tree swept.test.node) = subst (λ x. IsStart x (tree swept.test.node)) swept.starts swept.test.begins in
       let one : steps u.setting u.bytes u.direction (tree swept.test.node) (state g.captures k) ≡ state g.captures (k + 1) ∷ [] =
       subst (λ b. steps u.setting u.bytes (direction_if b) (tree swept.test.node) (state g.captures k) ≡ state g.captures (k + 1) ∷ []) (sym swept.forwards)
       (ascii_matches set (tree swept.test.node) start.0 start.1 u.setting u.bytes forwards (state g.captures k) (slice_index input.text.now k) (k + 1) ascii
       (ascii_after input.text.now k (slice_index input.text.now k) ascii lt refl) member) in
-      solved input is p (insts.Leaf swept.leaf repeat_pc) body_in swept.body u.setting u.bytes outs u.direction g solve is.direction (omega (arith, lt))
-      ∙ ap (λ o. outcomes_by u.setting u.bytes u.direction body_of out (part_of o repeat_pc) (at p g)) swept.is_test
-      ∙ ap (flat_map (λ s. out (reach repeat_pc (at p g) s))) one
+      solved input is p (insts.Leaf swept.leaf next) pc_in at_pc u.setting u.bytes outs u.direction g solve is.direction (omega (arith, lt))
+      ∙ ap (λ o. outcomes_by u.setting u.bytes u.direction body_of out (part_of o next) (at p g)) swept.is_test
+      ∙ ap (flat_map (λ s. out (reach next (at p g) s))) one
       ∙ append-nil _
-      ∙ ap (λ b. out (at (record { pc = repeat_pc; moved = b; position = k + 1 }) g)) (ends_moved k)
+      ∙ ap (λ b. out (at (record { pc = next; moved = b; position = k + 1 }) g)) (ends_moved moved k)
+
+  -- an iteration
+  pub iteration : (k : ℕ) → k < length input.text.now → slice_index input.text.now k < 128 → contains set (slice_index input.text.now k) ≡ true →
+      outs input.index (at (record { pc = looping.body; moved = false; position = k }) g)
+      ≡ outs input.index (at (record { pc = repeat_pc; moved = true; position = k + 1 }) g)
+  iteration = character looping.body repeat_pc false body_in swept.body
 
   -- the end of an iteration
   pub at_repeat_on : (k : ℕ) → k ≤ length input.text.now →

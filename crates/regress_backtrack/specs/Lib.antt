@@ -1,5 +1,6 @@
 pub mod Backtracker
 pub mod Costs
+pub mod Lead
 pub mod Machine
 pub mod Next
 pub mod Run

@@ -5,6 +5,7 @@ mod alternatives;
 mod backtracker;
 mod cache;
 mod input;
+mod lead;
 mod machine;
 mod run;
 mod search;

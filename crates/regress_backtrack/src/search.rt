@@ -16,6 +16,7 @@ ghost use Rattle.regress_found.specs.declared.outcome.Outcome.TheVariants.{OutOf
 use crate::backtracker::{Backtracker, input_of};
 use crate::cache::Cache;
 use crate::input::{Input, next_bytes_at};
+use crate::lead::{lead_of, next_after};
 use regress_code::Code;
 use regress_found::{Found, Outcome};
 use regress_leaves::known::Known;
@@ -73,10 +74,10 @@ impl Backtracker<'_, '_> {
     /// than the text has from there on, for each 64 characters before one that fails in a loop that is one instruction,
     /// and for each 64 groups that it unsets. A loop over ASCII characters whose iterations are run at once counts 1
     /// for each of them. A search counts 1 for each 64 groups of the pattern, and 1 for each byte offset up to the
-    /// match, also where the first byte shows that no match begins. The result is [`Outcome::OutOfSteps`] as soon as
-    /// `remaining` is used up, and with 0 for each `from` in the text. A step that is begun is completed, even if it
-    /// counts more than remains. If the first bytes show that no match begins in the rest of the text, that rest counts
-    /// nothing.
+    /// match, also where no match is known to begin: by the first byte, or since an attempt that failed has passed there
+    /// in the loop at the start of the pattern. The result is [`Outcome::OutOfSteps`] as soon as `remaining` is used up,
+    /// and with 0 for each `from` in the text. A step that is begun is completed, even if it counts more than remains.
+    /// If the first bytes show that no match begins in the rest of the text, that rest counts nothing.
     ///
     /// A search that finds a match takes at least a step for each byte offset up to its start and one for each 64 groups,
     /// or all steps that remain. It takes at most its cost: the steps that following every outcome from every byte offset
@@ -136,24 +137,27 @@ impl Backtracker<'_, '_> {
         let text = self.text;
         let input = input_of(code, self.known, text);
         cache.machine.unset_all(code.program.groups)?;
-        let mut from = from;
-        while from <= text.len() {
+        let lead = lead_of(&input);
+        let mut counted = from;
+        let mut start = from;
+        while start <= text.len() {
             if *remaining == 0 {
                 return Ok(Outcome::OutOfSteps);
             }
-            let Some(position) = next_start(code, &input, text, from) else {
+            let Some(position) = next_start(code, &input, text, start) else {
                 return Ok(Outcome::NoMatch);
             };
             // the bytes that are skipped, and the position that is tried
-            *remaining = remaining.saturating_sub((position - from) as u64 + 1);
+            *remaining = remaining.saturating_sub((position - counted) as u64 + 1);
+            counted = position + 1;
+            start = counted;
             if text.is_char_boundary(position) {
                 match self.match_in(alloc, &input, &mut cache.machine, position, remaining)? {
                     Outcome::Matched(found) => return Ok(Outcome::Matched(found)),
-                    Outcome::NoMatch => {}
+                    Outcome::NoMatch => start = next_after(&input, lead, text, position),
                     Outcome::OutOfSteps => return Ok(Outcome::OutOfSteps),
                 }
             }
-            from = position + 1;
         }
         Ok(Outcome::NoMatch)
     }

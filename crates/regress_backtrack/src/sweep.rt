@@ -18,9 +18,9 @@ use std::alloc::AllocError;
 
 /// A loop over a leaf that matches one character.
 #[derive(Clone, Copy)]
-struct Swept<'c> {
+pub(crate) struct Swept<'c> {
     /// The ASCII characters that the leaf matches.
-    set: &'c ByteBitmap,
+    pub(crate) set: &'c ByteBitmap,
     /// The instruction that ends an iteration, and begins another one or goes on after the loop.
     repeat_pc: usize,
 }
@@ -169,7 +169,7 @@ fn leave(input: &Input<'_, '_>, swept: Swept<'_>, looping: Looping, to: Place) -
 
 /// Returns the leaf of a loop and the end of an iteration, if the body is a leaf that matches one character forwards.
 #[inline(always)]
-fn sole_leaf<'c>(input: &Input<'c, '_>, looping: Looping) -> Option<Swept<'c>>
+pub(crate) fn sole_leaf<'c>(input: &Input<'c, '_>, looping: Looping) -> Option<Swept<'c>>
     requires { looping.body < length input.now.instructions.now }
     ensures { IfSome result (λ s. IsSwept input.now looping s.set.now s.repeat_pc) }
 {

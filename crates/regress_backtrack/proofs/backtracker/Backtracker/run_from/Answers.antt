@@ -1,4 +1,4 @@
-use Rattle.std.proofs.Common.{rules, arith, ◌≤◌, ◌<◌, ℕ, length, sym, ◌∙◌, subst, IfSome, MatchOption}
+use Rattle.std.proofs.Common.{rules, arith, ◌≡◌, ◌≤◌, ◌<◌, ◌+◌, ℕ, [], length, sym, ◌∙◌, subst, IfSome, MatchOption}
 use Rattle.std.specs.Str.{IsCharBoundary}
 use Rattle.regress_found.specs.Found.{NoneBefore}
 use Rattle.regress_program.specs.Program.{Out}
@@ -11,19 +11,18 @@ use Rattle.regress_backtrack.proofs.CandidateLemmas.{none_after, none_before}
 use Rattle.regress_backtrack.proofs.CostLemmas.{searched, tried_on}
 use Rattle.regress_backtrack.proofs.SearchLemmas.{found_leftmost, none_more, not_true, tree_finds}
 use Rattle.regress_backtrack.proofs.backtracker.Backtracker.run_from.Goals as goal
-use Rattle.regress_backtrack.proofs.backtracker.Backtracker.run_from.Goals.{then-is_char_boundary+in_ok-found+in-NoMatch, else-is_char_boundary}
 
 pub match_in-requires : goal.match_in-requires
 match_in-requires c =
     let on : IsCharBoundary (run_text c.args.self.now) c.in-Some.position = search rules in
     record {
       input = c.input_of-input.ensures;
-      unset = c.loop-from.invariant.unset;
+      unset = c.loop-start.invariant.unset;
       position = on.0;
     }
 
 pub returns-clause-solved : goal.returns-clause-solved
-returns-clause-solved c = λ outs are p low on. c.loop-from.invariant.solved outs are p low (omega (arith, on.0, c.loop-from-test.false)) on
+returns-clause-solved c = λ outs are p low on. c.loop-start.invariant.solved outs are p low (omega (arith, on.0, c.loop-start-test.false)) on
 
 pub returns-clause-finds : goal.returns-clause-finds
 returns-clause-finds c = tree_finds c.args.self.now c.args.from outcomes.NoMatch (returns-clause-solved c)
@@ -31,7 +30,7 @@ returns-clause-finds c = tree_finds c.args.self.now c.args.from outcomes.NoMatch
 pub returns-in_default-clause-solved : goal.returns-in_default-clause-solved
 returns-in_default-clause-solved c = λ outs are.
     let a = c.args.self.now in
-    none_after (run_text a) (outcomes_at a outs) c.args.from c.loop-from.from (c.loop-from.invariant.solved outs are)
+    none_after (run_text a) (outcomes_at a outs) c.args.from c.loop-start.start (c.loop-start.invariant.solved outs are)
     (λ k low le. c.next_start.ensures.skipped (run_tables a) c.input_of-input.ensures outs are k low le (subst (λ r. MatchOption r Unit (λ p. k < p)) (sym c.in_default.is) tt))
 
 pub returns-in_default-clause-finds : goal.returns-in_default-clause-finds
@@ -42,66 +41,76 @@ returns-in-Matched-clause-solved c = λ outs are.
     let a = c.args.self.now in
     let k = c.in-Some.position in
     let on : IsCharBoundary (run_text a) k = search rules in
-    let within = subst (λ r. IfSome r (λ (p : ℕ). (c.loop-from.from ≤ p) × (p ≤ length (run_text a)))) c.in-Some.is c.next_start.ensures.within in
-    found_leftmost (run_text a) (outcomes_at a outs) c.args.from k c.in-Matched.found (omega (arith, c.loop-from.invariant.from, within.0)) on
+    let within = subst (λ r. IfSome r (λ (p : ℕ). (c.loop-start.start ≤ p) × (p ≤ length (run_text a)))) c.in-Some.is c.next_start.ensures.within in
+    found_leftmost (run_text a) (outcomes_at a outs) c.args.from k c.in-Matched.found (omega (arith, c.loop-start.invariant.from, c.loop-start.invariant.on, within.0)) on
     (subst (IsMatchResult k (outcomes_at a outs k)) c.in-Matched.is
     (c.in_ok-found.ensures.solved outs are))
-    (none_before (run_text a) (outcomes_at a outs) c.args.from c.loop-from.from (c.loop-from.invariant.solved outs are) k
+    (none_before (run_text a) (outcomes_at a outs) c.args.from c.loop-start.start (c.loop-start.invariant.solved outs are) k
     (λ p low le lt. c.next_start.ensures.skipped (run_tables a) c.input_of-input.ensures outs are p low le (subst (λ r. MatchOption r Unit (λ q. p < q)) (sym c.in-Some.is) lt)))
 
 pub returns-in-Matched-clause-finds : goal.returns-in-Matched-clause-finds
 returns-in-Matched-clause-finds c =
     tree_finds c.args.self.now c.args.from (outcomes.Matched c.in-Matched.found) (returns-in-Matched-clause-solved c)
 
-pub loop-from-preserved : goal.loop-from-preserved
-loop-from-preserved c =
+pub loop-start-preserved-in-NoMatch : goal.loop-start-preserved-in-NoMatch
+loop-start-preserved-in-NoMatch c =
     let a = c.args.self.now in
     let text = run_text a in
     let k = c.in-Some.position in
-    let so_far = c.loop-from.invariant in
-    let within = subst (λ r. IfSome r (λ (p : ℕ). (c.loop-from.from ≤ p) × (p ≤ length text))) c.in-Some.is c.next_start.ensures.within in
-    let none : (outs : ℕ → Out) → AreOutcomes a outs → NoneBefore text (outcomes_at a outs) c.args.from k = λ outs are.
-    none_before text (outcomes_at a outs) c.args.from c.loop-from.from (so_far.solved outs are) k
+    let so_far = c.loop-start.invariant in
+    let within = subst (λ r. IfSome r (λ (p : ℕ). (c.loop-start.start ≤ p) × (p ≤ length text))) c.in-Some.is c.next_start.ensures.within in
+    let before : (outs : ℕ → Out) → AreOutcomes a outs → NoneBefore text (outcomes_at a outs) c.args.from k = λ outs are.
+    none_before text (outcomes_at a outs) c.args.from c.loop-start.start (so_far.solved outs are) k
     (λ p low le lt. c.next_start.ensures.skipped (run_tables a) c.input_of-input.ensures outs are p low le (subst (λ r. MatchOption r Unit (λ q. p < q)) (sym c.in-Some.is) lt)) in
-    elim c.if-is_char_boundary.branch [
-      | then-is_char_boundary+in_ok-found+in-NoMatch w ↦ record {
-        unset = rw w.cache-is (w.in_ok-found.ensures.unset w.in-NoMatch.is ∙ so_far.unset);
-        from = omega (arith, so_far.from, within.0);
-        remaining = omega (arith, w.remaining-is, w.in_ok-found.ensures.remaining, c.saturating_sub.ensures, so_far.remaining);
-        counted = omega (arith, w.remaining-is, w.in_ok-found.ensures.remaining, c.saturating_sub.ensures, so_far.counted, so_far.from, within.0);
-        solved = λ outs are.
-            none_more text (outcomes_at a outs) c.args.from k (none outs are)
-            (λ on. subst (IsMatchResult k (outcomes_at a outs k)) w.in-NoMatch.is
-            (w.in_ok-found.ensures.solved outs are));
-        costs = λ outs costs are.
-            let before = so_far.costs outs costs are in
-            let taken = w.in_ok-found.ensures.costs outs costs are in
-            let on = tried_on (cost_at a costs) c.args.from c.loop-from.from k so_far.from within.0 in
-            omega (arith, before, taken, on, w.remaining-is, c.saturating_sub.ensures);
-        enough = λ outs costs are.
-            let taken = w.in_ok-found.ensures.costs outs costs are in
-            let all = searched (cost_at a costs) c.args.from c.loop-from.from k (length text) c.args.remaining.now c.loop-from.remaining c.saturating_sub.result
-            w.match_in.new.remaining so_far.from within.0 within.1 (so_far.costs outs costs are) (omega (arith, c.saturating_sub.ensures)) taken in
-            omega (arith, all, w.remaining-is);
-      }
-      | else-is_char_boundary w ↦ record {
-        unset = rw w.cache-is so_far.unset;
-        from = omega (arith, so_far.from, within.0);
-        remaining = omega (arith, w.remaining-is, c.saturating_sub.ensures, so_far.remaining);
-        counted = omega (arith, w.remaining-is, c.saturating_sub.ensures, so_far.counted, so_far.from, within.0);
-        solved = λ outs are.
-            none_more text (outcomes_at a outs) c.args.from k (none outs are)
-            (λ on. absurd (not_true c.is_char_boundary.result w.if-is_char_boundary.false (c.is_char_boundary.ensures.test.1 on)));
-        costs = λ outs costs are.
-            let before = so_far.costs outs costs are in
-            let on = tried_on (cost_at a costs) c.args.from c.loop-from.from k so_far.from within.0 in
-            omega (arith, before, on, w.remaining-is, c.saturating_sub.ensures);
-        enough = λ outs costs are.
-            let all = searched (cost_at a costs) c.args.from c.loop-from.from k (length text) c.args.remaining.now c.loop-from.remaining c.saturating_sub.result
-            c.saturating_sub.result so_far.from within.0 within.1 (so_far.costs outs costs are) (omega (arith, c.saturating_sub.ensures)) (omega arith) in
-            omega (arith, all, w.remaining-is);
-      }
-    ]
+    let here : (outs : ℕ → Out) → AreOutcomes a outs → outcomes_at a outs k ≡ [] = λ outs are.
+    subst (IsMatchResult k (outcomes_at a outs k)) c.in-NoMatch.is (c.in_ok-found.ensures.solved outs are) in
+    record {
+      unset = c.in_ok-found.ensures.unset c.in-NoMatch.is ∙ so_far.unset;
+      from = omega (arith, so_far.from, so_far.on, within.0);
+      on = omega (arith, c.next_after-start.ensures.low);
+      remaining = omega (arith, c.in_ok-found.ensures.remaining, c.saturating_sub.ensures, so_far.remaining);
+      counted = omega (arith, c.in_ok-found.ensures.remaining, c.saturating_sub.ensures, so_far.counted, so_far.from, so_far.on, within.0);
+      solved = λ outs are.
+          none_before text (outcomes_at a outs) c.args.from (k + 1) (none_more text (outcomes_at a outs) c.args.from k (before outs are) (λ on. here outs are))
+          c.next_after-start.result
+          (λ p low le lt. c.next_after-start.ensures.skipped (run_code a) (run_tables a) c.input_of-input.ensures outs are (here outs are) p (omega (arith, low)) lt);
+      costs = λ outs costs are.
+          let so = so_far.costs outs costs are in
+          let taken = c.in_ok-found.ensures.costs outs costs are in
+          let on = tried_on (cost_at a costs) c.args.from c.loop-start.counted k so_far.from (omega (arith, so_far.on, within.0)) in
+          omega (arith, so, taken, on, c.saturating_sub.ensures);
+      enough = λ outs costs are.
+          searched (cost_at a costs) c.args.from c.loop-start.counted k (length text) c.args.remaining.now c.loop-start.remaining c.saturating_sub.result
+          c.match_in.new.remaining so_far.from (omega (arith, so_far.on, within.0)) within.1 (so_far.costs outs costs are) (omega (arith, c.saturating_sub.ensures))
+          (c.in_ok-found.ensures.costs outs costs are);
+    }
+
+pub loop-start-preserved : goal.loop-start-preserved
+loop-start-preserved c =
+    let a = c.args.self.now in
+    let text = run_text a in
+    let k = c.in-Some.position in
+    let so_far = c.loop-start.invariant in
+    let within = subst (λ r. IfSome r (λ (p : ℕ). (c.loop-start.start ≤ p) × (p ≤ length text))) c.in-Some.is c.next_start.ensures.within in
+    record {
+      unset = so_far.unset;
+      from = omega (arith, so_far.from, so_far.on, within.0);
+      on = omega arith;
+      remaining = omega (arith, c.saturating_sub.ensures, so_far.remaining);
+      counted = omega (arith, c.saturating_sub.ensures, so_far.counted, so_far.from, so_far.on, within.0);
+      solved = λ outs are.
+          none_more text (outcomes_at a outs) c.args.from k
+          (none_before text (outcomes_at a outs) c.args.from c.loop-start.start (so_far.solved outs are) k
+          (λ p low le lt. c.next_start.ensures.skipped (run_tables a) c.input_of-input.ensures outs are p low le (subst (λ r. MatchOption r Unit (λ q. p < q)) (sym c.in-Some.is) lt)))
+          (λ on. absurd (not_true c.is_char_boundary.result c.if-is_char_boundary.false (c.is_char_boundary.ensures.test.1 on)));
+      costs = λ outs costs are.
+          let so = so_far.costs outs costs are in
+          let on = tried_on (cost_at a costs) c.args.from c.loop-start.counted k so_far.from (omega (arith, so_far.on, within.0)) in
+          omega (arith, so, on, c.saturating_sub.ensures);
+      enough = λ outs costs are.
+          searched (cost_at a costs) c.args.from c.loop-start.counted k (length text) c.args.remaining.now c.loop-start.remaining c.saturating_sub.result
+          c.saturating_sub.result so_far.from (omega (arith, so_far.on, within.0)) within.1 (so_far.costs outs costs are) (omega (arith, c.saturating_sub.ensures)) (omega arith);
+    }
 
 -- ---- the cost of the search
 
@@ -110,28 +119,28 @@ returns-in-Matched-clause-tried c =
     let a = c.args.self.now in
     let k = c.in-Some.position in
     let some = solution (setting_with (run_code a) (run_tables a)) (run_text a) (code_routines (run_code a)) a.code.now.program.is_program in
-    let within = subst (λ r. IfSome r (λ (p : ℕ). (c.loop-from.from ≤ p) × (p ≤ length (run_text a)))) c.in-Some.is c.next_start.ensures.within in
-    let so_far = c.loop-from.invariant in
+    let within = subst (λ r. IfSome r (λ (p : ℕ). (c.loop-start.start ≤ p) × (p ≤ length (run_text a)))) c.in-Some.is c.next_start.ensures.within in
+    let so_far = c.loop-start.invariant in
     let first = subst (IsMatchResult k (outcomes_at a some.0 k)) c.in-Matched.is
     (c.in_ok-found.ensures.solved some.0 some.1) in
-    omega (arith, first.0, within.0, so_far.from, so_far.counted, c.saturating_sub.ensures, c.in_ok-found.ensures.remaining)
+    omega (arith, first.0, within.0, so_far.from, so_far.on, so_far.counted, c.saturating_sub.ensures, c.in_ok-found.ensures.remaining)
 
 pub returns-in-Matched-clause-costs : goal.returns-in-Matched-clause-costs
 returns-in-Matched-clause-costs c = λ outs costs are.
     let a = c.args.self.now in
     let k = c.in-Some.position in
-    let within = subst (λ r. IfSome r (λ (p : ℕ). (c.loop-from.from ≤ p) × (p ≤ length (run_text a)))) c.in-Some.is c.next_start.ensures.within in
-    let so_far = c.loop-from.invariant in
-    searched (cost_at a costs) c.args.from c.loop-from.from k (length (run_text a)) c.args.remaining.now c.loop-from.remaining c.saturating_sub.result
-    c.match_in.new.remaining so_far.from within.0 within.1 (so_far.costs outs costs are) (omega (arith, c.saturating_sub.ensures))
+    let within = subst (λ r. IfSome r (λ (p : ℕ). (c.loop-start.start ≤ p) × (p ≤ length (run_text a)))) c.in-Some.is c.next_start.ensures.within in
+    let so_far = c.loop-start.invariant in
+    searched (cost_at a costs) c.args.from c.loop-start.counted k (length (run_text a)) c.args.remaining.now c.loop-start.remaining c.saturating_sub.result
+    c.match_in.new.remaining so_far.from (omega (arith, so_far.on, within.0)) within.1 (so_far.costs outs costs are) (omega (arith, c.saturating_sub.ensures))
     (c.in_ok-found.ensures.costs outs costs are)
 
 pub returns-in-OutOfSteps-clause-costs : goal.returns-in-OutOfSteps-clause-costs
 returns-in-OutOfSteps-clause-costs c = λ outs costs are.
     let a = c.args.self.now in
     let k = c.in-Some.position in
-    let within = subst (λ r. IfSome r (λ (p : ℕ). (c.loop-from.from ≤ p) × (p ≤ length (run_text a)))) c.in-Some.is c.next_start.ensures.within in
-    let so_far = c.loop-from.invariant in
-    searched (cost_at a costs) c.args.from c.loop-from.from k (length (run_text a)) c.args.remaining.now c.loop-from.remaining c.saturating_sub.result
-    c.match_in.new.remaining so_far.from within.0 within.1 (so_far.costs outs costs are) (omega (arith, c.saturating_sub.ensures))
+    let within = subst (λ r. IfSome r (λ (p : ℕ). (c.loop-start.start ≤ p) × (p ≤ length (run_text a)))) c.in-Some.is c.next_start.ensures.within in
+    let so_far = c.loop-start.invariant in
+    searched (cost_at a costs) c.args.from c.loop-start.counted k (length (run_text a)) c.args.remaining.now c.loop-start.remaining c.saturating_sub.result
+    c.match_in.new.remaining so_far.from (omega (arith, so_far.on, within.0)) within.1 (so_far.costs outs costs are) (omega (arith, c.saturating_sub.ensures))
     (c.in_ok-found.ensures.costs outs costs are)

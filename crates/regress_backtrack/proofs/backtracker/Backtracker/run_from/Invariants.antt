@@ -1,5 +1,5 @@
--- Every group is unset, no character boundary before the current position has an outcome, and the steps so far are at most the cost up to there,
--- and at least one for each position.
+-- Every group is unset, and no character boundary before the current position has an outcome. The steps so far are at most the cost of the positions
+-- that are counted, and at least one for each of them.
 use Rattle.std.proofs.Common.{◌≡◌, ◌≤◌, ◌+◌, ◌-◌, ℕ, None, length, replicate}
 use Rattle.regress_found.specs.Found.{NoneBefore}
 use Rattle.regress_program.specs.Cost.{Cost}
@@ -9,17 +9,18 @@ use Rattle.regress_backtrack.specs.Backtracker.{AreCosts, AreOutcomes, cost_at, 
 use Rattle.regress_backtrack.proofs.CostLemmas.{tried}
 use Rattle.regress_backtrack.proofs.backtracker.Backtracker.run_from.Given as goal
 
-abbrev pub invariant-loop-from : goal.invariant-loop-from
-invariant-loop-from l = record {
+abbrev pub invariant-loop-start : goal.invariant-loop-start
+invariant-loop-start l = record {
   unset : l.cache.machine.captures.items ≡ replicate (code_groups (run_code l.self)) None;
-  from : l.fn.from ≤ l.from;
+  from : l.fn.from ≤ l.counted;
+  on : l.counted ≤ l.start;
   remaining : l.remaining ≤ l.fn.remaining;
-  counted : l.remaining ≤ l.fn.remaining - (l.from - l.fn.from);
-  solved : (outs : ℕ → Out) → AreOutcomes l.self outs → NoneBefore (run_text l.self) (outcomes_at l.self outs) l.fn.from l.from;
+  counted : l.remaining ≤ l.fn.remaining - (l.counted - l.fn.from);
+  solved : (outs : ℕ → Out) → AreOutcomes l.self outs → NoneBefore (run_text l.self) (outcomes_at l.self outs) l.fn.from l.start;
   costs : (outs : ℕ → Out) (costs : ℕ → Cost) → AreCosts l.self outs costs →
-      l.fn.remaining ≤ l.remaining + tried (cost_at l.self costs) l.fn.from (l.from - l.fn.from);
+      l.fn.remaining ≤ l.remaining + tried (cost_at l.self costs) l.fn.from (l.counted - l.fn.from);
   enough : (outs : ℕ → Out) (costs : ℕ → Cost) → AreCosts l.self outs costs → l.fn.remaining ≤ l.remaining + runs_cost_at l.self costs l.fn.from;
 }
 
-abbrev pub decreases-loop-from : goal.decreases-loop-from
-decreases-loop-from l = length l.text + 1 - l.from
+abbrev pub decreases-loop-start : goal.decreases-loop-start
+decreases-loop-start l = length l.text + 1 - l.start
