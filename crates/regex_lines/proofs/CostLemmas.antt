@@ -5,7 +5,7 @@ use Rattle.regress.specs.Costs.{AllCostLimit, CostsLimit, factor_of}
 use Rattle.regress.specs.declared.failure.SearchError.{SearchError}
 use Rattle.regress.specs.declared.failure.SearchError.TheVariants as errors
 use Rattle.regress.specs.declared.pattern.Regex.{Regex}
-use Rattle.regex_lines.specs.Ending.{IsCostly, IsSearchError, IsInputFailure, search_failure}
+use Rattle.regex_lines.specs.Ending.{IsCostly, IsSearchError, IsInputFailure, IsSearchFailure, search_failure}
 
 module _ (r : Regex) (text : List ℕ) where
   -- a search for all matches
@@ -32,3 +32,8 @@ pub searched : (costly : Type 0) (error : SearchError) → IsSearchError costly 
 searched costly errors.Memory h = tt
 searched costly errors.OutOfSteps h = h
 searched costly errors.TooMuchMemory h = tt
+
+pub searched_failure : (costly : Type 0) (error : SearchError) → IsSearchError costly error → IsSearchFailure costly (search_failure error)
+searched_failure costly errors.Memory h = tt
+searched_failure costly errors.OutOfSteps h = h
+searched_failure costly errors.TooMuchMemory h = tt

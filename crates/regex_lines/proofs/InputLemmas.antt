@@ -10,7 +10,7 @@ use Rattle.std.proofs.lemmas.List.{drop-drop, get_or-drop, get_or-map, length-dr
 use Rattle.regress_arguments.proofs.lemmas.Output.{appends_both}
 use Rattle.regex_lines.proofs.FoldLemmas.{stays}
 use Rattle.regress.specs.declared.pattern.Regex.{Regex}
-use Rattle.regex_lines.specs.Searched.{AddsInput, Input, IsInputStep, IsSearchedInput, IsUnreadInput, Result, WritesInputs, WritesSomeOf, bytes_of, following, has_ended, left_after, named_inputs, nothing, Named, PrintsLines, printed}
+use Rattle.regex_lines.specs.Searched.{AddsInput, Input, IsInputStep, IsSearchedInput, IsUnreadInput, Result, WritesInputs, WritesSomeOf, bytes_of, following, has_ended, left_after, named_inputs, nothing, Named, PrintsPart, printed}
 use Rattle.regex_lines.specs.Unread.{Unread}
 use Rattle.regex_options.specs.Plain.{Job}
 
@@ -91,9 +91,9 @@ module _ (r : Regex) (job : Job) (inputs : List Input) (before : Option (List �
         written = appends_both before between after sofar.bytes (printed job first.0) sofar.written first.2;
       }
 
-      pub some_of : PrintsLines r job (following any input.0) input.1 between after → WritesSomeOf r job inputs before after unread
-      some_of first = (
-        sofar.bytes ++ printed job first.0,
+      pub some_of : PrintsPart r job (following any input.0) input.1 between after → WritesSomeOf r job inputs before after unread
+      some_of part = (
+        sofar.bytes ++ part.0,
         record {
           before = take i inputs;
           others = input ∷ drop (suc i) inputs;
@@ -101,11 +101,11 @@ module _ (r : Regex) (job : Job) (inputs : List Input) (before : Option (List �
           result = reached;
           steps = sofar.steps;
           unread_are = refl;
-          more = printed job first.0;
-          begun = (first.0, first.1, refl);
+          more = part.0;
+          begun = part.1;
           is = refl;
         },
-        appends_both before between after sofar.bytes (printed job first.0) sofar.written first.2,
+        appends_both before between after sofar.bytes part.0 sofar.written part.2,
       )
 
 module _ (place : (file : List ℕ) → Named) (files : List (String Global)) (inputs : List Input) where

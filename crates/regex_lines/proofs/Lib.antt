@@ -1,9 +1,12 @@
 mod CostLemmas
 mod FoldLemmas
 mod FoundLemmas
+mod FoundReplyLemmas
 mod InputLemmas
 mod JsonLemmas
 mod LineLemmas
+mod MatchLemmas
+mod NextLineLemmas
 mod PaintLemmas
 mod ReplyLemmas
 mod RunLemmas

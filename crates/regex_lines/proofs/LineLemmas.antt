@@ -7,8 +7,9 @@ use Rattle.std.proofs.lemmas.Bool.{cases_lt, eqb-true}
 use Rattle.std.proofs.lemmas.List.{get_or-take, length-take}
 use Rattle.std.proofs.lemmas.List.Elements.{All-head, All-tail}
 use Rattle.regex_lines.specs.Searched.{AreLinesOf, Line as TextLine, has_line_feed, lines_of, one_line, onto_line, split_text, without_line_feed}
-use Rattle.regex_lines.specs.Reading.{IsRead}
-use Rattle.regex_lines.specs.declared.reading.Next.TheVariants.{Line, LastLine}
+use Rattle.regex_lines.specs.Reading.{IsRead, is_ended}
+use Rattle.regex_lines.specs.declared.reading.Next.{Next}
+use Rattle.regex_lines.specs.declared.reading.Next.TheVariants.{Line, LastLine, End}
 
 -- no line feed is taken
 all_taken_of : (xs : List ℕ) → All (λ b. b ≢ 10) (take_through 10 xs) → drop_through 10 xs ≡ []
@@ -176,3 +177,20 @@ module _ (multiline : Bool) (old now : Option (List ℕ)) (lines : List TextLine
         whole = sofar.lines rest.0;
         all = λ is. let bad : ⊥ = cc in absurd bad;
       }
+
+-- the lines that are read, and the next one
+pub and_next : (multiline : Bool) (old now : Option (List ℕ)) (lines : List TextLine) → HasRead multiline old now lines →
+    (new : Option (List ℕ)) (line : List ℕ) (next : Next) → (next ≡ End → ⊥) → IsRead multiline now new line next →
+    AreLinesOf multiline old false (lines ++ record { bytes = line; ended = is_ended next } ∷ [])
+and_next multiline old now lines sofar new line Line not_end read =
+    stopped multiline old new (lines ++ record { bytes = line; ended = true } ∷ []) (goes_on multiline old now lines sofar new line read)
+and_next multiline old now lines sofar new line (LastLine ended) not_end read =
+    let are = ended_by_last multiline old now lines sofar new (record { bytes = line; ended = ended }) read in
+    record {
+      text = are.text;
+      known = are.known;
+      others = are.others;
+      whole = are.whole;
+      all = λ is. let bad : ⊥ = cc is in absurd bad;
+    }
+and_next multiline old now lines sofar new line End not_end read = absurd (not_end refl)

@@ -1,5 +1,5 @@
 -- The lines of an input are searched one after another.
-use Rattle.std.proofs.Common.{◌≡◌, inr, ℕ, Bool, true, false, List, [], ◌∷◌, ◌++◌, Option, Some, None, refl, sym, ap, subst, append-nil, ◌∙◌}
+use Rattle.std.proofs.Common.{◌≡◌, inl, inr, ℕ, ◌+◌, Bool, true, false, List, [], ◌∷◌, ◌++◌, Option, Some, None, refl, sym, ap, subst, append-nil, ◌∙◌}
 use Rattle.std.specs.Prelude.{Result, Ok, Err, IfErr, if◌then◌else◌, nat_lt}
 use Rattle.std.specs.Io.KnownBytes.{Appends, IsAtEnd, Keeps, append_known}
 use Rattle.std.specs.List.{FoldsTo}
@@ -7,8 +7,8 @@ use Rattle.std.proofs.lemmas.Fn.{FoldsTo-push}
 use Rattle.regress_arguments.proofs.lemmas.Output.{appends_both, appends_through}
 use Rattle.regress_arguments.specs.Output.{Took}
 use Rattle.regress.specs.declared.pattern.Regex.{Regex}
-use Rattle.regex_lines.specs.Ending.{OrOutput}
-use Rattle.regex_lines.specs.Searched.{WritesInput, Line as TextLine, Named, AreLinesOf, IsStep, PrintsLines, Progress, SearchesAll, SearchesFirst, SearchesLines, at_start, is_in_place, is_over, printed, written_at_end}
+use Rattle.regex_lines.specs.Ending.{AfterFailure, OrOutput}
+use Rattle.regex_lines.specs.Searched.{WritesInput, Line as TextLine, Named, AreLinesOf, IsBegunLine, IsStep, PrintsLines, PrintsPart, Progress, SearchesAll, SearchesFirst, SearchesLines, SearchesPart, at_start, is_enough, is_in_place, is_over, printed, written_at_end}
 use Rattle.regex_lines.specs.Window.{IsNextLine, Window, first_window}
 use Rattle.regex_options.specs.Plain.{Job}
 use Rattle.regex_lines.specs.Reading.{IsRead, is_ended, is_last}
@@ -16,8 +16,9 @@ use Rattle.regex_lines.specs.declared.failure.Failure.{Failure}
 use Rattle.regex_lines.specs.declared.reading.Next.{Next}
 use Rattle.regex_lines.specs.declared.reading.Next.TheVariants.{Line, LastLine, End}
 use Rattle.regex_lines.proofs.FoldLemmas.{stays}
-use Rattle.regex_lines.proofs.LineLemmas.{HasRead, begins, goes_on as goes_on_reading, ended, ended_by_last, stopped}
+use Rattle.regex_lines.proofs.LineLemmas.{HasRead, and_next, begins, goes_on as goes_on_reading, ended, ended_by_last, stopped}
 use Rattle.regex_lines.proofs.WindowLemmas.{IsAt, Further, next_line, starts}
+use Rattle.regex_lines.proofs.lemmas.Failures.{after_any, after_less}
 
 appends_nothing : (known : Option (List ℕ)) → Appends known known []
 appends_nothing None = tt
@@ -84,6 +85,30 @@ module _ (r : Regex) (job : Job) (place : Named) (old before : Option (List ℕ)
   -- The lines are printed as they are written.
   pub first_printed : is_in_place job ≡ false → (after : Option (List ℕ)) → SearchesFirst r job place old before after → PrintsLines r job place old before after
   first_printed plain after first = (first.0, first.1, subst (Appends before after) (sym (printed_written job first.0 plain)) first.2)
+
+  -- the first lines as a part
+  first_part : (after : Option (List ℕ)) → SearchesFirst r job place old before after → SearchesPart r job place old before after
+  first_part after first = (first.0, [], inl (first.1, refl), subst (Appends before after) (sym (append-nil first.0.written)) first.2)
+
+  pub lines_part : (after : Option (List ℕ)) → PrintsLines r job place old before after → PrintsPart r job place old before after
+  lines_part after lines = (
+    printed job lines.0,
+    record { progress = lines.0; more = []; searched = inl (lines.1, refl); is = sym (append-nil (printed job lines.0)) },
+    lines.2,
+  )
+
+  -- the same after a failure
+  pub lines_then : (after : Option (List ℕ)) (failure : Failure) → OrOutput (PrintsLines r job place old before after) failure →
+      AfterFailure (PrintsLines r job place old before after) (PrintsPart r job place old before after) failure
+  lines_then after failure = after_any (PrintsLines r job place old before after) (PrintsPart r job place old before after) (lines_part after) failure
+
+  -- A part is printed as it is written.
+  pub part_printed : is_in_place job ≡ false → (after : Option (List ℕ)) → SearchesPart r job place old before after → PrintsPart r job place old before after
+  part_printed plain after (p, more, to, appends) = (
+    printed job p ++ more,
+    record { progress = p; more = more; searched = to; is = refl },
+    subst (λ front. Appends before after (front ++ more)) (sym (printed_written job p plain)) appends,
+  )
 
   -- Of all lines the first ones are printed.
   pub all_printed : is_in_place job ≡ false → (after : Option (List ℕ)) (n : ℕ) → SearchesAll r job place old before after n → PrintsLines r job place old before after
@@ -209,9 +234,45 @@ module _ (r : Regex) (job : Job) (place : Named) (old before : Option (List ℕ)
       sofar.written,
     )
 
-    pub first_or_output : {X : Type 0} (result : Result X Failure) → IfErr result (OrOutput (SearchesFirst r job place old before after))
-    first_or_output (Ok x) = tt
-    first_or_output (Err failure) = inr first
+    pub first_then : (failure : Failure) → AfterFailure (SearchesFirst r job place old before after) (SearchesPart r job place old before after) failure
+    first_then failure = after_any (SearchesFirst r job place old before after) (SearchesPart r job place old before after) (first_part after) failure (inr first)
+
+    pub first_if : {X : Type 0} (result : Result X Failure) →
+        IfErr result (AfterFailure (SearchesFirst r job place old before after) (SearchesPart r job place old before after))
+    first_if (Ok x) = tt
+    first_if (Err failure) = first_then failure
+
+    -- after a failure of the search of the next line
+    module _ (left : Option (List ℕ)) (line : List ℕ) (next : Next) (not_end : next ≡ End → ⊥) (read : IsRead place.multiline now left line next) (new : Option (List ℕ)) where
+      abbrev text_line : TextLine
+      text_line = record { bytes = line; ended = is_ended next }
+
+      none_of_next : Appends after new [] → SearchesFirst r job place old before new
+      none_of_next none = (
+        sofar.progress,
+        record { lines = sofar.lines; are = stopped place.multiline old now sofar.lines sofar.read; steps = sofar.steps },
+        subst (Appends before new) (append-nil sofar.progress.written) (appends_both before after new sofar.progress.written [] sofar.written none),
+      )
+
+      part_of_next : Took after new (IsBegunLine r job place (is_enough job w.selected) (w.number + 1) text_line) → SearchesPart r job place old before new
+      part_of_next took = (
+        sofar.progress,
+        took.0,
+        inr (record {
+          lines = sofar.lines;
+          next = text_line;
+          are = and_next place.multiline old now sofar.lines sofar.read left line next not_end read;
+          steps = sofar.steps;
+          begun = subst (λ n. IsBegunLine r job place (is_enough job sofar.progress.selected) (n + 1) text_line took.0) (sym sofar.at.number)
+              (subst (λ n. IsBegunLine r job place (is_enough job n) (w.number + 1) text_line took.0) (sym sofar.at.selected) took.1);
+        }),
+        appends_both before after new sofar.progress.written took.0 sofar.written took.2,
+      )
+
+      pub of_next : (failure : Failure) →
+          AfterFailure (Appends after new []) (Took after new (IsBegunLine r job place (is_enough job w.selected) (w.number + 1) text_line)) failure →
+          AfterFailure (SearchesFirst r job place old before new) (SearchesPart r job place old before new) failure
+      of_next failure = after_less _ _ (SearchesFirst r job place old before new) (SearchesPart r job place old before new) none_of_next part_of_next failure
 
 pub line_of : (next : Next) → (next ≡ End → ⊥) → is_last next ≡ false → next ≡ Line
 line_of Line not_end not_last = refl

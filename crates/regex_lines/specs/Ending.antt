@@ -120,6 +120,11 @@ IsOutputFailure (TooLong name) = ⊥
 abbrev pub OrOutput : Type 0 → Failure → Type 0
 OrOutput P failure = IsOutputFailure failure ⊎ P
 
+-- P holds if the input could not be read further, and after any other failure Q, unless the output could not be written.
+abbrev pub AfterFailure : (P Q : Type 0) → Failure → Type 0
+AfterFailure P Q (Unreadable unread) = P
+AfterFailure P Q failure = OrOutput Q failure
+
 -- what is returned for a pattern that is rejected with this error
 abbrev pub unaccepted : PlacedFault → Result Bool Failure
 unaccepted (placed.Syntax kind error position) = Ok false

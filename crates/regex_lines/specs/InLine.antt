@@ -1,14 +1,15 @@
 -- What is known of the texts of a line and of the matches in them when the line is shown.
-use Rattle.std.specs.Prelude.{ℕ, ◌+◌, ◌<◌, ◌≤◌, ◌^◌, Bool, true, false, List, [], ◌∷◌, ◌++◌, All, flat_map, length, map}
-use Rattle.std.specs.List.{Any}
+use Rattle.std.specs.Prelude.{◌≡◌, ◌⊎◌, ℕ, ◌+◌, ◌<◌, ◌≤◌, ◌^◌, Bool, true, false, List, [], ◌∷◌, ◌++◌, All, flat_map, length, map, nat_lt}
+use Rattle.std.specs.List.{Any, list_any}
 use Rattle.regress_found.specs.Found.{IsInside}
+use Rattle.regress_found.specs.declared.found.Match.{Match}
 use Rattle.regress_replace.specs.Order.{AreInOrder}
 use Rattle.regress.specs.Compiled.{groups_of, match_of}
 use Rattle.regress.specs.declared.pattern.Regex.{Regex}
 use Rattle.regex_options.specs.declared.task.Shown.{Shown}
 use Rattle.regex_options.specs.declared.task.Shown.TheVariants.{Lines, Matches, Json, Count, Names, Nothing}
 use Rattle.regex_lines.specs.Paint.{LinePaint, is_colored, painted_spans}
-use Rattle.regex_lines.specs.Reply.{matches_json, ended, matches_shown, spans_in, Run, TextMatches}
+use Rattle.regex_lines.specs.Reply.{AreFirstFound, match_json, matches_json, ended, matches_shown, shown_match, spans_in, Run, TextMatches}
 use Rattle.regex_lines.specs.declared.runs.TextMatches as code
 
 -- The texts are in order in the part of a line of this length from an offset on.
@@ -29,6 +30,10 @@ pub record AreInText (f : code.TextMatches) : Type 0 where
 abbrev pub HasMatch : List TextMatches → Type 0
 HasMatch found = Any (λ f. 0 < length f.matches) found
 
+-- the same as a test
+abbrev pub has_matches : List TextMatches → Bool
+has_matches found = list_any (λ f. nat_lt 0 (length f.matches)) found
+
 -- All matches of a selected line are needed to show it.
 abbrev pub needs_matches : Shown → LinePaint → Bool
 needs_matches Lines p = is_colored p.matched
@@ -46,3 +51,24 @@ shown_by r line Json p prefix found = flat_map (matches_json (groups_of r) prefi
 shown_by r line Count p prefix found = []
 shown_by r line Names p prefix found = []
 shown_by r line Nothing p prefix found = []
+
+-- what is written for a match where matches are shown, after what is in front
+abbrev pub match_by : Regex → Shown → LinePaint → (prefix : List ℕ) → Run → Match → List ℕ
+match_by r Lines p prefix run m = []
+match_by r Matches p prefix run m = shown_match p.matched prefix run.text m
+match_by r Json p prefix run m = prefix ++ match_json run (groups_of r) m
+match_by r Count p prefix run m = []
+match_by r Names p prefix run m = []
+match_by r Nothing p prefix run m = []
+
+-- the same for the matches in a text
+abbrev pub text_by : Regex → Shown → LinePaint → (prefix : List ℕ) → TextMatches → List ℕ
+text_by r shown p prefix f = flat_map (match_by r shown p prefix f.run) f.matches
+
+-- the same for the first matches in texts
+abbrev pub IsFirstBy : Regex → (texts : List Run) → Shown → LinePaint → (prefix bytes : List ℕ) → Type 0
+IsFirstBy r texts shown p prefix bytes = (found : List TextMatches) × AreFirstFound r texts found × (bytes ≡ flat_map (text_by r shown p prefix) found)
+
+-- nothing, or the same
+abbrev pub IsPartBy : Regex → (texts : List Run) → Shown → LinePaint → (prefix bytes : List ℕ) → Type 0
+IsPartBy r texts shown p prefix bytes = (bytes ≡ []) ⊎ IsFirstBy r texts shown p prefix bytes

@@ -1,5 +1,5 @@
 -- What is written for a line: the texts in which a pattern is searched, lines, matches, and matches as JSON (RFC 8259).
-use Rattle.std.specs.Prelude.{◌≡◌, ℕ, zero, suc, ◌+◌, ◌-◌, Bool, not, List, [], ◌∷◌, ◌++◌, All, drop, if◌then◌else◌, length, map, nat_lt, take, ◌==◌, codes, slice_range, flat_map, Option, Some, None, is_some, ◌||◌, ◌↔◌, true, false, IsTrue}
+use Rattle.std.specs.Prelude.{◌≡◌, ℕ, zero, suc, ◌+◌, ◌-◌, Bool, not, List, [], ◌∷◌, ◌++◌, All, drop, if◌then◌else◌, length, map, nat_lt, take, ◌==◌, codes, slice_range, flat_map, Option, Some, None, is_some, ◌||◌, ◌&&◌, ◌↔◌, true, false, IsTrue}
 use Rattle.std.specs.Str.{is_utf8}
 use Rattle.std.specs.Str.Lossy.{utf8_invalid_len, utf8_valid_len}
 use Rattle.std.specs.Fmt.{decimal}
@@ -9,7 +9,7 @@ use Rattle.regex_options.specs.declared.task.Shown.TheVariants.{Lines, Matches, 
 use Rattle.regex_options.specs.declared.task.Shown.{Shown}
 use Rattle.regress.specs.Compiled.{outcomes_of, groups_of, match_of}
 use Rattle.regress.specs.Groups.{group_span}
-use Rattle.regress.specs.Replaced.{ReplacesAll, ReplacesFirstN}
+use Rattle.regress.specs.Replaced.{AreFirstMatches, ReplacesAll, ReplacesFirstN}
 use Rattle.regress.specs.Searched.{MatchesSomewhere}
 use Rattle.regress.specs.declared.pattern.Regex.{Regex}
 use Rattle.regress_display.specs.Fault.{json_text}
@@ -75,6 +75,19 @@ matches_of f = record { run = run_of f.run; matches = map match_of f.matches.ite
 pub record AreSearched (r : Regex) (texts : List Run) (found : List TextMatches) : Type 0 where
   pub texts_are : map (λ f. f.run) found ≡ texts
   pub all : All (λ f. AreAllMatches f.run.text (outcomes_of r f.run.text) f.matches) found
+
+-- These are the first matches of the pattern in the texts, in order: all those in the first texts, and the first n in the next.
+pub record AreFirstFound (r : Regex) (texts : List Run) (found : List TextMatches) : Type 0 where
+  pub done : List Run
+  pub next : Run
+  pub others : List Run
+  pub texts_are : texts ≡ done ++ next ∷ others
+  pub before : List TextMatches
+  pub searched : AreSearched r done before
+  pub n : ℕ
+  pub first : List Match
+  pub are_first : AreFirstMatches next.text (outcomes_of r next.text) n first
+  pub is : found ≡ before ++ record { run = next; matches = first } ∷ []
 
 -- the spans in the line of the matches in a text that are not empty
 abbrev pub spans_in : TextMatches → List Span
@@ -164,6 +177,34 @@ module _ (r : Regex) (line : List ℕ) (texts : List Run) where
   ShowsIf true shown p prefix bytes = Shows shown p prefix bytes
   ShowsIf false shown p prefix bytes = bytes ≡ []
 
+module _ (r : Regex) (texts : List Run) where
+  -- what is written for the first matches in the texts
+  abbrev pub ShowsFirstMatches : (List TextMatches → List ℕ) → (bytes : List ℕ) → Type 0
+  ShowsFirstMatches written bytes = (found : List TextMatches) × AreFirstFound r texts found × (bytes ≡ written found)
+
+  -- the same where matches are shown, after what is in front of each
+  abbrev pub ShowsFirst : Shown → LinePaint → (prefix bytes : List ℕ) → Type 0
+  ShowsFirst Lines p prefix bytes = ⊥
+  ShowsFirst Matches p prefix bytes = ShowsFirstMatches (flat_map (matches_shown p.matched prefix)) bytes
+  ShowsFirst Json p prefix bytes = ShowsFirstMatches (flat_map (matches_json (groups_of r) prefix)) bytes
+  ShowsFirst Count p prefix bytes = ⊥
+  ShowsFirst Names p prefix bytes = ⊥
+  ShowsFirst Nothing p prefix bytes = ⊥
+
+-- whether matches are shown
+abbrev pub shows_matches : Shown → Bool
+shows_matches Lines = false
+shows_matches Matches = true
+shows_matches Json = true
+shows_matches Count = false
+shows_matches Names = false
+shows_matches Nothing = false
+
+-- whether matches are written as they are found: if only matches of selected lines are shown
+abbrev pub writes_matches : Job → Bool
+writes_matches (matching s colors) = shows_matches s.shown && (not s.invert && not (is_some s.context))
+writes_matches (replacing p) = false
+
 -- a line feed, if there is to be one
 abbrev pub feed_if : Bool → List ℕ
 feed_if ended = if ended then codes "\n" else []
@@ -228,3 +269,9 @@ module _ (r : Regex) (line : List ℕ) where
   -- the same for the texts of the line
   abbrev pub IsReply : (ended : Bool) → Job → (prefix : List ℕ) → (selected : Bool) → (count : ℕ) → (bytes : List ℕ) → Type 0
   IsReply ended job prefix selected count bytes = IsReplyIn (texts_of line) ended job prefix selected count bytes
+
+  -- what is written for the first matches of the line, if matches are written as they are found
+  abbrev pub IsFirstReply : Job → (prefix bytes : List ℕ) → Type 0
+  IsFirstReply (matching s colors) prefix bytes =
+      (writes_matches (matching s colors) ≡ true) × ShowsFirst r (texts_of line) s.shown (line_paint_in colors false s.invert) prefix bytes
+  IsFirstReply (replacing p) prefix bytes = ⊥

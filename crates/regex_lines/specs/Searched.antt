@@ -18,7 +18,7 @@ use Rattle.regress.specs.declared.pattern.Regex.{Regex}
 use Rattle.regress_arguments.specs.Output.{Took}
 use Rattle.regex_lines.specs.Near.{ShowsNear}
 use Rattle.regex_lines.specs.Paint.{paint_in, painted}
-use Rattle.regex_lines.specs.Reply.{IsReply, ended, json_prefix}
+use Rattle.regex_lines.specs.Reply.{IsFirstReply, IsReply, ended, json_prefix}
 use Rattle.regex_lines.specs.Unread.{IsAdded, Unread}
 use Rattle.regex_lines.specs.declared.paint.Part.TheVariants.{Name, Number, Separator}
 use Rattle.regex_lines.specs.declared.place.Place.{Place}
@@ -272,6 +272,15 @@ module _ (r : Regex) (job : Job) (place : Named) where
   IsFound false number line selected count bytes =
       IsReply r line.bytes line.ended job (prefix_of false job place number) selected count bytes
 
+  -- nothing, or what is written for the first matches of the line with this number, if matches are written as they are found
+  abbrev pub IsFirstOrNone : (number : ℕ) → (line bytes : List ℕ) → Type 0
+  IsFirstOrNone number line bytes = (bytes ≡ []) ⊎ IsFirstReply r line job (prefix_of false job place number) bytes
+
+  -- What is written for a line with this number of which the search fails.
+  abbrev pub IsBegunLine : (enough : Bool) → (number : ℕ) → Line → (bytes : List ℕ) → Type 0
+  IsBegunLine true number line bytes = bytes ≡ []
+  IsBegunLine false number line bytes = (bytes ≡ []) ⊎ (IsAccepted place.encoding line.bytes × IsFirstReply r line.bytes job (prefix_of false job place number) bytes)
+
   -- One line further.
   abbrev pub IsShownLine : (selected : Bool) → Progress → (line : List ℕ) → (count : ℕ) → (bytes : List ℕ) → Progress → Type 0
   IsShownLine true p line count bytes q = IsSelectedLine p count bytes q
@@ -314,6 +323,32 @@ module _ (r : Regex) (job : Job) where
   -- the first lines of an input were searched, and what is printed of them was written
   abbrev pub PrintsLines : Named → (input old new : Option (List ℕ)) → Type 0
   PrintsLines place input old new = (p : Progress) × IsSearched place input false p × Appends old new (printed job p)
+
+  -- The first lines of an input were searched in order, and the search of the next one failed, for which this was written.
+  pub record IsSearchedInto (place : Named) (input : Option (List ℕ)) (p : Progress) (more : List ℕ) : Type 0 where
+    pub lines : List Line
+    pub next : Line
+    pub are : AreLinesOf place.multiline input false (lines ++ next ∷ [])
+    pub steps : FoldsTo (IsStep place) at_start lines p
+    pub begun : IsBegunLine r job place (is_enough job p.selected) (p.lines + 1) next more
+
+  -- The first lines of an input were searched, and nothing was written for the next one, or the search of the next one failed.
+  abbrev pub IsSearchedTo : Named → (input : Option (List ℕ)) → Progress → (more : List ℕ) → Type 0
+  IsSearchedTo place input p more = (IsSearched place input false p × (more ≡ [])) ⊎ IsSearchedInto place input p more
+
+  -- a part of an input was searched, and its output was written
+  abbrev pub SearchesPart : Named → (input old new : Option (List ℕ)) → Type 0
+  SearchesPart place input old new = (p : Progress) × (more : List ℕ) × IsSearchedTo place input p more × Appends old new (p.written ++ more)
+
+  -- what is printed for a part of an input
+  pub record IsPrintedPart (place : Named) (input : Option (List ℕ)) (bytes : List ℕ) : Type 0 where
+    pub progress : Progress
+    pub more : List ℕ
+    pub searched : IsSearchedTo place input progress more
+    pub is : bytes ≡ printed job progress ++ more
+
+  abbrev pub PrintsPart : Named → (input old new : Option (List ℕ)) → Type 0
+  PrintsPart place input old new = Took old new (IsPrintedPart place input)
 
 -- an input: its name, and its bytes if they are known
 abbrev pub Input : Type 0
@@ -433,12 +468,12 @@ module _ (r : Regex) (job : Job) where
   WritesInputs inputs old new unread any =
       (bytes : List ℕ) × FoldsTo IsInputStep nothing inputs (record { any = any; unread = unread; written = bytes }) × Appends old new bytes
 
-  -- what is written for the first lines of the first input, if there is one
+  -- what is written for a part of the first input, if there is one
   abbrev pub IsBegun : (any : Bool) → List Input → (bytes : List ℕ) → Type 0
   IsBegun any [] bytes = bytes ≡ []
-  IsBegun any (input ∷ others) bytes = (p : Progress) × IsSearched r job (following any input.0) input.1 false p × (bytes ≡ printed job p)
+  IsBegun any (input ∷ others) bytes = IsPrintedPart r job (following any input.0) input.1 bytes
 
-  -- what is written for the first inputs, of which these were not read, and the first lines of the next one
+  -- what is written for the first inputs, of which these were not read, and a part of the next one
   pub record IsFirst (inputs : List Input) (unread : List Unread) (bytes : List ℕ) : Type 0 where
     pub before : List Input
     pub others : List Input

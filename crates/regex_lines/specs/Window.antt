@@ -2,7 +2,8 @@
 use Rattle.std.specs.Prelude.{◌≡◌, ◌⊎◌, ℕ, ◌+◌, ◌-◌, ◌<◌, ◌≤◌, Bool, true, false, List, [], ◌∷◌, ◌++◌, length, map, nat_lt, if◌then◌else◌, ◌==◌}
 use Rattle.regex_options.specs.Plain.{Job}
 use Rattle.regress.specs.declared.pattern.Regex.{Regex}
-use Rattle.regex_lines.specs.Searched.{AreNear, IsAccepted, IsFound, IsNear, Line, Named, colors_of, context_of, is_enough, last_of, lines_after, lines_before, separator}
+use Rattle.regex_lines.specs.Reply.{IsReply}
+use Rattle.regex_lines.specs.Searched.{AreNear, IsAccepted, IsFound, IsNear, Line, Named, colors_of, context_of, is_enough, last_of, lines_after, lines_before, prefix_of, separator}
 use Rattle.regex_lines.specs.declared.window.Window as code
 
 -- The numbers of lines and of selected lines or matches, how many lines are shown after the last selected one, the last lines since
@@ -73,6 +74,13 @@ module _ (r : Regex) (job : Job) (place : Named) where
       ((front : List ℕ) × IsInFront old front × (added ≡ front ++ bytes))
       × (new ≡ with_selected (old.selected + count) (lines_after (context_of job)) old)
   IsShown false old line count bytes new added = IsOther old line new added
+
+  -- what is written for a line of which the matches are written as they are found
+  pub record IsShownBy (old : Window) (line : List ℕ) (new : Window) (added : List ℕ) : Type 0 where
+    pub selected : Bool
+    pub bytes : List ℕ
+    pub reply : IsReply r line false job (prefix_of false job place (old.number + 1)) selected 1 bytes
+    pub shown : IsShown selected old line 1 bytes new added
 
   -- The next line was searched, and this was written.
   pub record IsNextLine (old : Window) (line : Line) (new : Window) (added : List ℕ) : Type 0 where

@@ -1,8 +1,8 @@
 //! The files that are searched, or standard input.
 ghost use Rattle.std.specs.Prelude.{◌≡◌, [], IfOk, IfErr, None, false, is_some, map, string_bytes, true};
-ghost use Rattle.regex_lines.specs.Ending.{IsCostly, IsInputFailure, IsSearchFailure, OrOutput};
+ghost use Rattle.regex_lines.specs.Ending.{AfterFailure, IsCostly, IsInputFailure, IsSearchFailure, OrOutput};
 ghost use Rattle.regex_lines.specs.Left.{left_of};
-ghost use Rattle.regex_lines.specs.Searched.{AddsInput, WritesInput, WritesInputs, WritesSomeOf, bytes_of, following, has_nulls, has_ended, inputs_of, is_in_place, left_after, named, place_of, shows_names, PrintsLines};
+ghost use Rattle.regex_lines.specs.Searched.{AddsInput, WritesInput, WritesInputs, WritesSomeOf, bytes_of, following, has_nulls, has_ended, inputs_of, is_in_place, left_after, named, place_of, shows_names, PrintsLines, PrintsPart};
 ghost use Rattle.regex_lines.specs.Unread.{IsSkipped, all_unread};
 ghost use Rattle.regex_options.specs.Plain.{job};
 
@@ -46,8 +46,8 @@ pub struct FileSearch<'a> {
 /// of them the search goes on with the next.
 ///
 /// # Errors
-/// The result is a failure of the output, of a search or of memory, or that an input is too long. What was written for the
-/// first lines may have been written to `out` before it.
+/// The result is a failure of the output, of a search or of memory, or that an input is too long. Before it, what is written
+/// for the first lines was written to `out`, and for the first matches of the next line where only matches are shown.
 pub fn search_all<'a, R: Files + AllocGlobal, I: Read + Drop, W: Write>(
     rt: &R,
     regex: &Regex,
@@ -160,7 +160,7 @@ fn search_next<'a, R: Files, I: Read + Drop, W: Write>(
 ) -> Result<bool, Failure<'a>>
     ensures all { IfOk result (AddsInput search.entry.searcher.now.regex.now (job search.entry.task) (named search.entry.place) (bytes_of search.entry.place.file.now (left_of I.remaining left.old))
         (W.contents out.old) (W.contents out.new) (all_unread unread.old) (all_unread unread.new)) }
-    ensures first { IfErr result (OrOutput (PrintsLines search.entry.searcher.now.regex.now (job search.entry.task) (named search.entry.place) (bytes_of search.entry.place.file.now (left_of I.remaining left.old)) (W.contents out.old) (W.contents out.new))) }
+    ensures first { IfErr result (OrOutput (PrintsPart search.entry.searcher.now.regex.now (job search.entry.task) (named search.entry.place) (bytes_of search.entry.place.file.now (left_of I.remaining left.old)) (W.contents out.old) (W.contents out.new))) }
     ensures kept { IfErr result (λ _. all_unread unread.new ≡ all_unread unread.old) }
     ensures failed { IfErr result (IsSearchFailure (IsCostly search.entry.searcher.now.regex.now)) }
     ensures after { left_of I.remaining left.new ≡ left_after search.entry.place.file.now (left_of I.remaining left.old) }
@@ -191,7 +191,7 @@ fn search_left<'a, I: Read + Drop, W: Write>(
 ) -> Result<bool, Failure<'a>>
     ensures all { IfOk result (AddsInput search.entry.searcher.now.regex.now (job search.entry.task) (named search.entry.place) (left_of I.remaining left)
         (W.contents out.old) (W.contents out.new) (all_unread unread.old) (all_unread unread.new)) }
-    ensures first { IfErr result (OrOutput (PrintsLines search.entry.searcher.now.regex.now (job search.entry.task) (named search.entry.place) (left_of I.remaining left) (W.contents out.old) (W.contents out.new))) }
+    ensures first { IfErr result (OrOutput (PrintsPart search.entry.searcher.now.regex.now (job search.entry.task) (named search.entry.place) (left_of I.remaining left) (W.contents out.old) (W.contents out.new))) }
     ensures kept { IfErr result (λ _. all_unread unread.new ≡ all_unread unread.old) }
     ensures failed { IfErr result (IsSearchFailure (IsCostly search.entry.searcher.now.regex.now)) }
 {
@@ -212,7 +212,7 @@ fn search_taken<'a, I: Read + Drop, W: Write>(
     requires { is_in_place (job search.task) ≡ false }
     ensures all { IfOk result (AddsInput search.entry.searcher.now.regex.now (job search.entry.task) (named search.entry.place) (left_of I.remaining left)
         (W.contents out.old) (W.contents out.new) (all_unread unread.old) (all_unread unread.new)) }
-    ensures first { IfErr result (OrOutput (PrintsLines search.entry.searcher.now.regex.now (job search.entry.task) (named search.entry.place) (left_of I.remaining left) (W.contents out.old) (W.contents out.new))) }
+    ensures first { IfErr result (OrOutput (PrintsPart search.entry.searcher.now.regex.now (job search.entry.task) (named search.entry.place) (left_of I.remaining left) (W.contents out.old) (W.contents out.new))) }
     ensures kept { IfErr result (λ _. all_unread unread.new ≡ all_unread unread.old) }
     ensures failed { IfErr result (IsSearchFailure (IsCostly search.entry.searcher.now.regex.now)) }
 {
@@ -231,7 +231,7 @@ fn search_file<'a, R: Files, W: Write>(
 ) -> Result<bool, Failure<'a>>
     ensures all { IfOk result (AddsInput search.entry.searcher.now.regex.now (job search.entry.task) (named search.entry.place) None
         (W.contents out.old) (W.contents out.new) (all_unread unread.old) (all_unread unread.new)) }
-    ensures first { IfErr result (OrOutput (PrintsLines search.entry.searcher.now.regex.now (job search.entry.task) (named search.entry.place) None (W.contents out.old) (W.contents out.new))) }
+    ensures first { IfErr result (OrOutput (PrintsPart search.entry.searcher.now.regex.now (job search.entry.task) (named search.entry.place) None (W.contents out.old) (W.contents out.new))) }
     ensures kept { IfErr result (λ _. all_unread unread.new ≡ all_unread unread.old) }
     ensures failed { IfErr result (IsSearchFailure (IsCostly search.entry.searcher.now.regex.now)) }
 {
@@ -252,7 +252,7 @@ fn rewrite_next<'a, R: Files, W: Write>(
     requires { is_in_place (job search.task) ≡ true }
     ensures all { IfOk result (AddsInput search.entry.searcher.now.regex.now (job search.entry.task) (named search.entry.place) None
         (W.contents out.old) (W.contents out.new) (all_unread unread.old) (all_unread unread.new)) }
-    ensures first { IfErr result (OrOutput (PrintsLines search.entry.searcher.now.regex.now (job search.entry.task) (named search.entry.place) None (W.contents out.old) (W.contents out.new))) }
+    ensures first { IfErr result (OrOutput (PrintsPart search.entry.searcher.now.regex.now (job search.entry.task) (named search.entry.place) None (W.contents out.old) (W.contents out.new))) }
     ensures kept { IfErr result (λ _. all_unread unread.new ≡ all_unread unread.old) }
     ensures failed { IfErr result (IsSearchFailure (IsCostly search.entry.searcher.now.regex.now)) }
 {
@@ -272,7 +272,7 @@ fn open_file<'a, R: Files, W: Write>(
     requires { is_in_place (job search.task) ≡ false }
     ensures all { IfOk result (AddsInput search.entry.searcher.now.regex.now (job search.entry.task) (named search.entry.place) None
         (W.contents out.old) (W.contents out.new) (all_unread unread.old) (all_unread unread.new)) }
-    ensures first { IfErr result (OrOutput (PrintsLines search.entry.searcher.now.regex.now (job search.entry.task) (named search.entry.place) None (W.contents out.old) (W.contents out.new))) }
+    ensures first { IfErr result (OrOutput (PrintsPart search.entry.searcher.now.regex.now (job search.entry.task) (named search.entry.place) None (W.contents out.old) (W.contents out.new))) }
     ensures kept { IfErr result (λ _. all_unread unread.new ≡ all_unread unread.old) }
     ensures failed { IfErr result (IsSearchFailure (IsCostly search.entry.searcher.now.regex.now)) }
 {
@@ -293,7 +293,7 @@ fn search_input<'a, I: Read + Drop, W: Write>(
     requires { is_in_place (job search.task) ≡ false }
     ensures all { IfOk result (AddsInput search.entry.searcher.now.regex.now (job search.entry.task) (named search.entry.place) (I.remaining input)
         (W.contents out.old) (W.contents out.new) (all_unread unread.old) (all_unread unread.new)) }
-    ensures first { IfErr result (OrOutput (PrintsLines search.entry.searcher.now.regex.now (job search.entry.task) (named search.entry.place) (I.remaining input) (W.contents out.old) (W.contents out.new))) }
+    ensures first { IfErr result (OrOutput (PrintsPart search.entry.searcher.now.regex.now (job search.entry.task) (named search.entry.place) (I.remaining input) (W.contents out.old) (W.contents out.new))) }
     ensures kept { IfErr result (λ _. all_unread unread.new ≡ all_unread unread.old) }
     ensures failed { IfErr result (IsSearchFailure (IsCostly search.entry.searcher.now.regex.now)) }
 {
@@ -331,7 +331,8 @@ fn read_input<'a, I: Read + Drop, W: Write>(
 ) -> Result<bool, Failure<'a>>
     requires { is_in_place (job search.task) ≡ false }
     ensures all { IfOk result (WritesInput search.entry.searcher.now.regex.now (job search.entry.task) (named search.entry.place) (I.remaining input) (W.contents out.old) (W.contents out.new)) }
-    ensures first { IfErr result (OrOutput (PrintsLines search.entry.searcher.now.regex.now (job search.entry.task) (named search.entry.place) (I.remaining input) (W.contents out.old) (W.contents out.new))) }
+    ensures first { IfErr result (AfterFailure (PrintsLines search.entry.searcher.now.regex.now (job search.entry.task) (named search.entry.place) (I.remaining input) (W.contents out.old) (W.contents out.new))
+        (PrintsPart search.entry.searcher.now.regex.now (job search.entry.task) (named search.entry.place) (I.remaining input) (W.contents out.old) (W.contents out.new))) }
     ensures failed { IfErr result (IsInputFailure (IsCostly search.entry.searcher.now.regex.now)) }
 {
     match BufReader::new(search.searcher.alloc, input) {
@@ -348,7 +349,8 @@ fn search_reader<'a, B: BufRead, W: Write>(
 ) -> Result<bool, Failure<'a>>
     requires { is_in_place (job search.task) ≡ false }
     ensures all { IfOk result (WritesInput search.entry.searcher.now.regex.now (job search.entry.task) (named search.entry.place) (B.Read.remaining reader.old) (W.contents out.old) (W.contents out.new)) }
-    ensures first { IfErr result (OrOutput (PrintsLines search.entry.searcher.now.regex.now (job search.entry.task) (named search.entry.place) (B.Read.remaining reader.old) (W.contents out.old) (W.contents out.new))) }
+    ensures first { IfErr result (AfterFailure (PrintsLines search.entry.searcher.now.regex.now (job search.entry.task) (named search.entry.place) (B.Read.remaining reader.old) (W.contents out.old) (W.contents out.new))
+        (PrintsPart search.entry.searcher.now.regex.now (job search.entry.task) (named search.entry.place) (B.Read.remaining reader.old) (W.contents out.old) (W.contents out.new))) }
     ensures failed { IfErr result (IsInputFailure (IsCostly search.entry.searcher.now.regex.now)) }
 {
     let selected = search_lines(search, reader, out)?;

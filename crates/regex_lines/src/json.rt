@@ -44,10 +44,26 @@ fn add_json(
     ensures { OnOk result (to.new.items ≡ to.old.items ++ matches_json (groups_of regex.now) prefix.now (matches_of text.now)) }
 {
     for found in &text.matches {
-        to.extend_from_slice(prefix)?;
-        to.extend_from_slice(match_json(alloc, regex, text.run, found)?.as_bytes())?;
+        add_match_json(alloc, regex, prefix, text.run, found, to)?;
     }
     Ok(())
+}
+
+/// Adds an object for a match on a line, with `prefix` in front.
+pub(crate) fn add_match_json(
+    alloc: Global,
+    regex: &Regex,
+    prefix: &[u8],
+    run: Run<'_>,
+    found: &Match<'_>,
+    to: &mut Vec<u8>,
+) -> Result<(), AllocError>
+    requires offsets { HasOffsets (run_of run) }
+    requires inside { IsInside run.text.now (match_of found.now) }
+    ensures { OnOk result (to.new.items ≡ to.old.items ++ (prefix.now ++ match_json (run_of run.entry) (groups_of regex.now) (match_of found.now))) }
+{
+    to.extend_from_slice(prefix)?;
+    to.extend_from_slice(match_json(alloc, regex, run, found)?.as_bytes())
 }
 
 /// Returns the members of the object of a match, and its end.

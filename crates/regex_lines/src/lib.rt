@@ -4,6 +4,7 @@
 mod failure;
 mod inputs;
 mod json;
+mod matches;
 mod paint;
 mod painting;
 mod place;

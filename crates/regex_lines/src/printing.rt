@@ -62,3 +62,12 @@ pub fn flush<'a, W: Write>(out: &mut W) -> Result<(), Failure<'a>>
         Err(error) => Err(output_failure(error)),
     }
 }
+
+/// Flushes the output if it is to be.
+pub(crate) fn flush_if<'a, W: Write>(at_once: bool, out: &mut W) -> Result<(), Failure<'a>>
+    ensures kept { Keeps (W.contents out.old) (W.contents out.new) }
+    ensures output { IfErr result IsOutputFailure }
+    ensures late { IfErr result IsLate }
+{
+    if at_once { flush(out) } else { Ok(()) }
+}

@@ -1,11 +1,13 @@
 //! What is written for a line.
 ghost use Rattle.std.specs.Prelude.{◌≡◌, ◌↔◌, ◌++◌, ℕ, List, All, IfErr, IfOk, IfSome, IsTrue, OnOk, false, flat_map, if◌then◌else◌, length, map, not, option_map, string_bytes, true};
+ghost use Rattle.regress_found.specs.Found.{IsInside};
+ghost use Rattle.regress.specs.Compiled.{match_of};
 ghost use Rattle.regex_options.specs.Colors.{plain_colors};
 ghost use Rattle.regex_options.specs.Plain.{job, replacement as replacement_of};
 ghost use Rattle.regex_lines.specs.Ending.{IsCostly, IsSearchError};
 ghost use Rattle.regex_lines.specs.InLine.{AreInLine, AreInText, HasMatch, needs_matches, shown_by};
 ghost use Rattle.regex_lines.specs.Near.{ShowsNear, ShowsNearBy, plain};
-ghost use Rattle.regex_lines.specs.Reply.{IsReplacedCount, IsReplacedFrom, IsReply, IsReplyIn, IsSelected, MatchesIn, ReplacesUpTo, Shows, ShowsIf, ShowsReplaced, ShowsReplacedIf, CountsFor, at_most, ended, feed_if, match_count, matches_shown, AreSearched, matches_of, run_of, texts_of, utf8_runs, whole, writes_lines};
+ghost use Rattle.regex_lines.specs.Reply.{IsReplacedCount, IsReplacedFrom, IsReply, IsReplyIn, IsSelected, MatchesIn, ReplacesUpTo, Shows, ShowsIf, ShowsReplaced, ShowsReplacedIf, CountsFor, at_most, ended, feed_if, match_count, matches_shown, shown_match, AreSearched, matches_of, run_of, texts_of, utf8_runs, whole, writes_lines};
 ghost use Rattle.regex_lines.specs.Paint.{line_paint_in, line_paint_of, paint_of, painted, painted_rest};
 ghost use Rattle.regex_lines.specs.Prefix.{text_of};
 
@@ -16,17 +18,17 @@ use crate::prefix::{Prefix, prefix_text};
 use crate::runs::{Run, TextMatches, texts_of, utf8_runs};
 use crate::searcher::Searcher;
 use regex_options::{Colors, Replacement, Selection, Shown, Task};
-use regress::SearchError;
+use regress::{Match, SearchError};
 use std::alloc::{AllocError, Global};
 use std::str;
 
 /// What is shown of which lines, and how it is painted.
 #[derive(Clone, Copy)]
-struct Show<'a> {
-    shown: Shown,
+pub(crate) struct Show<'a> {
+    pub(crate) shown: Shown,
     /// Whether the lines without a match are selected.
     invert: bool,
-    paint: LinePaint<'a>,
+    pub(crate) paint: LinePaint<'a>,
 }
 
 /// Whether a line is selected, for how many it counts then, and what is written for it.
@@ -64,7 +66,11 @@ pub(crate) fn reply_to(
 }
 
 /// Returns what is shown of lines that are selected, or near selected ones.
-fn show_of<'a>(selection: Selection, colors: Option<&'a Colors<'a>>, near: bool) -> Show<'a>
+pub(crate) fn show_of<'a>(
+    selection: Selection,
+    colors: Option<&'a Colors<'a>>,
+    near: bool,
+) -> Show<'a>
     ensures shown { result.shown ≡ selection.shown }
     ensures invert { result.invert ≡ selection.invert }
     ensures paint { line_paint_of result.paint ≡ line_paint_in (option_map (λ colors. plain_colors colors.now) colors.entry) near selection.invert }
@@ -413,10 +419,25 @@ fn add_matches(
     ensures { OnOk result (to.new.items ≡ to.old.items ++ matches_shown (paint_of paint.entry) prefix.now (matches_of text.now)) }
 {
     for found in &text.matches {
-        let matched = &text.run.text[found.start()..found.end()];
-        if !matched.is_empty() {
-            add_match(paint, prefix, matched, to)?;
-        }
+        add_shown_match(paint, prefix, text.run, found, to)?;
+    }
+    Ok(())
+}
+
+/// Adds a line with a match, with `prefix` in front, unless it is empty.
+pub(crate) fn add_shown_match(
+    paint: Paint<'_>,
+    prefix: &[u8],
+    run: Run<'_>,
+    found: &Match<'_>,
+    to: &mut Vec<u8>,
+) -> Result<(), AllocError>
+    requires { IsInside run.text.now (match_of found.now) }
+    ensures { OnOk result (to.new.items ≡ to.old.items ++ shown_match (paint_of paint.entry) prefix.now run.entry.text.now (match_of found.now)) }
+{
+    let matched = &run.text[found.start()..found.end()];
+    if !matched.is_empty() {
+        add_match(paint, prefix, matched, to)?;
     }
     Ok(())
 }

@@ -62,7 +62,7 @@ impl<'r> Searcher<'r> {
     }
 
     /// Returns whether a literal is known that each match contains and that does not occur in `text`.
-    fn lacks_literal(&self, text: &str) -> bool
+    pub(crate) fn lacks_literal(&self, text: &str) -> bool
         ensures { result ≡ true → MatchesSomewhere text.now (outcomes_of self.now.regex.now text.now) → ⊥ }
     {
         match &self.literal {

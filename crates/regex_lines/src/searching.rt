@@ -1,22 +1,23 @@
 //! Searches the lines of an input.
 ghost use Rattle.std.specs.Prelude.{◌≡◌, ℕ, ◌+◌, ◌-◌, ◌<◌, ◌≤◌, List, [], ◌++◌, IfOk, IfErr, OnOk, false, if◌then◌else◌, length, map, option_map, true};
 ghost use Rattle.std.specs.Io.KnownBytes.{Appends};
-ghost use Rattle.regex_lines.specs.Reply.{IsReply};
+ghost use Rattle.regex_lines.specs.Reply.{IsReply, shows_matches, writes_matches};
 ghost use Rattle.regex_lines.specs.Reading.{IsRead};
 ghost use Rattle.regress_arguments.specs.Output.{Took};
-ghost use Rattle.regex_lines.specs.Ending.{IsCostly, IsInputFailure, OrOutput};
+ghost use Rattle.regex_lines.specs.Ending.{AfterFailure, IsCostly, IsInputFailure, IsSearchFailure, OrOutput};
 ghost use Rattle.regex_options.specs.Colors.{plain_colors};
 ghost use Rattle.regex_options.specs.Plain.{job};
-ghost use Rattle.regex_lines.specs.Searched.{AreNear, IsAccepted, IsFound, IsNear, colors_of, named, SearchesAll, SearchesFirst, context_of, lines_after, lines_before, prefix_of, is_enough, is_over, needs_one, reaches, separator, shown_at_end, written_at_end};
-ghost use Rattle.regex_lines.specs.Window.{IsCounted, IsInFront, IsNextLine, IsOther, IsShown, separator_of, window_of};
+ghost use Rattle.regex_lines.specs.Searched.{AreNear, IsAccepted, IsBegunLine, IsFirstOrNone, IsFound, IsNear, colors_of, named, SearchesAll, SearchesFirst, SearchesPart, context_of, lines_after, lines_before, prefix_of, is_enough, is_over, needs_one, reaches, separator, shown_at_end, written_at_end};
+ghost use Rattle.regex_lines.specs.Window.{IsCounted, IsInFront, IsNextLine, IsOther, IsShown, IsShownBy, separator_of, window_of};
 
 use crate::failure::{Failure, read_failure};
+use crate::matches::{MatchWriter, write_matches};
 use crate::paint::{Part, add_painted, paint_in};
 use crate::place::Place;
 use crate::prefix::{Prefix, add_name_in_front, add_name_line, colors_of};
-use crate::printing::{write_at, write_bytes};
+use crate::printing::{flush_if, write_at, write_bytes};
 use crate::reading::{Next, is_ended, is_last, read_next};
-use crate::reply::{Reply, near, reply_to};
+use crate::reply::{Reply, near, reply_to, show_of};
 use crate::searcher::Searcher;
 use crate::unread::{Reason, Unread};
 use crate::window::Window;
@@ -61,7 +62,8 @@ pub(crate) fn search_lines<'a, B: BufRead, W: Write>(
     out: &mut W,
 ) -> Result<u64, Failure<'a>>
     ensures all { IfOk result (SearchesAll search.entry.searcher.now.regex.now (job search.entry.task) (named search.entry.place) (B.Read.remaining reader.old) (W.contents out.old) (W.contents out.new)) }
-    ensures first { IfErr result (OrOutput (SearchesFirst search.entry.searcher.now.regex.now (job search.entry.task) (named search.entry.place) (B.Read.remaining reader.old) (W.contents out.old) (W.contents out.new))) }
+    ensures first { IfErr result (AfterFailure (SearchesFirst search.entry.searcher.now.regex.now (job search.entry.task) (named search.entry.place) (B.Read.remaining reader.old) (W.contents out.old) (W.contents out.new))
+        (SearchesPart search.entry.searcher.now.regex.now (job search.entry.task) (named search.entry.place) (B.Read.remaining reader.old) (W.contents out.old) (W.contents out.new))) }
     ensures failed { IfErr result (IsInputFailure (IsCostly search.entry.searcher.now.regex.now)) }
 {
     let mut line = Vec::new(search.searcher.alloc);
@@ -145,7 +147,8 @@ fn next_line<'a, B: BufRead>(
     }
 }
 
-/// Searches the next line, unless enough lines are selected, and writes what is shown. Another line may be in `line` then.
+/// Searches the next line, unless enough lines are selected, and writes what is shown: matches as they are found, if only these
+/// are shown. Another line may be in `line` then.
 fn search_line<'a, W: Write>(
     search: InputSearch<'_, 'a>,
     window: &mut Window,
@@ -159,14 +162,116 @@ fn search_line<'a, W: Write>(
     ensures next { OnOk result (Took (W.contents out.old) (W.contents out.new)
         (IsNextLine search.entry.searcher.now.regex.now (job search.entry.task) (named search.entry.place) (window_of window.old) (record { bytes = line.old.items; ended = ended }) (window_of window.new))) }
     ensures failed { IfErr result (IsInputFailure (IsCostly search.entry.searcher.now.regex.now)) }
-    ensures untouched { IfErr result (OrOutput (out.new ≡ out.old)) }
+    ensures part { IfErr result (AfterFailure (Appends (W.contents out.old) (W.contents out.new) []) (Took (W.contents out.old) (W.contents out.new)
+        (IsBegunLine search.entry.searcher.now.regex.now (job search.entry.task) (named search.entry.place) (is_enough (job search.entry.task) window.old.selected) (window.old.number + 1)
+        (record { bytes = line.old.items; ended = ended })))) }
 {
     accept(search, window.number + 1, line)?;
+    if writes_matches(search.task) && !is_enough(search.task, window.selected) {
+        return search_matches(search, window, line, out);
+    }
+    search_whole(search, window, line, ended, out)
+}
+
+/// Searches the next line, unless enough lines are selected, and then writes what is shown.
+fn search_whole<'a, W: Write>(
+    search: InputSearch<'_, 'a>,
+    window: &mut Window,
+    line: &mut Vec<u8>,
+    ended: bool,
+    out: &mut W,
+) -> Result<(), Failure<'a>>
+    requires below { window.old.number < u64.MAX }
+    requires counted { IsCounted (window_of window.old) }
+    requires kept { length window.old.hidden.items ≤ lines_before (context_of (job search.task)) }
+    requires accepted { IsAccepted search.place.form.encoding line.old.items }
+    ensures next { OnOk result (Took (W.contents out.old) (W.contents out.new)
+        (IsNextLine search.entry.searcher.now.regex.now (job search.entry.task) (named search.entry.place) (window_of window.old) (record { bytes = line.old.items; ended = ended }) (window_of window.new))) }
+    ensures failed { IfErr result (IsInputFailure (IsCostly search.entry.searcher.now.regex.now)) }
+    ensures untouched { IfErr result (OrOutput (out.new ≡ out.old)) }
+{
     let reply = found(search, window, line, ended)?;
     if reply.selected {
         show_selected(search, window, reply, out)
     } else {
         show_other(search, window, line, out)
+    }
+}
+
+/// Returns whether matches are written as they are found: if only matches of selected lines are shown.
+fn writes_matches(task: Task<'_>) -> bool
+    ensures { result ≡ writes_matches (job task.entry) }
+{
+    match task {
+        Task::Match(selection, _) => {
+            shows_matches(selection.shown) && !selection.invert && selection.context.is_none()
+        }
+        Task::Replace(_) => false,
+    }
+}
+
+/// Returns whether matches are shown.
+fn shows_matches(shown: Shown) -> bool
+    ensures { result ≡ shows_matches shown }
+{
+    match shown {
+        Shown::Matches | Shown::Json => true,
+        Shown::Lines | Shown::Count | Shown::Names | Shown::Nothing => false,
+    }
+}
+
+/// Searches the next line, and writes its matches as they are found.
+fn search_matches<'a, W: Write>(
+    search: InputSearch<'_, 'a>,
+    window: &mut Window,
+    line: &mut Vec<u8>,
+    out: &mut W,
+) -> Result<(), Failure<'a>>
+    requires below { window.old.number < u64.MAX }
+    requires kept { length window.old.hidden.items ≤ lines_before (context_of (job search.task)) }
+    requires writes { writes_matches (job search.task) ≡ true }
+    ensures shown { OnOk result (Took (W.contents out.old) (W.contents out.new) (IsShownBy search.entry.searcher.now.regex.now (job search.entry.task) (named search.entry.place)
+        (window_of window.old) line.old.items (window_of window.new))) }
+    ensures failed { IfErr result (IsInputFailure (IsCostly search.entry.searcher.now.regex.now)) }
+    ensures part { IfErr result (AfterFailure (Appends (W.contents out.old) (W.contents out.new) []) (Took (W.contents out.old) (W.contents out.new)
+        (IsFirstOrNone search.entry.searcher.now.regex.now (job search.entry.task) (named search.entry.place) (window.old.number + 1) line.old.items))) }
+{
+    let Some(selected) = window.selected.checked_add(1) else {
+        return Err(too_long(search));
+    };
+    if write_found(search, window.number + 1, line, out)? {
+        flush_if(search.at_once, out)?;
+        window.select(selected, lines_after(search.task));
+        Ok(())
+    } else {
+        show_other(search, window, line, out)
+    }
+}
+
+/// Writes the matches of the line with this number as they are found, and returns whether there is one.
+fn write_found<'a, W: Write>(
+    search: InputSearch<'_, 'a>,
+    number: u64,
+    line: &[u8],
+    out: &mut W,
+) -> Result<bool, Failure<'a>>
+    requires { writes_matches (job search.task) ≡ true }
+    ensures reply { IfOk result (λ selected. Took (W.contents out.old) (W.contents out.new) (λ bytes. IsReply search.entry.searcher.now.regex.now line.now false (job search.entry.task)
+        (prefix_of false (job search.entry.task) (named search.entry.place) number) selected 1 bytes)) }
+    ensures first { IfErr result (OrOutput (Took (W.contents out.old) (W.contents out.new)
+        (IsFirstOrNone search.entry.searcher.now.regex.now (job search.entry.task) (named search.entry.place) number line.now))) }
+    ensures failed { IfErr result (IsSearchFailure (IsCostly search.entry.searcher.now.regex.now)) }
+{
+    match search.task {
+        Task::Match(selection, colors) => {
+            let writer = MatchWriter {
+                searcher: search.searcher,
+                show: show_of(selection, colors, false),
+                prefix: search.prefix(number, false),
+            };
+            write_matches(writer, line, out)
+        }
+        Task::Replace(_) => Ok(false),
     }
 }
 

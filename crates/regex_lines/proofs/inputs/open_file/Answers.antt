@@ -2,7 +2,7 @@ use Rattle.std.proofs.Common.{inr, None, subst}
 use Rattle.regex_lines.specs.Searched.{named}
 use Rattle.regex_lines.specs.Unread.{IsSkipped, all_unread}
 use Rattle.regex_options.specs.Plain.{job}
-use Rattle.regex_lines.proofs.SearchLemmas.{nothing_printed}
+use Rattle.regex_lines.proofs.SearchLemmas.{lines_then, nothing_printed}
 use Rattle.regex_lines.proofs.SkipLemmas.{skipped}
 use Rattle.regex_lines.proofs.inputs.open_file.Goals as goal
 
@@ -13,7 +13,7 @@ returns-in-Err-clause-all g c =
     let place = named c.args.search.place in
     let out = g.W.Write.contents c.args.out.now in
     (skipped ⊥ r task place None out out (all_unread c.args.unread.now) (all_unread c.skip.new.unread) c.read_failure.result c.skip.result
-    (inr (nothing_printed r task place None out)) c.read_failure.ensures.search
+    (lines_then r task place None out out c.read_failure.result (inr (nothing_printed r task place None out))) c.read_failure.ensures.search
     (subst (λ name. IsSkipped c.read_failure.result name (all_unread c.args.unread.now) (all_unread c.skip.new.unread) c.skip.result) c.name-name.ensures c.skip.ensures)).all
 
 pub returns-in-Err-clause-first : goal.returns-in-Err-clause-first
@@ -23,5 +23,5 @@ returns-in-Err-clause-first g c =
     let place = named c.args.search.place in
     let out = g.W.Write.contents c.args.out.now in
     (skipped ⊥ r task place None out out (all_unread c.args.unread.now) (all_unread c.skip.new.unread) c.read_failure.result c.skip.result
-    (inr (nothing_printed r task place None out)) c.read_failure.ensures.search
+    (lines_then r task place None out out c.read_failure.result (inr (nothing_printed r task place None out))) c.read_failure.ensures.search
     (subst (λ name. IsSkipped c.read_failure.result name (all_unread c.args.unread.now) (all_unread c.skip.new.unread) c.skip.result) c.name-name.ensures c.skip.ensures)).first

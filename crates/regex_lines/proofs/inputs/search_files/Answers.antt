@@ -2,7 +2,7 @@ use Rattle.std.proofs.Common.{◌≡◌, ◌∙◌, ap, map, sym, subst}
 use Rattle.std.specs.Prelude.{IfErr, string_bytes}
 use Rattle.regex_lines.specs.Ending.{OrOutput}
 use Rattle.regex_lines.specs.Left.{left_of}
-use Rattle.regex_lines.specs.Searched.{AddsInput, Input, PrintsLines, WritesSomeOf, bytes_of, following, left_after, named, named_inputs, place_of}
+use Rattle.regex_lines.specs.Searched.{AddsInput, Input, PrintsPart, WritesSomeOf, bytes_of, following, left_after, named, named_inputs, place_of}
 use Rattle.regex_lines.specs.Unread.{all_unread, unread_of}
 use Rattle.regex_options.specs.Plain.{job}
 use Rattle.regex_lines.proofs.InputLemmas.{at_first, ended, finished, input_at, input_within, none_left, one_less, one_more, some_of}
@@ -43,9 +43,9 @@ returns-in_err-any-clause-first g c =
     let here = sym c.file-item.is in
     subst (λ unread. IfErr c.from_residual.result (OrOutput (WritesSomeOf r task inputs before after unread))) (sym c.in_err-any.ensures.kept)
     (passed_on (OrOutput (WritesSomeOf r task inputs before after unread)) c.from_residual.result c.in_err-any.field-0.0 c.from_residual.ensures.1
-    (or_output (PrintsLines r task (following c.loop-file.any input.0) input.1 between after) _ c.in_err-any.field-0.0
-    (subst (λ shown. OrOutput (PrintsLines r task shown input.1 between after) c.in_err-any.field-0.0) (c.place_of.ensures.shown ∙ ap (λ n. following c.loop-file.any (place n)) is)
-    (subst (λ n. OrOutput (PrintsLines r task (named c.place_of.result) (bytes_of n left) between after) c.in_err-any.field-0.0) (c.place_of.ensures.file ∙ is)
+    (or_output (PrintsPart r task (following c.loop-file.any input.0) input.1 between after) _ c.in_err-any.field-0.0
+    (subst (λ shown. OrOutput (PrintsPart r task shown input.1 between after) c.in_err-any.field-0.0) (c.place_of.ensures.shown ∙ ap (λ n. following c.loop-file.any (place n)) is)
+    (subst (λ n. OrOutput (PrintsPart r task (named c.place_of.result) (bytes_of n left) between after) c.in_err-any.field-0.0) (c.place_of.ensures.file ∙ is)
     c.in_err-any.ensures.first))
     (some_of r task inputs before i c.loop-file.any unread between sofar.first input
     (input_within place files inputs i left sofar.rest file c.loop-file-test.true here)

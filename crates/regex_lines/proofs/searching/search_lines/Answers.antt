@@ -1,13 +1,15 @@
-use Rattle.std.proofs.Common.{◌≡◌, ◌∙◌, inr, ap, sym, subst}
-use Rattle.regex_lines.specs.Ending.{IsCostly, IsInputFailure, OrOutput}
+use Rattle.std.proofs.Common.{◌≡◌, ◌∙◌, ◌+◌, [], ap, sym, subst}
+use Rattle.std.specs.Io.KnownBytes.{Appends}
+use Rattle.regress_arguments.specs.Output.{Took}
+use Rattle.regex_lines.specs.Ending.{AfterFailure, IsCostly, IsInputFailure}
 use Rattle.regex_lines.specs.Reading.{IsRead, is_ended}
-use Rattle.regex_lines.specs.Searched.{SearchesFirst, named}
+use Rattle.regex_lines.specs.Searched.{IsBegunLine, SearchesFirst, SearchesPart, is_enough, named}
 use Rattle.regex_lines.specs.Window.{window_of}
 use Rattle.regex_lines.specs.declared.reading.Next.TheVariants.{Line, LastLine}
 use Rattle.regex_options.specs.Plain.{job}
-use Rattle.regex_lines.proofs.SearchLemmas.{all, another, enough, first, first_or_output, is_end, last, last_of, line_of, none_yet}
+use Rattle.regex_lines.proofs.SearchLemmas.{all, another, enough, first_if, first_then, is_end, last, last_of, line_of, none_yet, of_next}
 use Rattle.regex_lines.proofs.WindowLemmas.{counted, short, short_items}
-use Rattle.regex_lines.proofs.lemmas.Failures.{costly_input, or_output, passed_on}
+use Rattle.regex_lines.proofs.lemmas.Failures.{costly_input, passed_on}
 use Rattle.regex_lines.proofs.searching.search_lines.Goals as goal
 
 pub loop-window-init : goal.loop-window-init
@@ -23,7 +25,7 @@ returns-then-is_over-clause-all g c =
 
 pub returns-in_err-next-clause-first : goal.returns-in_err-next-clause-first
 returns-in_err-next-clause-first g c =
-    first_or_output c.args.search.searcher.now.regex.now (job c.args.search.task) (named c.args.search.place) (g.B.Read.remaining c.args.reader.now) (g.W.Write.contents c.args.out.now)
+    first_if c.args.search.searcher.now.regex.now (job c.args.search.task) (named c.args.search.place) (g.B.Read.remaining c.args.reader.now) (g.W.Write.contents c.args.out.now)
     (g.B.Read.remaining c.loop-window.reader) (g.W.Write.contents c.loop-window.out) (window_of c.loop-window.window) c.loop-window.invariant _
 
 pub returns-in_err-next-clause-failed : goal.returns-in_err-next-clause-failed
@@ -41,13 +43,25 @@ returns-in-End-clause-all g c =
 
 pub returns-in_err-search_line-clause-first : goal.returns-in_err-search_line-clause-first
 returns-in_err-search_line-clause-first g c =
-    let first_lines = first c.args.search.searcher.now.regex.now (job c.args.search.task) (named c.args.search.place) (g.B.Read.remaining c.args.reader.now) (g.W.Write.contents c.args.out.now)
-    (g.B.Read.remaining c.loop-window.reader) (g.W.Write.contents c.loop-window.out) (window_of c.loop-window.window) c.loop-window.invariant in
-    passed_on (OrOutput (SearchesFirst c.args.search.searcher.now.regex.now (job c.args.search.task) (named c.args.search.place) (g.B.Read.remaining c.args.reader.now) (g.W.Write.contents c.args.out.now) (g.W.Write.contents c.search_line.new.out)))
-    c.from_residual-in_err-search_line.result c.in_err-search_line.field-0.0 c.from_residual-in_err-search_line.ensures.1
-    (or_output (c.search_line.new.out ≡ c.loop-window.out) _ c.in_err-search_line.field-0.0 c.in_err-search_line.ensures.untouched
-    (λ same. subst (SearchesFirst c.args.search.searcher.now.regex.now (job c.args.search.task) (named c.args.search.place) (g.B.Read.remaining c.args.reader.now) (g.W.Write.contents c.args.out.now))
-    (ap g.W.Write.contents (sym same)) first_lines))
+    let r = c.args.search.searcher.now.regex.now in
+    let task = job c.args.search.task in
+    let place = named c.args.search.place in
+    let multiline = c.args.search.place.form.multiline in
+    let input = g.B.Read.remaining c.args.reader.now in
+    let before = g.W.Write.contents c.args.out.now in
+    let now = g.B.Read.remaining c.loop-window.reader in
+    let left = g.B.Read.remaining c.next_line.new.reader in
+    let between = g.W.Write.contents c.loop-window.out in
+    let after = g.W.Write.contents c.search_line.new.out in
+    let w = window_of c.loop-window.window in
+    let line = c.next_line.new.line.items in
+    let next = c.in_ok-next.next in
+    let failure = c.in_err-search_line.field-0.0 in
+    passed_on (AfterFailure (SearchesFirst r task place input before after) (SearchesPart r task place input before after))
+    c.from_residual-in_err-search_line.result failure c.from_residual-in_err-search_line.ensures.1
+    (of_next r task place input before now between w c.loop-window.invariant left line next c.in_default.not-End c.in_ok-next.ensures.read after failure
+    (subst (λ ended. AfterFailure (Appends between after []) (Took between after (IsBegunLine r task place (is_enough task w.selected) (w.number + 1) (record { bytes = line; ended = ended }))) failure)
+    c.is_ended.ensures c.in_err-search_line.ensures.part))
 
 pub search_line-requires-clause-counted : goal.search_line-requires-clause-counted
 search_line-requires-clause-counted g c =
@@ -85,5 +99,5 @@ loop-window-preserved g c =
 
 pub returns-clause-first : goal.returns-clause-first
 returns-clause-first g c =
-    inr (first c.args.search.searcher.now.regex.now (job c.args.search.task) (named c.args.search.place) (g.B.Read.remaining c.args.reader.now) (g.W.Write.contents c.args.out.now)
-    (g.B.Read.remaining c.loop-window.reader) (g.W.Write.contents c.loop-window.out) (window_of c.loop-window.window) c.loop-window.invariant)
+    first_then c.args.search.searcher.now.regex.now (job c.args.search.task) (named c.args.search.place) (g.B.Read.remaining c.args.reader.now) (g.W.Write.contents c.args.out.now)
+    (g.B.Read.remaining c.loop-window.reader) (g.W.Write.contents c.loop-window.out) (window_of c.loop-window.window) c.loop-window.invariant c.too_long.result
