@@ -123,7 +123,8 @@ module _ (r : Regex) (job : Job) (inputs : List Input) (lost : List Unread) wher
       (any : Bool) × (found ≡ any || changes job)
       × ((unread : List Unread) × (is_complete job any (are_read lost unread) ≡ complete) × WritesInputs r job inputs old new unread any)
 
-  -- What was searched before a failure: all inputs if it is that some were not read, and else the first lines.
+  -- What was searched before a failure: all inputs if it is that some were not read, and else the first lines, and maybe a part
+  -- of the next.
   abbrev pub SearchesUntil : Failure → (old new : Option (List ℕ)) → Type 0
   SearchesUntil Incomplete old new = (found : Bool) × Searches old new false found
   SearchesUntil failure old new = (unread : List Unread) × WritesSomeOf r job inputs old new unread

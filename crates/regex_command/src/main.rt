@@ -248,8 +248,8 @@ fn status_if_none(asked: Asked<'_>) -> u8
 /// is written to `err`.
 ///
 /// # Errors
-/// Returns a failure that is due, as `MayFail` states. The output for the first lines, or the first of two trees, may
-/// have been written to `out` before it.
+/// Returns a failure that is due, as `MayFail` states. The output for the first lines, and for the first matches of the
+/// next line where only matches are shown, or the first of two trees, may have been written to `out` before it.
 pub fn run_regex<'a, R: Files + AllocGlobal, I: Read + Drop, W: Write, E: Write>(
     rt: &R,
     asked: Asked<'a>,
