@@ -1,13 +1,16 @@
--- Counting one more letter, letters that JavaScript rejects, and the flags in force.
+-- Counting one more letter, errors of letters, and the flags in force.
 use Rattle.std.proofs.Common.{◌≡◌, ◌∙◌, ℕ, ◌+◌, ◌<◌, ◌≤◌, min, Bool, true, false, List, [], ◌∷◌, ◌++◌, cond, get_or, length, refl, ap, subst, sym, arith}
 use Rattle.std.specs.Prelude.{◌==◌, ◌||◌}
+use Rattle.std.specs.List.{Contains}
 use Rattle.std.specs.Int.{from_bool}
 use Rattle.std.proofs.Math.Bool.{or_assoc, or_self}
+use Rattle.std.proofs.lemmas.List.Elements.{Contains-get_or}
 use Rattle.std.proofs.lemmas.List.Sums.{sum_by-append}
 use Rattle.regress_front.specs.Dialects.{flags_in_force}
 use Rattle.regress_front.specs.Source.{char}
 use Rattle.regress_front.specs.declared.parse.Dialect.TheVariants.{Ecma}
-use Rattle.regress.specs.Letters.{AreFlags, count, flags_of, has, is_known}
+use Rattle.regress.specs.Letters.{IsErrorOf, count, flags_of, has, is_known}
+use Rattle.regress.specs.declared.letters.FlagsError.TheVariants.{Unknown}
 
 one : (b : Bool) → 0 + cond b 1 0 ≡ from_bool b
 one true = refl
@@ -29,23 +32,12 @@ counted_more letters x c times bit new so_far is next =
         more ≡ n + bit → new ≡ min more 18446744073709551615
     saturated n bit more times new so_far next grown = omega arith
 
--- A letter at some index is known and occurs once, if JavaScript accepts the letters.
-pub known_at : (letters : List ℕ) (x i : ℕ) → i < length letters → x ≡ get_or letters i x → is_known x ≡ false → AreFlags letters → ⊥
-known_at letters x i within is unknown flags =
-    let known : is_known x ≡ true = subst (λ c. is_known c ≡ true) (sym is) (flags.known i x within) in
-    differ (sym known ∙ unknown)
-  where
-    differ : true ≡ false → ⊥
-    differ e = cc
+-- A letter at some index that is unknown is an error.
+pub unknown_at : (letters : List ℕ) (x i : ℕ) → i < length letters → x ≡ get_or letters i x → is_known x ≡ false → IsErrorOf letters (Unknown x)
+unknown_at letters x i within is unknown = (subst (Contains letters) (sym is) (Contains-get_or letters i x within), unknown)
 
-pub once_at : (letters : List ℕ) (x i times : ℕ) → i < length letters → x ≡ get_or letters i x →
-    times ≡ min (count letters x) 18446744073709551615 → 1 < times → AreFlags letters → ⊥
-once_at letters x i times within is counted twice flags =
-    let once : count letters x ≤ 1 = subst (λ c. count letters c ≤ 1) (sym is) (flags.once i x within) in
-    bounded (count letters x) times counted twice once
-  where
-    bounded : (n times : ℕ) → times ≡ min n 18446744073709551615 → 1 < times → n ≤ 1 → ⊥
-    bounded n times counted twice once = omega arith
+pub above_once : (n times : ℕ) → times ≡ min n 18446744073709551615 → 1 < times → 1 < n
+above_once n times counted twice = omega arith
 
 pub within_once : (n times : ℕ) → times ≡ min n 18446744073709551615 → times ≤ 1 → n ≤ 1
 within_once n times counted few = omega arith

@@ -1,14 +1,14 @@
 -- The test of the tree is that of the syntax tree.
-use Rattle.std.proofs.Common.{◌≡◌, ◌∙◌, ℕ, suc, ◌+◌, ◌==◌, Bool, true, false, not, ◌&&◌, ◌||◌, List, [], ◌∷◌, length, map, Option, Some, None, if◌then◌else◌, refl, sym, ap, ap₂, arith}
+use Rattle.std.proofs.Common.{◌≡◌, ◌∙◌, ℕ, suc, ◌==◌, Bool, true, false, not, ◌&&◌, ◌||◌, List, [], ◌∷◌, length, Option, Some, None, if◌then◌else◌, refl, sym, ap, ap₂, arith}
 use Rattle.std.specs.List.{list_all}
 use Rattle.std.proofs.lemmas.Bool.{ne_eqb}
 use Rattle.regress_front.specs.Intervals.{Bounds, intervals_of}
 use Rattle.regress_front.specs.Reading.{Direction, forwards, backwards}
 use Rattle.regress_front.specs.Meaning.{is_in_class, longest_first, referred}
-use Rattle.regress_front.specs.Syntax.{Name, names, is_joined, Atom, literal, dot, anchor, boundary, class_escape, class, class_set, string_property, back_reference, Group, grouping, modified, capture, look, Pattern, Terms, Item, one, either, no_terms, more_terms, atom, group, opened_by, counts_of_item, counts_of_term, counts_of_terms, direction_of_group}
+use Rattle.regress_front.specs.Syntax.{Name, names, is_joined, Atom, literal, dot, anchor, boundary, class_escape, class, class_set, string_property, back_reference, grouping, modified, capture, look, Pattern, Terms, Item, one, either, no_terms, more_terms, atom, group}
 use Rattle.regress_front.specs.Table.{Table, class_of}
-use Rattle.regress_front.specs.Tree.{Leaf, empty, goal, char, char_set, match_any, match_any_except_line_terminator, bracket, back_ref, string_set, Tree, Trees, leaf, cat, alt, wrapped, no_trees, more_trees, list, append_trees, reverse_trees}
-use Rattle.regress_front.specs.TreeOf.{alternation, concatenation, in_direction, leaf_of_members, or_empty, references, strings_or_points, tree_of, tree_of_atom, tree_of_item, tree_of_pattern, tree_of_quantified, tree_of_references, trees_of_terms}
+use Rattle.regress_front.specs.Tree.{empty, char, match_any, match_any_except_line_terminator, bracket, string_set, Tree, Trees, leaf, no_trees, more_trees, list, append_trees, reverse_trees}
+use Rattle.regress_front.specs.TreeOf.{concatenation, leaf_of_members, or_empty, references, strings_or_points, tree_of, tree_of_atom, tree_of_item, tree_of_pattern, tree_of_quantified, tree_of_references, trees_of_terms}
 use Rattle.regress_front.specs.declared.types.Quantifier.{Quantifier}
 use Rattle.regress_ecma.specs.SurrogatePairs.{is_outside_pairs, are_outside_pairs, atom_is_outside, is_outside, are_terms_outside, is_item_outside, atom_consumes, is_required, consumes, terms_consume, item_consumes, matches_outside_pairs}
 use Rattle.regress.specs.OutsidePairs.{tree_is_outside, trees_are_outside, tree_consumes, some_tree_consumes, tree_matches_outside_pairs}

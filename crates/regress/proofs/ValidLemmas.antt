@@ -13,6 +13,7 @@ use Rattle.regress_front.specs.declared.parse.Dialect.TheVariants.{Ecma}
 use Rattle.regress_front.specs.declared.parse.FaultKind.{FaultKind}
 use Rattle.regress_ecma.specs.PatternNodes.{Disjunction}
 use Rattle.regress_ecma.proofs.lemmas.Searches.{decoded, in_range}
+use Rattle.regress.proofs.lemmas.Letters.{no_flags_with}
 use Rattle.regress.specs.Failures.{IsDueWithLetters}
 use Rattle.regress.specs.Letters.{flags_of, has}
 use Rattle.regress.specs.Unicode.{unicode_setting}
@@ -49,7 +50,7 @@ HasTreePastLimits letters source = (p : Pattern) × IsDerivedIn Ecma (unicode_se
 
 pub rejected_past_limits : (letters : List ℕ) (source : Source) (error : Error) → IsDueWithLetters letters source error → IsRejection error →
     (d : Disjunction) → IsValidAs letters source d → HasTree letters source → HasTreePastLimits letters source
-rejected_past_limits letters source (Flags e) due is d valid has_tree = absurd (due valid.parsed.flags)
+rejected_past_limits letters source (Flags e) due is d valid has_tree = absurd (no_flags_with letters e due valid.parsed.flags)
 rejected_past_limits letters source (Syntax kind text position) due is d valid has_tree =
     (has_tree.0, has_tree.1, past_limits kind has_tree.0 has_tree.2 (due.1.reported.reported has_tree.0 has_tree.1))
 rejected_past_limits letters source TooLarge due is d valid has_tree = absurd is

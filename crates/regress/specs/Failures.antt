@@ -14,7 +14,7 @@ use Rattle.regress_program.specs.declared.fault.CompileFault.{CompileFault}
 use Rattle.regress_program.specs.declared.fault.CompileFault.TheVariants as compile_fault
 use Rattle.regress.specs.Compiled.{IsTreeOfIn}
 use Rattle.regress.specs.Unicode.{unicode_setting}
-use Rattle.regress.specs.Letters.{AreFlags, flags_of}
+use Rattle.regress.specs.Letters.{AreFlags, IsErrorOf, flags_of}
 use Rattle.regress.specs.Limits.{default_options}
 use Rattle.regress.specs.declared.failure.Error.{Error}
 use Rattle.regress.specs.declared.failure.Error.TheVariants.{Flags, Syntax, TooLarge, Memory}
@@ -57,7 +57,7 @@ IsDue setting source options (Flags e) = ⊥
 IsDue setting source options TooLarge = IsTooLarge setting source options
 IsDue setting source options Memory = Unit {0}
 
--- With letters for flags, under the table of all of Unicode: they are no flags, or they are and the error is due.
+-- With letters for flags, under the table of all of Unicode: it is an error of the letters, or they are flags and the error is due.
 abbrev pub IsDueWithLetters : (letters : List ℕ) → Source → Error → Type 0
-IsDueWithLetters letters source (Flags e) = AreFlags letters → ⊥
+IsDueWithLetters letters source (Flags e) = IsErrorOf letters e
 IsDueWithLetters letters source error = AreFlags letters × IsDue (unicode_setting (flags_of letters)) source default_options error

@@ -1,9 +1,11 @@
 -- Flags by their letters, as JavaScript writes them.
-use Rattle.std.specs.Prelude.{◌≡◌, ℕ, ◌≤◌, Bool, true, false, ◌||◌, ◌==◌, List, All, codes, count_by, nat_lt}
-use Rattle.std.specs.List.{list_any}
+use Rattle.std.specs.Prelude.{◌≡◌, ℕ, ◌<◌, ◌≤◌, Bool, true, false, ◌||◌, ◌==◌, List, All, codes, count_by, nat_lt}
+use Rattle.std.specs.List.{Contains, list_any}
 use Rattle.regress_front.specs.Source.{char}
 use Rattle.regress_front.specs.declared.types.Flags.{Flags}
 pub use Rattle.regress_front.specs.NoFlags.{no_flags}
+use Rattle.regress.specs.declared.letters.FlagsError.{FlagsError}
+use Rattle.regress.specs.declared.letters.FlagsError.TheVariants.{Unknown, Repeated, UnicodeAndSets}
 
 -- the number of times that a character occurs
 abbrev pub count : List ℕ → ℕ → ℕ
@@ -32,3 +34,9 @@ pub record AreFlags (letters : List ℕ) : Type 0 where
   pub known : All (λ c. is_known c ≡ true) letters
   pub once : All (λ c. count letters c ≤ 1) letters
   pub apart : has letters (char "u") ≡ true → has letters (char "v") ≡ false
+
+-- The letters have this error: one of them, which it names, is unknown or occurs more than once, or both u and v occur.
+abbrev pub IsErrorOf : List ℕ → FlagsError → Type 0
+IsErrorOf letters (Unknown c) = Contains letters c × (is_known c ≡ false)
+IsErrorOf letters (Repeated c) = 1 < count letters c
+IsErrorOf letters UnicodeAndSets = (has letters (char "u") ≡ true) × (has letters (char "v") ≡ true)

@@ -1,6 +1,6 @@
 //! Flags by their letters, as JavaScript writes them.
 ghost use Rattle.std.specs.Prelude.{◌≡◌, ◌≤◌, true, All, IfOk, IfErr, chars, min};
-ghost use Rattle.regress.specs.Letters.{AreFlags, count, flags_of, has, is_known};
+ghost use Rattle.regress.specs.Letters.{AreFlags, IsErrorOf, count, flags_of, has, is_known};
 
 use regress_front::types::Flags;
 
@@ -37,7 +37,7 @@ pub enum FlagsError {
 pub fn parse_flags(letters: &str) -> Result<Flags, FlagsError>
     ensures accepted { IfOk result (λ _. AreFlags (chars letters.now)) }
     ensures flags { IfOk result (λ flags. flags ≡ flags_of (chars letters.now)) }
-    ensures rejected { IfErr result (λ _. AreFlags (chars letters.now) → ⊥) }
+    ensures rejected { IfErr result (IsErrorOf (chars letters.now)) }
 {
     check_letters(letters)?;
     let unicode_sets = has(letters, 'v');
@@ -58,7 +58,7 @@ pub fn parse_flags(letters: &str) -> Result<Flags, FlagsError>
 fn check_letters(letters: &str) -> Result<(), FlagsError>
     ensures known { IfOk result (λ _. All (λ c. is_known c ≡ true) (chars letters.now)) }
     ensures once { IfOk result (λ _. All (λ c. count (chars letters.now) c ≤ 1) (chars letters.now)) }
-    ensures rejected { IfErr result (λ _. AreFlags (chars letters.now) → ⊥) }
+    ensures rejected { IfErr result (IsErrorOf (chars letters.now)) }
 {
     for letter in letters.chars() {
         if !is_known(letter) {

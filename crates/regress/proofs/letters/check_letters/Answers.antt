@@ -5,7 +5,7 @@ use Rattle.std.proofs.lemmas.Iterator.Consumers.{YieldsList-end, YieldsList-turn
 use Rattle.std.proofs.lemmas.List.{map-id}
 use Rattle.std.proofs.lemmas.List.Elements.{All-push}
 use Rattle.regress.specs.Letters.{count, is_known}
-use Rattle.regress.proofs.LettersLemmas.{known_at, once_at, within_once}
+use Rattle.regress.proofs.LettersLemmas.{above_once, unknown_at, within_once}
 use Rattle.regress.proofs.letters.check_letters.Goals as goal
 
 pub loop-letter-preserved : goal.loop-letter-preserved
@@ -20,13 +20,11 @@ pub returns-then-not-is_known-clause-rejected : goal.returns-then-not-is_known-c
 returns-then-not-is_known-clause-rejected c =
     let yields = YieldsList-from_chars c.args.letters.now c.utf8.letters cc in
     let at = YieldsList-turn yields c.loop-letter.yielded _ c.loop-letter.yielded_by _ _ c.in-Some.letter c.in-Some.is c.next.ensures.steps in
-    known_at (chars c.args.letters.now) c.in-Some.letter _ at.0 at.1 (sym c.is_known.ensures ∙ c.if-not-is_known.true)
+    unknown_at (chars c.args.letters.now) c.in-Some.letter _ at.0 at.1 (sym c.is_known.ensures ∙ c.if-not-is_known.true)
 
 pub returns-then-count-gt1-clause-rejected : goal.returns-then-count-gt1-clause-rejected
 returns-then-count-gt1-clause-rejected c =
-    let yields = YieldsList-from_chars c.args.letters.now c.utf8.letters cc in
-    let at = YieldsList-turn yields c.loop-letter.yielded _ c.loop-letter.yielded_by _ _ c.in-Some.letter c.in-Some.is c.next.ensures.steps in
-    once_at (chars c.args.letters.now) c.in-Some.letter _ c.count.result at.0 at.1 c.count.ensures c.if-count-gt1.true
+    above_once (count (chars c.args.letters.now) c.in-Some.letter) c.count.result c.count.ensures c.if-count-gt1.true
 
 pub returns-clause-known : goal.returns-clause-known
 returns-clause-known c =

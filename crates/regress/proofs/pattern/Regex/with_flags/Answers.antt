@@ -6,7 +6,6 @@ use Rattle.regress_front.specs.declared.parse.Dialect.TheVariants.{Ecma}
 use Rattle.regress.specs.Compiled.{IsCompiledIn}
 use Rattle.regress.specs.Failures.{IsDue}
 use Rattle.regress.specs.Kept.{Keeps}
-use Rattle.regress.specs.Letters.{flags_of}
 use Rattle.regress.specs.Limits.{default_options}
 use Rattle.regress.specs.Unicode.{unicode_setting}
 use Rattle.regress.proofs.CompiledLemmas.{due_with_letters}
