@@ -65,7 +65,7 @@ pub(crate) fn add_elements<'a>(
                 ),
             }
         }
-        _ => Ok(all.push(leaf_element(alloc, node, optional)?)?),
+        _ => add_leaf(leaf_element(alloc, node, optional)?, all),
     }
 }
 
@@ -94,6 +94,15 @@ fn add_each<'a>(
         add_elements(alloc, part, optional, all)?;
     }
     Ok(())
+}
+
+/// Adds the element of a leaf, unless it and the one before are `Other`: one says as much as both. A reference by name to
+/// many groups has as many leaves.
+fn add_leaf<'a>(element: Element<'a>, all: &mut Elements<'a>) -> Result<(), AllocError> {
+    match (all.last(), element) {
+        (Some(Element::Other), Element::Other) => Ok(()),
+        _ => Ok(all.push(element)?),
+    }
 }
 
 /// Returns the element of a node whose inside is not looked at.

@@ -1,6 +1,6 @@
 //! How many characters a pattern matches.
 
-use regress_base::types::Quantifier;
+use regress_base::types::{CaptureGroupID, Quantifier};
 use regress_tree::ir::Node;
 use regress_tree::ir::held::body;
 use regress_words::has_character;
@@ -67,14 +67,75 @@ struct Group<'a> {
 }
 
 /// The groups before a node.
-type Groups<'a> = Vec<Group<'a>>;
+#[derive(Drop)]
+struct Groups<'a> {
+    /// What is known of each, at its id.
+    known: Vec<Group<'a>>,
+    /// The ids of those that are always set at the node, in the order in which they end.
+    set: Vec<usize>,
+}
+
+impl<'a> Groups<'a> {
+    fn new(alloc: Global) -> Groups<'a> {
+        Groups {
+            known: Vec::new(alloc),
+            set: Vec::new(alloc),
+        }
+    }
+
+    /// Adds a group that is always set.
+    fn add(&mut self, id: CaptureGroupID, group: Group<'a>) -> Result<(), AllocError> {
+        let id = usize::from(id);
+        for _missing in self.known.len()..id + 1 {
+            self.known.push(Group {
+                length: None,
+                name: None,
+            })?;
+        }
+        if let Some(point) = self.known.get_mut(id) {
+            *point = group;
+        }
+        Ok(self.set.push(id)?)
+    }
+
+    /// Records that of the groups that are always set only the first ones still are. Each group is looked at once, however
+    /// many alternatives and loops contain it.
+    fn loosen(&mut self, count: usize) {
+        for _group in count..self.set.len() {
+            if let Some(id) = self.set.pop()
+                && let Some(group) = self.known.get_mut(id)
+                && let Some(length) = &mut group.length
+            {
+                length.min = 0;
+            }
+        }
+    }
+
+    /// Returns what is known of a group, numbered from 1.
+    fn get(&self, group: u32) -> Option<Group<'a>> {
+        self.known.get(group.saturating_sub(1) as usize).copied()
+    }
+
+    /// Returns the length of what a group, numbered from 1, has captured.
+    fn length_of(&self, group: u32) -> Length {
+        match self.get(group) {
+            Some(
+                Group {
+                    length: Some(length),
+                    ..
+                },
+            ) => length,
+            _ => Length { min: 0, max: None },
+        }
+    }
+}
 
 /// Returns how many characters a tree matches, or `None` if it never matches since a set in it has no character.
 ///
 /// # Errors
 /// Returns [`AllocError`] if an allocation fails.
 pub(crate) fn matched_length(alloc: Global, root: &Node) -> Result<Option<Length>, AllocError> {
-    let mut groups = Vec::new(alloc);
+    let mut groups = Groups::new(alloc);
     length_of(root, &mut groups)
 }
 
@@ -89,10 +150,10 @@ fn length_of<'a>(node: &'a Node, groups: &mut Groups<'a>) -> Result<Option<Lengt
             let Some(body) = body(node) else {
                 return Ok(length_of_leaf(node, groups));
             };
-            let first = groups.len();
+            let before = groups.set.len();
             let inside = length_of(body, groups)?;
             if is_optional(node) {
-                loosen(first, groups);
+                groups.loosen(before);
             }
             length_around(node, inside, groups)
         }
@@ -106,15 +167,6 @@ fn is_optional(node: &Node) -> bool {
     }
 }
 
-/// Records that the groups from an index on may be unset.
-fn loosen(first: usize, groups: &mut Groups<'_>) {
-    for group in groups.iter_mut().skip(first) {
-        if let Some(length) = &mut group.length {
-            length.min = 0;
-        }
-    }
-}
-
 /// Returns the length of one of alternatives. It iterates over right sides.
 #[cycle(length_of)]
 fn length_of_alternatives<'a>(
@@ -124,17 +176,17 @@ fn length_of_alternatives<'a>(
     let Node::Alt(left, right) = node else {
         return Ok(None);
     };
-    let first = groups.len();
+    let before = groups.set.len();
     let mut sum = length_of(left, groups)?;
     let mut rest: &'a Node = right;
     while let Node::Alt(left, right) = rest {
-        loosen(first, groups);
+        groups.loosen(before);
         sum = either(sum, length_of(left, groups)?);
         rest = right;
     }
-    loosen(first, groups);
+    groups.loosen(before);
     sum = either(sum, length_of(rest, groups)?);
-    loosen(first, groups);
+    groups.loosen(before);
     Ok(sum)
 }
 
@@ -175,13 +227,13 @@ fn length_of_references(parts: &[Node], groups: &Groups<'_>) -> Option<Length> {
         let Node::BackRef { group, .. } = part else {
             return None;
         };
-        let own = group_of(*group, groups)?.name?;
+        let own = groups.get(*group)?.name?;
         if *group <= last || name.unwrap_or(own) != own {
             return None;
         }
         name = Some(own);
         last = *group;
-        sum = either(sum, Some(length_of_group(*group, groups)));
+        sum = either(sum, Some(groups.length_of(*group)));
     }
     sum
 }
@@ -199,23 +251,12 @@ fn length_around<'a>(
             None => None,
         }),
         Node::CaptureGroup { id, name, .. } => {
-            let id = usize::from(*id);
-            for _missing in groups.len()..id + 1 {
-                groups.push(Group {
-                    length: None,
-                    name: None,
-                })?;
-            }
-            if let Some(point) = groups.get_mut(id) {
-                let name = match name {
-                    Some(name) => Some(name.as_str()),
-                    None => None,
-                };
-                *point = Group {
-                    length: inside,
-                    name,
-                };
-            }
+            let name = match name {
+                Some(name) => Some(name.as_str()),
+                None => None,
+            };
+            let length = inside;
+            groups.add(*id, Group { length, name })?;
             Ok(inside)
         }
         _ => Ok(inside),
@@ -244,25 +285,7 @@ fn length_of_leaf(node: &Node, groups: &Groups<'_>) -> Option<Length> {
             }
             sum
         }
-        Node::BackRef { group, .. } => Some(length_of_group(*group, groups)),
+        Node::BackRef { group, .. } => Some(groups.length_of(*group)),
         _ => Some(Length::exactly(0)),
     }
-}
-
-/// Returns the length of what a group, numbered from 1, has captured.
-fn length_of_group(group: u32, groups: &Groups<'_>) -> Length {
-    match group_of(group, groups) {
-        Some(
-            Group {
-                length: Some(length),
-                ..
-            },
-        ) => length,
-        _ => Length { min: 0, max: None },
-    }
-}
-
-/// Returns what is known of a group, numbered from 1.
-fn group_of<'a>(group: u32, groups: &Groups<'a>) -> Option<Group<'a>> {
-    groups.get(group.saturating_sub(1) as usize).copied()
 }
