@@ -1,10 +1,11 @@
 -- A page (HTML): tags of a fixed list, escaped texts, and pictures; and what it contains.
-use Rattle.std.specs.Prelude.{◌≡◌, ◌⊎◌, ⊤, ℕ, ◌+◌, ◌<◌, ◌≤◌, List, [], ◌∷◌, ◌++◌, All, codes, drop, flat_map, length, Option, Some, None, slice_get, slice_range}
+use Rattle.std.specs.Prelude.{◌≡◌, ◌≢◌, ◌⊎◌, ⊤, ℕ, ◌+◌, ◌<◌, ◌≤◌, List, [], ◌∷◌, ◌++◌, All, codes, drop, flat_map, length, Option, Some, None, slice_get, slice_range}
 use Rattle.std.specs.Fmt.{decimal}
 use Rattle.std.specs.Str.{IsCharBoundary}
 use Rattle.std.specs.declared.ops.Range.{Range}
 use Rattle.regress_labels.specs.Symbols.{IsShownText}
 use Rattle.regress_parse.specs.declared.span.Span.{Span}
+use Rattle.regress_railroad.specs.Excerpt.{ShowsFirst, points_at}
 use Rattle.regress_svg.specs.Escape.{escaped_text}
 use Rattle.regress_svg.specs.Links.{IsLinkedDocument}
 use Rattle.regress_explain.specs.Shown.{shown_text}
@@ -72,6 +73,9 @@ pieces_bytes pieces = flat_map piece_bytes pieces
 -- The bytes are those of a list of pieces.
 abbrev pub IsPage : List ℕ → Type 0
 IsPage bytes = (pieces : List Piece) × (bytes ≡ pieces_bytes pieces)
+
+abbrev pub element_pieces : Element → (content : List ℕ) → List Piece
+element_pieces element content = tag (Open element) ∷ text content ∷ tag (Close element) ∷ []
 
 -- a pattern as a page shows it: characters, and elements for parts of the pattern
 pub data Source : Type 0 where
@@ -145,15 +149,6 @@ abbrev pub LeadsBack : (lines : List ℕ) → (number : ℕ) → Piece → Type 
 LeadsBack lines number (tag t) = TagLeadsBack lines number t
 LeadsBack lines number p = ⊤
 
--- Among the bytes is the line with that number, and its links to the picture lead back to it.
-pub record HasLine (lines : List ℕ) (number : ℕ) (bytes : List ℕ) : Type 0 where
-  pub span : Span
-  pub content : List Piece
-  pub lead_back : All (LeadsBack lines number) content
-  pub before : List ℕ
-  pub after : List ℕ
-  pub is : bytes ≡ before ++ tag_bytes (Line span number) ++ pieces_bytes content ++ tag_bytes (Close Division) ++ after
-
 -- Among the pieces are some, one after the other, of which P holds.
 pub record Contains (P : List Piece → Type 0) (pieces : List Piece) : Type 0 where
   pub before : List Piece
@@ -161,6 +156,44 @@ pub record Contains (P : List Piece → Type 0) (pieces : List Piece) : Type 0 w
   pub after : List Piece
   pub has : P inside
   pub is : pieces ≡ before ++ inside ++ after
+
+-- The pieces are an element with these characters of the pattern, cut off if there are many.
+pub record ShowsExcerpt (points : List ℕ) (pieces : List Piece) : Type 0 where
+  pub shown : List ℕ
+  pub first : ShowsFirst points shown
+  pub is : pieces ≡ element_pieces Code shown
+
+-- a span, as `3..7`
+abbrev pub place : Span → List ℕ
+place span = decimal span.start ++ codes ".." ++ decimal span.end
+
+-- The pieces are what is in the line of a part with this span: what is written there, unless it is empty, and the span. Its
+-- links to the picture lead back to the line.
+pub record ShowsPart (pattern lines : List ℕ) (number : ℕ) (span : Span) (pieces : List Piece) : Type 0 where
+  pub written : points_at pattern (Some span) ≢ [] → Contains (ShowsExcerpt (points_at pattern (Some span))) pieces
+  pub placed : Contains (λ shown. shown ≡ element_pieces Small (place span)) pieces
+  pub lead_back : All (LeadsBack lines number) pieces
+
+-- The pieces are the line with that number, of a part with this span.
+pub record IsLine (pattern lines : List ℕ) (number : ℕ) (span : Span) (pieces : List Piece) : Type 0 where
+  pub inside : List Piece
+  pub has : ShowsPart pattern lines number span inside
+  pub is : pieces ≡ tag (Line span number) ∷ (inside ++ tag (Close Division) ∷ [])
+
+-- a tag of a list, or of an element of one
+abbrev pub IsListTag : Piece → Type 0
+IsListTag (tag (Open Items)) = ⊤
+IsListTag (tag (Open Item)) = ⊤
+IsListTag (tag (Close Items)) = ⊤
+IsListTag (tag (Close Item)) = ⊤
+IsListTag p = ⊥
+
+-- The pieces are lines of parts with these spans, numbered from `first` on, and tags of lists around them.
+abbrev pub AreLines : (pattern lines : List ℕ) → (first : ℕ) → List Span → List Piece → Type 0
+AreLines pattern lines first [] pieces = All IsListTag pieces
+AreLines pattern lines first (span ∷ spans) pieces =
+    (before line after : List Piece) × All IsListTag before × IsLine pattern lines first span line × AreLines pattern lines (first + 1) spans after
+    × (pieces ≡ before ++ line ++ after)
 
 -- The pieces contain a paragraph with the text, if one is given, and its matches.
 abbrev pub ContainsMatches : Option (List ℕ × List (Range ℕ)) → List Piece → Type 0
@@ -172,10 +205,12 @@ pub record IsPageOf (pattern : List ℕ) (matched : Option (List ℕ × List (Ra
   pub pieces : List Piece
   pub written : bytes ≡ pieces_bytes pieces
   pub source : Contains (IsParagraph (ShowsSource 0 pattern)) pieces
-  -- Each link in the picture leads to one of these lines, and each link from them to the picture leads back.
-  pub count : ℕ
+  -- The lines that explain the pattern are of parts with these spans. Each link in the picture leads to one of them, and each
+  -- link from them to the picture leads back.
+  pub spans : List Span
+  pub explained : spans ≢ []
   pub lines : List ℕ
   pub diagram : Contains (IsPicture lines) pieces
-  pub linked : All (λ line. line < count) lines
-  pub explanation : (n : ℕ) → n < count → HasLine lines n bytes
+  pub linked : All (λ line. line < length spans) lines
+  pub explanation : Contains (AreLines pattern lines 0 spans) pieces
   pub matches : ContainsMatches matched pieces

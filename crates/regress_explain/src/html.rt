@@ -1,8 +1,8 @@
 //! An explanation as a page.
-ghost use Rattle.std.specs.Prelude.{ℕ, ◌<◌, All, IfOk, OnOk, length, option_map, string_bytes};
+ghost use Rattle.std.specs.Prelude.{◌<◌, [], All, IfOk, OnOk, length, map, option_map, string_bytes};
 ghost use Rattle.regress_svg.specs.Links.{IsLinkedDocument};
-ghost use Rattle.regress_explain.specs.Page.{Contains, ContainsMatches, HasLine, IsPageOf, IsPicture};
-ghost use Rattle.regress_explain.specs.Written.{Adds};
+ghost use Rattle.regress_explain.specs.Page.{AreLines, Contains, ContainsMatches, IsPageOf, IsPicture};
+ghost use Rattle.regress_explain.specs.Written.{Adds, span_of};
 
 use crate::lines::{Line, lines_of, spans_of};
 use crate::listing::{Listing, write_lines};
@@ -45,9 +45,10 @@ pub fn page(
     matched: Option<Matched<'_>>,
 ) -> Result<String, AllocError>
     // Nothing of the pattern or of the text is markup: each text is escaped, and the tags are fixed. The whole pattern is
-    // there, each part of it at the span that its element names, a picture, and lines that explain it: each link in the
-    // picture leads to a line, and each link from a line to the picture leads to a link there that leads back. The whole text
-    // is there, and the ranges in it are marked, and nothing else.
+    // there, each part of it at the span that its element names, a picture, and lines that explain it, one at least: they are
+    // numbered in their order, and each has the span of a part and what is written there. Each link in the picture leads to a
+    // line, and each link from a line to the picture leads to a link there that leads back. The whole text is there, and the
+    // ranges in it are marked, and nothing else.
     ensures { IfOk result (λ page. IsPageOf pattern.now (option_map (λ matched. (matched.text.now, matched.ranges.now)) matched.entry) (string_bytes page)) }
 {
     let parts = outline(alloc, pattern, parsed)?;
@@ -108,7 +109,7 @@ fn write_diagram(picture: &Linked, page: &mut Markup) -> Written
 
 /// Returns the sentence about the pattern, and its parts.
 fn explanation(lines: &[Line<'_>], root: &Node, listing: Listing<'_>) -> Result<Markup, AllocError>
-    ensures { IfOk result (λ page. (n : ℕ) → n < length lines.now → HasLine listing.entry.leads.now n page) }
+    ensures { IfOk result (Adds (Contains (AreLines listing.entry.pattern.now listing.entry.leads.now 0 (map span_of lines.now))) []) }
 {
     let alloc = listing.alloc;
     let mut page = Markup::new(alloc);

@@ -1,20 +1,25 @@
 //! The lines of an explanation.
-ghost use Rattle.std.specs.Prelude.{◌≡◌, IfOk, length};
+ghost use Rattle.std.specs.Prelude.{◌≡◌, ◌≤◌, ◌+◌, IfOk, OnOk, length};
 
 use crate::outline::{Kind, Part};
 use regress_parse::Span;
 use std::alloc::{AllocError, Global};
 
-/// A part that has a line of its own.
+/// The line of a part.
 #[derive(Clone, Copy)]
 pub(crate) struct Line<'a> {
-    pub(crate) part: &'a Part,
+    /// The span of the part.
+    pub(crate) span: Span,
+    /// What the part matches.
+    pub(crate) words: &'a str,
     /// How many parts are around it.
     pub(crate) depth: usize,
 }
 
 /// Returns the lines of parts and of those inside, in the order of the pattern, outer ones first.
-pub(crate) fn lines_of(alloc: Global, parts: &[Part]) -> Result<Vec<Line<'_>>, AllocError> {
+pub(crate) fn lines_of(alloc: Global, parts: &[Part]) -> Result<Vec<Line<'_>>, AllocError>
+    ensures { IfOk result (λ lines. length parts.now ≤ length lines.items) }
+{
     let mut lines = Vec::new(alloc);
     add_lines(parts, 0, &mut lines)?;
     Ok(lines)
@@ -25,7 +30,9 @@ fn add_lines<'a>(
     parts: &'a [Part],
     depth: usize,
     lines: &mut Vec<Line<'a>>,
-) -> Result<(), AllocError> {
+) -> Result<(), AllocError>
+    ensures { OnOk result (length lines.old.items + length parts.now ≤ length lines.new.items) }
+{
     for part in parts {
         add_line(part, depth, lines)?;
     }
@@ -34,8 +41,14 @@ fn add_lines<'a>(
 
 /// Adds the line of a part, and those of the parts inside.
 #[cycle(add_lines)]
-fn add_line<'a>(part: &'a Part, depth: usize, lines: &mut Vec<Line<'a>>) -> Result<(), AllocError> {
-    lines.push(Line { part, depth })?;
+fn add_line<'a>(part: &'a Part, depth: usize, lines: &mut Vec<Line<'a>>) -> Result<(), AllocError>
+    ensures { OnOk result (length lines.old.items + 1 ≤ length lines.new.items) }
+{
+    lines.push(Line {
+        span: part.span,
+        words: part.words.as_str(),
+        depth,
+    })?;
     if let Kind::Inline = part.kind {
         return Ok(());
     }
@@ -48,7 +61,7 @@ pub(crate) fn spans_of(alloc: Global, lines: &[Line<'_>]) -> Result<Vec<Span>, A
 {
     let mut spans = Vec::new(alloc);
     for line in lines {
-        spans.push(line.part.span)?;
+        spans.push(line.span)?;
     }
     Ok(spans)
 }

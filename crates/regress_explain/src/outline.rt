@@ -1,4 +1,5 @@
 //! The parts of a pattern in its order, each with its span and its meaning.
+ghost use Rattle.std.specs.Prelude.{◌<◌, IfOk, length};
 
 use crate::gathering::finished;
 use regress_labels::{Character, group_names};
@@ -59,12 +60,15 @@ impl Walker<'_> {
 
 const NO_SPAN: Span = Span { start: 0, end: 0 };
 
-/// Returns the parts of a parsed pattern: what the root contains, without the final `Goal`.
+/// Returns the parts of a parsed pattern: what the root contains, without the final `Goal`. If it contains nothing else, the
+/// pattern is one part.
 pub(crate) fn outline(
     alloc: Global,
     pattern: &[u32],
     parsed: &SpannedRegex,
-) -> Result<Parts, AllocError> {
+) -> Result<Parts, AllocError>
+    ensures { IfOk result (λ parts. 0 < length parts.items) }
+{
     let root = &parsed.regex.node;
     let names = group_names(alloc, root)?;
     let scan = scanned(alloc, pattern, parsed.regex.flags)?;
@@ -80,7 +84,22 @@ pub(crate) fn outline(
         reversed: false,
     };
     let parts = sequence(root, &mut walker)?;
-    finished(parts, 0, walker.source)
+    let mut parts = finished(parts, 0, walker.source)?;
+    if parts.is_empty() {
+        let end = pattern.len();
+        parts.push(nothing(alloc, Span { start: 0, end })?)?;
+    }
+    Ok(parts)
+}
+
+/// Returns a part that matches an empty text.
+fn nothing(alloc: Global, span: Span) -> Result<Part, AllocError> {
+    Ok(Part {
+        span,
+        words: String::from_str(alloc, "nothing")?,
+        parts: Vec::new(alloc),
+        kind: Kind::Short,
+    })
 }
 
 /// Returns the parts of a sequence, in the order of the pattern.
@@ -251,16 +270,14 @@ fn alternative(
     {
         return Ok(only);
     }
-    let (words, kind) = if parts.is_empty() {
-        ("nothing", Kind::Short)
-    } else {
-        ("one after the other:", Kind::Whole)
-    };
+    if parts.is_empty() {
+        return nothing(source.alloc, span);
+    }
     Ok(Part {
         span,
-        words: String::from_str(source.alloc, words)?,
+        words: String::from_str(source.alloc, "one after the other:")?,
         parts,
-        kind,
+        kind: Kind::Whole,
     })
 }
 

@@ -22,11 +22,11 @@ struct Form<'a> {
 ///
 /// A part is a node of the tree, characters one after the other, a group with modifiers, or what is written as one atom, such
 /// as a reference by name to several groups. A sequence has no line of its own, except one of several parts that is an
-/// alternative; neither have the end of the pattern, and what is in the line of the part around it, as the `\d` of `\d{4}`.
-/// Alternatives are in one list. The parts inside follow, indented, in the order of the pattern, also in a lookbehind. Spans
-/// are half-open ranges of code-point indices. Classes are described by what is written; one that has other members, as
-/// `[\u{61}]` in the dialect `Ecma` without the flag u, by its members. Invisible characters are shown by their numbers, as
-/// `U+000A`, and what is longer than 60 characters is cut off.
+/// alternative; neither have the end of the pattern, unless the tree has nothing else, and what is in the line of the part
+/// around it, as the `\d` of `\d{4}`. Alternatives are in one list. The parts inside follow, indented, in the order of the
+/// pattern, also in a lookbehind. Spans are half-open ranges of code-point indices. Classes are described by what is written;
+/// one that has other members, as `[\u{61}]` in the dialect `Ecma` without the flag u, by its members. Invisible characters
+/// are shown by their numbers, as `U+000A`, and what is longer than 60 characters is cut off.
 ///
 /// The lines for `\d{4}-`:
 ///
@@ -68,8 +68,7 @@ pub fn explain(
 
 fn write_line(line: Line<'_>, form: Form<'_>, text: &mut String) -> Result<(), AllocError> {
     let alloc = form.alloc;
-    let span = line.part.span;
-    let (start, end) = (span.start, span.end);
+    let (start, end) = (line.span.start, line.span.end);
     let place = format!(in alloc; "{start}..{end}")?;
     text.push_str(&place)?;
     for _column in place.len()..form.width {
@@ -78,10 +77,10 @@ fn write_line(line: Line<'_>, form: Form<'_>, text: &mut String) -> Result<(), A
     for _outer in 0..line.depth {
         text.push_str("  ")?;
     }
-    let written = written(alloc, form.pattern, span)?;
+    let written = written(alloc, form.pattern, line.span)?;
     if !written.is_empty() {
         write!(text, "  {written}")?;
     }
-    let words = &line.part.words;
+    let words = line.words;
     writeln!(text, "  {words}")
 }

@@ -1,4 +1,6 @@
 //! Excerpts of a pattern's source text.
+ghost use Rattle.std.specs.Prelude.{◌≡◌, IfOk, option_map, string_bytes, take};
+ghost use Rattle.regress_railroad.specs.Excerpt.{IsExcerpt, excerpt_length, points_at};
 
 use regress_labels::Character;
 use regress_parse::Span;
@@ -71,15 +73,38 @@ pub fn excerpt(
     alloc: Global,
     pattern: &[u32],
     span: Option<Span>,
-) -> Result<Option<String>, AllocError> {
-    let Some(part @ [_, ..]) = span.and_then(|span| pattern.get(span.start..span.end)) else {
+) -> Result<Option<String>, AllocError>
+    ensures { IfOk result (λ excerpt. IsExcerpt (points_at pattern.now span) (option_map string_bytes excerpt)) }
+{
+    let points = points_at(pattern, span);
+    if points.is_empty() {
         return Ok(None);
-    };
-    let mut text = shown(alloc, part.get(..TITLE_LENGTH).unwrap_or(part))?;
-    if part.len() > TITLE_LENGTH {
+    }
+    let mut text = shown(alloc, front(points))?;
+    if points.len() > TITLE_LENGTH {
         text.push('…')?;
     }
     Ok(Some(text))
+}
+
+/// Returns the code points at a span of a pattern; none if it is not inside the pattern.
+fn points_at(pattern: &[u32], span: Option<Span>) -> &[u32]
+    ensures { result.now ≡ points_at pattern.now span }
+{
+    match span {
+        Some(span) => pattern.get(span.start..span.end).unwrap_or(&[]),
+        None => &[],
+    }
+}
+
+/// Returns as many of the first code points as a title may have.
+fn front(points: &[u32]) -> &[u32]
+    ensures { result.now ≡ take excerpt_length points.now }
+{
+    match points.get(..TITLE_LENGTH) {
+        Some(first) => first,
+        None => points,
+    }
 }
 
 /// Returns the span from the start of the first to the end of the last.

@@ -1,11 +1,15 @@
-use Rattle.regress_explain.proofs.PageLemmas.{leads_nothing, leads_text}
+use Rattle.std.proofs.Common.{codes, subst}
+use Rattle.regress_explain.specs.Page.{ShowsPart}
+use Rattle.regress_explain.specs.Written.{Adds}
+use Rattle.regress_explain.proofs.PageLemmas.{part_shown}
 use Rattle.regress_explain.proofs.listing.content.Goals as goal
 
 pub returns : goal.returns
 returns c =
-    let lines = c.args.listing.leads.now in
+    let pattern = c.args.listing.pattern.now in
+    let leads = c.args.listing.leads.now in
     let number = c.args.number in
-    let source = c.in_ok-write_source.ensures lines number (leads_nothing lines number _ c.new-page.ensures) in
-    let words = leads_text lines number _ _ _ source c.in_ok-text.ensures in
-    let space = leads_text lines number _ _ _ words c.in_ok-text-2.ensures in
-    c.in_ok-write_lead.ensures (c.in_ok-write_place.ensures lines number space)
+    let span = c.args.line.span in
+    subst (λ none. Adds (ShowsPart pattern leads number span) none c.write_lead.new.page) c.new-page.ensures
+    (part_shown pattern leads number span _ (codes " ") _ _ _ _ _ _ c.in_ok-write_source.ensures c.in_ok-text.ensures
+    c.in_ok-text-2.ensures c.in_ok-write_place.ensures c.in_ok-write_lead.ensures)
