@@ -1,5 +1,5 @@
 -- Where no match begins, none begins at a later character of the loop with which the pattern begins.
-use Rattle.std.proofs.Common.{◌≡◌, inl, inr, ℕ, zero, suc, ◌+◌, ◌-◌, ◌<◌, ◌≤◌, true, false, List, [], ◌∷◌, ◌++◌, length, replicate, slice_get, slice_index, Some, None, refl, sym, ap, ap₂, ◌∙◌, subst, arith}
+use Rattle.std.proofs.Common.{◌≡◌, ℕ, zero, suc, ◌+◌, ◌-◌, ◌<◌, ◌≤◌, true, false, List, [], ◌∷◌, ◌++◌, length, replicate, slice_get, slice_index, Some, None, refl, sym, ap, ap₂, ◌∙◌, subst, arith}
 use Rattle.regress_base.specs.ByteBitmap.{contains}
 use Rattle.regress_base.specs.declared.bytesearch.bitmap.ByteBitmap.{ByteBitmap}
 use Rattle.regress_tree.specs.Steps.{MatchState}
@@ -13,7 +13,8 @@ use Rattle.regress_code.specs.declared.code.Code.{Code}
 use Rattle.regress_code.specs.Code.{code_groups, code_routines, outcomes_from, setting_with}
 use Rattle.regress_backtrack.specs.declared.input.Input.{Input}
 use Rattle.regress_backtrack.specs.declared.machine.Place.{Place}
-use Rattle.regress_backtrack.specs.Lead.{IsBegun, IsLead}
+use Rattle.regress_backtrack.specs.Lead.{BeginsAfterOne, IsBegun}
+use Rattle.regress_backtrack.specs.Sweep.{IsAsciiLeaf}
 use Rattle.regress_backtrack.specs.Machine.{Groups, at}
 use Rattle.regress_backtrack.specs.Next.{IsInput, Solve}
 use Rattle.regress_backtrack.specs.Searched.{IsFor}
@@ -32,7 +33,7 @@ none_second (x ∷ xs) ys none = cc
 none_both : (xs ys : List MatchState) → xs ≡ [] → ys ≡ [] → xs ++ ys ≡ []
 none_both xs ys first second = ap₂ ◌++◌ first second
 
-module _ (input : Input) (is : IsInput input) (pc leaf : ℕ) (set : ByteBitmap) (begun : IsBegun input pc leaf set)
+module _ (input : Input) (is : IsInput input) (pc : ℕ) (set : ByteBitmap) (begun : IsBegun input pc set)
     (outs : ℕ → Out) (solve : Solve input outs) (g : Groups) where
   abbrev at_loop : ℕ → List MatchState
   at_loop k = outs input.index (at (record { pc = pc; moved = true; position = k }) g)
@@ -77,35 +78,23 @@ module _ (input : Input) (is : IsInput input) (pc leaf : ℕ) (set : ByteBitmap)
       let here = none_among low n are (none_first (again low) (after low) both) (none_second (again low) (after low) both) j le in
       at_loop_on (low + j) inside ∙ none_both (again (low + j)) (after (low + j)) here.0 here.1
 
-  -- the leaf of the loop, and then the loop
-  pub none_in_one : input.first < length input.instructions.now → slice_get input.instructions.now input.first ≡ Some (insts.Leaf leaf pc) →
-      (low n : ℕ) → AreIn set input.text.now low n → outs input.index (at (record { pc = input.first; moved = true; position = low }) g) ≡ [] →
-      (j : ℕ) → j < n → outs input.index (at (record { pc = input.first; moved = true; position = low + j }) g) ≡ []
-  none_in_one lt first low n are none j below =
+  -- a leaf, and then the loop
+  pub none_in_one : (leaf : ℕ) (before : ByteBitmap) → IsAsciiLeaf input leaf before →
+      input.first < length input.instructions.now → slice_get input.instructions.now input.first ≡ Some (insts.Leaf leaf pc) →
+      (low n m : ℕ) → AreIn before input.text.now low n → AreIn set input.text.now (low + 1) m →
+      outs input.index (at (record { pc = input.first; moved = true; position = low }) g) ≡ [] →
+      (j : ℕ) → j < n → j ≤ m → outs input.index (at (record { pc = input.first; moved = true; position = low + j }) g) ≡ []
+  none_in_one leaf before ascii lt first low n m are more none j below le =
       let on : (i : ℕ) → i < n → outs input.index (at (record { pc = input.first; moved = true; position = low + i }) g) ≡ at_loop ((low + i) + 1) = λ i less.
       let here = are i less in
-      character input is begun.looping set begun.repeat_pc begun.swept begun.body_in outs solve g input.first pc true lt
-      (first ∙ ap (λ l. Some (insts.Leaf l pc)) (sym begun.same)) (low + i) here.0 here.1.0 here.1.1 in
+      character input is outs solve g leaf before ascii begun.swept.forwards input.first pc true lt first (low + i) here.0 here.1.0 here.1.1 in
       let zero_same : low ≡ low + zero = omega arith in
       let start : at_loop ((low + zero) + 1) ≡ [] = sym (on zero (omega (arith, below)))
       ∙ subst (λ k. outs input.index (at (record { pc = input.first; moved = true; position = k }) g) ≡ []) zero_same none in
       let next : at_loop (low + 1) ≡ [] = subst (λ k. at_loop k ≡ []) (omega arith) start in
       let inside = (are j below).0 in
-      let shifted : AreIn set input.text.now (low + 1) (n - 1) = λ k less.
-      subst (λ x. (x < length input.text.now) × ((slice_index input.text.now x < 128) × (contains set (slice_index input.text.now x) ≡ true)))
-      (omega arith) (are (k + 1) (omega (arith, less))) in
-      let loop : at_loop ((low + 1) + j) ≡ [] = none_in_loop (low + 1) (n - 1) shifted (omega (arith, inside)) next j (omega (arith, below)) (omega (arith, inside)) in
+      let loop : at_loop ((low + 1) + j) ≡ [] = none_in_loop (low + 1) m more (omega (arith, inside)) next j le (omega (arith, inside)) in
       on j below ∙ subst (λ k. at_loop k ≡ []) (omega arith) loop
-
--- from where the pattern begins
-none_lead : (input : Input) → IsInput input → (set : ByteBitmap) → IsLead input set → (outs : ℕ → Out) → Solve input outs → (g : Groups) →
-    (low n : ℕ) → low ≤ length input.text.now → AreIn set input.text.now low n →
-    outs input.index (at (record { pc = input.first; moved = true; position = low }) g) ≡ [] →
-    (j : ℕ) → j < n → outs input.index (at (record { pc = input.first; moved = true; position = low + j }) g) ≡ []
-none_lead input is set (inl begun) outs solve g low n within are none j below =
-    none_in_loop input is input.first begun.0 set begun.1 outs solve g low n are within none j (omega (arith, below)) (omega (arith, (are j below).0))
-none_lead input is set (inr begins) outs solve g low n within are none j below =
-    none_in_one input is begins.next begins.leaf set begins.begun outs solve g begins.first_in begins.first low n are none j below
 
 -- the outcomes of the program are those of its first instruction
 entry_is : (code : Code) (tables : Tables) (text : List ℕ) (input : Input) → IsFor code tables text input → (outs : ℕ → Out) → (k : ℕ) →
@@ -128,14 +117,36 @@ solves_for code tables text input for outs solution =
     (subst (λ s. IsSolution s text (code_routines input.code.now) outs) (sym for.setting)
     (subst (λ c. IsSolution (setting_with code tables) text (code_routines c) outs) (sym for.code) solution))
 
--- If no match begins at the first of these characters, none begins at another one.
-pub none_after_lead : (code : Code) (tables : Tables) (text : List ℕ) (input : Input) → IsFor code tables text input → (set : ByteBitmap) → IsLead input set →
-    (outs : ℕ → Out) → IsSolution (setting_with code tables) text (code_routines code) outs → (low n : ℕ) → low ≤ length text → AreIn set text low n →
-    outcomes_from code tables text outs low ≡ [] → (k : ℕ) → low < k → k < low + n → outcomes_from code tables text outs k ≡ []
-none_after_lead code tables text input for set lead outs solution low n within are none k above below =
-    let g : Groups = record { captures = replicate (code_groups code) None; begins = [] } in
-    let solve = solves_for code tables text input for outs solution in
-    let first = sym (entry_is code tables text input for outs low) ∙ none in
-    let all = none_lead input for.is set lead outs solve g low n
-    (subst (λ x. low ≤ length x) (sym for.same_text) within) (subst (λ x. AreIn set x low n) (sym for.same_text) are) first (k - low) (omega (arith, above, below)) in
-    entry_is code tables text input for outs k ∙ subst (λ p. outs input.index (at (record { pc = input.first; moved = true; position = p }) g) ≡ []) (omega (arith, above)) all
+module _ (code : Code) (tables : Tables) (text : List ℕ) (input : Input) (for : IsFor code tables text input) (outs : ℕ → Out)
+    (solution : IsSolution (setting_with code tables) text (code_routines code) outs) (low : ℕ) (within : low ≤ length text)
+    (none : outcomes_from code tables text outs low ≡ []) where
+  abbrev unset : Groups
+  unset = record { captures = replicate (code_groups code) None; begins = [] }
+
+  first_none : outs input.index (at (record { pc = input.first; moved = true; position = low }) unset) ≡ []
+  first_none = sym (entry_is code tables text input for outs low) ∙ none
+
+  at_other : (k : ℕ) → low < k → outs input.index (at (record { pc = input.first; moved = true; position = low + (k - low) }) unset) ≡ [] →
+      outcomes_from code tables text outs k ≡ []
+  at_other k above is =
+      entry_is code tables text input for outs k
+      ∙ subst (λ p. outs input.index (at (record { pc = input.first; moved = true; position = p }) unset) ≡ []) (omega (arith, above)) is
+
+  -- If no match begins at the first of these characters, none begins at another one.
+  pub none_after_loop : (set : ByteBitmap) → IsBegun input input.first set → (n : ℕ) → AreIn set text low n →
+      (k : ℕ) → low < k → k < low + n → outcomes_from code tables text outs k ≡ []
+  none_after_loop set begun n are k above below =
+      let are' : AreIn set input.text.now low n = subst (λ x. AreIn set x low n) (sym for.same_text) are in
+      let last = (are' (k - low) (omega (arith, above, below))).0 in
+      at_other k above
+      (none_in_loop input for.is input.first set begun outs (solves_for code tables text input for outs solution) unset low n are'
+      (subst (λ x. low ≤ length x) (sym for.same_text) within) first_none (k - low) (omega (arith, above, below)) (omega (arith, last)))
+
+  -- The same if the first character is one of another set.
+  pub none_after_one : (before set : ByteBitmap) → BeginsAfterOne input before set → (n m : ℕ) → AreIn before text low n → AreIn set text (low + 1) m →
+      (k : ℕ) → low < k → k < low + n → k ≤ low + m → outcomes_from code tables text outs k ≡ []
+  none_after_one before set begins n m are more k above below le =
+      at_other k above
+      (none_in_one input for.is begins.next set begins.begun outs (solves_for code tables text input for outs solution) unset begins.leaf before begins.ascii
+      begins.first_in begins.first low n m (subst (λ x. AreIn before x low n) (sym for.same_text) are)
+      (subst (λ x. AreIn set x (low + 1) m) (sym for.same_text) more) first_none (k - low) (omega (arith, above, below)) (omega (arith, above, le)))

@@ -23,7 +23,7 @@ use Rattle.regress_code.specs.Code.{code_routines}
 use Rattle.regress_backtrack.specs.Machine.{Groups, Ranged, at, groups_of, points, range_points}
 use Rattle.regress_backtrack.specs.Next.{Inside, IsInput, Solve}
 use Rattle.regress_leaves.specs.Starts.{AreIn, IsStart}
-use Rattle.regress_backtrack.specs.Sweep.{IsSwept}
+use Rattle.regress_backtrack.specs.Sweep.{IsAsciiLeaf, IsSwept}
 use Rattle.regress_program.specs.Views.{part_of}
 use Rattle.regress_backtrack.proofs.RunLemmas.{solved}
 use Rattle.regress_leaves.proofs.lemmas.Starts.{ascii_matches}
@@ -56,34 +56,37 @@ ends_moved : (moved : Bool) (k : ℕ) → (moved || not (k + 1 == k)) ≡ true
 ends_moved true k = refl
 ends_moved false k = grind arith
 
-module _ (input : Input) (is : IsInput input) (looping : Looping) (set : ByteBitmap) (repeat_pc : ℕ) (swept : IsSwept input looping set repeat_pc)
-    (body_in : looping.body < length input.instructions.now) (outs : ℕ → Out) (solve : Solve input outs) (g : Groups) where
-  -- a character that the leaf of the loop matches, at an instruction that matches it
-  pub character : (pc next : ℕ) (moved : Bool) → pc < length input.instructions.now → slice_get input.instructions.now pc ≡ Some (insts.Leaf swept.leaf next) →
+module _ (input : Input) (is : IsInput input) (outs : ℕ → Out) (solve : Solve input outs) (g : Groups) where
+  -- a character that a leaf matches, at an instruction that matches it
+  pub character : (leaf : ℕ) (set : ByteBitmap) → (ascii : IsAsciiLeaf input leaf set) → input.rules.backwards ≡ false → (pc next : ℕ) (moved : Bool) →
+      pc < length input.instructions.now → slice_get input.instructions.now pc ≡ Some (insts.Leaf leaf next) →
       (k : ℕ) → k < length input.text.now → slice_index input.text.now k < 128 → contains set (slice_index input.text.now k) ≡ true →
       outs input.index (at (record { pc = pc; moved = moved; position = k }) g)
       ≡ outs input.index (at (record { pc = next; moved = true; position = k + 1 }) g)
-  character pc next moved pc_in at_pc k lt ascii member =
+  character leaf set ascii forward pc next moved pc_in at_pc k lt small member =
       let u = subject input.rules input.text.now in
       let out = outs input.index in
       let body_of = matcher_of u.setting u.bytes (code_routines input.code.now) outs in
       let p : Place = record { pc = pc; moved = moved; position = k } in
-      let start : IsStart (starts.Ascii set) (tree swept.test.node) = subst (λ x. IsStart x (tree swept.test.node)) swept.starts swept.test.begins in
-      let one : steps u.setting u.bytes u.direction (tree swept.test.node) (state g.captures k) ≡ state g.captures (k + 1) ∷ [] =
-      subst (λ b. steps u.setting u.bytes (direction_if b) (tree swept.test.node) (state g.captures k) ≡ state g.captures (k + 1) ∷ []) (sym swept.forwards)
-      (ascii_matches set (tree swept.test.node) start.0 start.1 u.setting u.bytes forwards (state g.captures k) (slice_index input.text.now k) (k + 1) ascii
-      (ascii_after input.text.now k (slice_index input.text.now k) ascii lt refl) member) in
-      solved input is p (insts.Leaf swept.leaf next) pc_in at_pc u.setting u.bytes outs u.direction g solve is.direction (omega (arith, lt))
-      ∙ ap (λ o. outcomes_by u.setting u.bytes u.direction body_of out (part_of o next) (at p g)) swept.is_test
+      let start : IsStart (starts.Ascii set) (tree ascii.test.node) = subst (λ x. IsStart x (tree ascii.test.node)) ascii.starts ascii.test.begins in
+      let one : steps u.setting u.bytes u.direction (tree ascii.test.node) (state g.captures k) ≡ state g.captures (k + 1) ∷ [] =
+      subst (λ b. steps u.setting u.bytes (direction_if b) (tree ascii.test.node) (state g.captures k) ≡ state g.captures (k + 1) ∷ []) (sym forward)
+      (ascii_matches set (tree ascii.test.node) start.0 start.1 u.setting u.bytes forwards (state g.captures k) (slice_index input.text.now k) (k + 1) small
+      (ascii_after input.text.now k (slice_index input.text.now k) small lt refl) member) in
+      solved input is p (insts.Leaf leaf next) pc_in at_pc u.setting u.bytes outs u.direction g solve is.direction (omega (arith, lt))
+      ∙ ap (λ o. outcomes_by u.setting u.bytes u.direction body_of out (part_of o next) (at p g)) ascii.is_test
       ∙ ap (flat_map (λ s. out (reach next (at p g) s))) one
       ∙ append-nil _
       ∙ ap (λ b. out (at (record { pc = next; moved = b; position = k + 1 }) g)) (ends_moved moved k)
 
+module _ (input : Input) (is : IsInput input) (looping : Looping) (set : ByteBitmap) (repeat_pc : ℕ) (swept : IsSwept input looping set repeat_pc)
+    (body_in : looping.body < length input.instructions.now) (outs : ℕ → Out) (solve : Solve input outs) (g : Groups) where
   -- an iteration
   pub iteration : (k : ℕ) → k < length input.text.now → slice_index input.text.now k < 128 → contains set (slice_index input.text.now k) ≡ true →
       outs input.index (at (record { pc = looping.body; moved = false; position = k }) g)
       ≡ outs input.index (at (record { pc = repeat_pc; moved = true; position = k + 1 }) g)
-  iteration = character looping.body repeat_pc false body_in swept.body
+  iteration = character input is outs solve g swept.leaf set (record { test = swept.test; is_test = swept.is_test; starts = swept.starts }) swept.forwards
+      looping.body repeat_pc false body_in swept.body
 
   -- the end of an iteration
   pub at_repeat_on : (k : ℕ) → k ≤ length input.text.now →

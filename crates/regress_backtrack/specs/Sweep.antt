@@ -17,3 +17,9 @@ pub record IsSwept (input : Input) (looping : Looping) (set : ByteBitmap) (repea
   pub is_test : slice_get input.code.now.program.leaves.items leaf ≡ Some test
   pub starts : test.start ≡ starts.Ascii set
   pub forwards : input.rules.backwards ≡ false
+
+-- The leaf matches one character, and these are the ASCII characters that it matches.
+pub record IsAsciiLeaf (input : Input) (leaf : ℕ) (set : ByteBitmap) : Type 0 where
+  pub test : Test
+  pub is_test : slice_get input.code.now.program.leaves.items leaf ≡ Some test
+  pub starts : test.start ≡ starts.Ascii set

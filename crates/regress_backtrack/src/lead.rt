@@ -5,63 +5,69 @@ ghost use Rattle.regress_program.specs.Program.{IsSolution, Out};
 ghost use Rattle.regress_code.specs.Code.{code_routines, outcomes_from, setting_with};
 ghost use Rattle.regress_code.specs.declared.code.Code.{Code};
 ghost use Rattle.regress_backtrack.specs.Lead.{IsBegun, IsLead};
+ghost use Rattle.regress_backtrack.specs.Sweep.{IsAsciiLeaf};
 ghost use Rattle.regress_backtrack.specs.Searched.{IsFor};
 
 use crate::alternatives::Looping;
-use crate::input::{Input, instruction_at};
+use crate::input::{Input, instruction_at, test_at};
 use crate::sweep::sole_leaf;
 use regress_base::bytesearch::ByteBitmap;
 use regress_leaves::ascii::count_of;
+use regress_leaves::start::Start;
 use regress_program::instruction::Instruction;
 
-/// A loop that an instruction begins.
+/// A loop at the start of a pattern that is greedy and without a maximum, over a leaf that matches one character, and not
+/// in a group: that of `a*`, or of `ab*`.
 #[derive(Clone, Copy)]
-struct Begun<'c> {
-    /// The index of its leaf, which matches one character.
-    leaf: usize,
-    /// The ASCII characters that the leaf matches.
-    set: &'c ByteBitmap,
+pub(crate) struct Lead<'c> {
+    /// The ASCII characters that the leaf before the loop matches, if there is one. It matches one character, too.
+    pub(crate) before: Option<&'c ByteBitmap>,
+    /// The ASCII characters that the leaf of the loop matches.
+    pub(crate) set: &'c ByteBitmap,
 }
 
-/// Returns the ASCII characters of the loop with which the pattern begins, if it is greedy and without a maximum, over a
-/// leaf that matches one character, and not in a group: `a*` or `a+`.
-pub(crate) fn lead_of<'c>(input: &Input<'c, '_>) -> Option<&'c ByteBitmap>
-    ensures { IfSome result (λ set. IsLead input.now set.now) }
+/// Returns the loop at the start of the pattern, if there is one.
+pub(crate) fn lead_of<'c>(input: &Input<'c, '_>) -> Option<Lead<'c>>
+    ensures { IfSome result (IsLead input.now) }
 {
     match instruction_in(input, input.first)? {
         Instruction::Leaf { leaf, next } => {
-            let begun = loop_at(input, next)?;
-            if begun.leaf == leaf {
-                Some(begun.set)
-            } else {
-                None
-            }
+            let set = loop_at(input, next)?;
+            let before = ascii_at(input, leaf)?;
+            Some(Lead {
+                before: Some(before),
+                set,
+            })
         }
         _ => {
-            let begun = loop_at(input, input.first)?;
-            Some(begun.set)
+            let set = loop_at(input, input.first)?;
+            Some(Lead { before: None, set })
         }
     }
 }
 
-/// Returns the loop that an instruction begins, if it is such a loop.
-fn loop_at<'c>(input: &Input<'c, '_>, pc: usize) -> Option<Begun<'c>>
-    ensures { IfSome result (λ begun. IsBegun input.now pc begun.leaf begun.set.now) }
+/// Returns the ASCII characters of the loop that an instruction begins, if it is such a loop.
+fn loop_at<'c>(input: &Input<'c, '_>, pc: usize) -> Option<&'c ByteBitmap>
+    ensures { IfSome result (λ set. IsBegun input.now pc set.now) }
 {
     let Instruction::BeginLoop { greedy, body, next } = instruction_in(input, pc)? else {
         return None;
     };
-    let Instruction::Leaf { leaf, .. } = instruction_in(input, body)? else {
-        return None;
-    };
-    if !greedy {
+    if !greedy || body >= input.instructions.len() {
         return None;
     }
     let swept = sole_leaf(input, Looping { greedy, body, next })?;
-    Some(Begun {
-        leaf,
-        set: swept.set,
-    })
+    Some(swept.set)
+}
+
+/// Returns the ASCII characters that a leaf matches, if it matches one character.
+fn ascii_at<'c>(input: &Input<'c, '_>, leaf: usize) -> Option<&'c ByteBitmap>
+    ensures { IfSome result (λ set. IsAsciiLeaf input.now leaf set.now) }
+{
+    match &test_at(input, leaf)?.start {
+        Start::Ascii(set) => Some(set),
+        _ => None,
+    }
 }
 
 /// Returns an instruction of the routine, or `None` if it has none with this index.
@@ -87,11 +93,11 @@ fn instruction_in(input: &Input<'_, '_>, pc: usize) -> Option<Instruction>
 #[inline(always)]
 pub(crate) fn next_after(
     input: &Input<'_, '_>,
-    lead: Option<&ByteBitmap>,
+    lead: Option<Lead<'_>>,
     text: &str,
     position: usize,
 ) -> usize
-    requires lead { IfSome lead (λ set. IsLead input.now set.now) }
+    requires lead { IfSome lead (IsLead input.now) }
     requires position { position ≤ length text.now }
     ensures low { position < result }
     ensures high { result ≤ length text.now + 1 }
@@ -100,8 +106,16 @@ pub(crate) fn next_after(
         outcomes_from code tables text.now outs position ≡ [] →
         (k : ℕ) → position < k → k < result → outcomes_from code tables text.now outs k ≡ [] }
 {
-    match lead {
-        Some(set) => position + count_of(text, set, position).max(1),
-        None => position + 1,
+    let Some(lead) = lead else {
+        return position + 1;
+    };
+    let Some(before) = lead.before else {
+        return position + count_of(text, lead.set, position).max(1);
+    };
+    let count = count_of(text, before, position);
+    if count == 0 {
+        return position + 1;
     }
+    let more = count_of(text, lead.set, position + 1);
+    position + count.min(more + 1)
 }
