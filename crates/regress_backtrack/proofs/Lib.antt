@@ -8,3 +8,4 @@ pub mod RunLemmas
 pub mod SearchLemmas
 pub mod SweepLemmas
 pub mod LeadLemmas
+pub mod LeaveLemmas

@@ -8,7 +8,7 @@ use Rattle.regress_backtrack.specs.declared.machine.Place.{Place}
 use Rattle.regress_backtrack.specs.declared.machine.Entry.{Entry}
 use Rattle.regress_backtrack.specs.declared.machine.Entry.TheVariants as entries
 use Rattle.regress_backtrack.specs.declared.machine.Machine.{Machine}
-use Rattle.regress_backtrack.specs.Machine.{Groups, at, range_points, undone, point_of, points_of, before_all, groups_of, points, rewound, Kept, Chosen, Ranged, Closed, closed_at, is_change, changes_of}
+use Rattle.regress_backtrack.specs.Machine.{Groups, at, range_points, undone, point_of, points_of, before_all, groups_of, points, rewound, Kept, Chosen, Ranged, Shortened, Closed, closed_at, is_change, changes_of}
 
 -- the last entry comes first
 last-first : (es : List Entry) (e : Entry) → reverse (es ++ e ∷ []) ≡ e ∷ reverse es
@@ -238,3 +238,35 @@ group-ended id next p g g1 g2 from closed captures begins = by g.begins closed.b
         (begins ∙ rest)
     by (k ∷ bs) rest is =
         ap₂ (λ cs xs. record { pc = next; moved = p.moved; state = record { position = p.position; captures = cs }; begins = xs }) (now k is) (begins ∙ rest)
+
+-- ---- ranges of backtrack points
+
+points-of-range : (m : Machine) (base : List Entry) (p : Place) (more : ℕ) → m.stack.entries.items ≡ base ++ entries.Points p (p.position + more) ∷ [] →
+    points m ≡ range_points p more (groups_of m) ++ points_of (reverse base) (groups_of m)
+unfolding points
+points-of-range m base p more is =
+    ap (λ es. points_of (reverse es) (groups_of m)) is
+    ∙ ap (λ es. points_of es (groups_of m)) (last-first base (entries.Points p (p.position + more)))
+    ∙ ap (λ n. range_points p n (groups_of m) ++ points_of (reverse base) (groups_of m)) (count p.position)
+  where
+    count : (n : ℕ) → n + more - n ≡ more
+    count n = omega arith
+
+rewound-of-range : (m : Machine) (base : List Entry) (p : Place) (last : ℕ) → m.stack.entries.items ≡ base ++ entries.Points p last ∷ [] →
+    rewound m ≡ before_all (reverse base) (groups_of m)
+unfolding rewound
+rewound-of-range m base p last is =
+    ap (λ es. before_all (reverse es) (groups_of m)) is
+    ∙ ap (λ es. before_all es (groups_of m)) (last-first base (entries.Points p last))
+
+-- The last of several points are removed: the stack `base` is what is below them.
+pub shortened : (m m' : Machine) (base : List Entry) (p : Place) (more kept : ℕ) →
+    m.stack.entries.items ≡ base ++ entries.Points p (p.position + more) ∷ [] → m'.stack.entries.items ≡ base ++ entries.Points p (p.position + kept) ∷ [] →
+    groups_of m' ≡ groups_of m → Shortened p more kept m m'
+shortened m m' base p more kept is is' same = record {
+  groups = same;
+  rewound = rewound-of-range m' base p (p.position + kept) is' ∙ ap (before_all (reverse base)) same ∙ sym (rewound-of-range m base p (p.position + more) is);
+  others = points_of (reverse base) (groups_of m);
+  points = points-of-range m base p more is;
+  fewer = points-of-range m' base p kept is' ∙ ap (λ g. range_points p kept g ++ points_of (reverse base) g) same;
+}

@@ -1,8 +1,8 @@
 //! The captures of a run, and its backtrack stack.
-ghost use Rattle.std.specs.Prelude.{◌≡◌, ◌∷◌, ◌++◌, ◌+◌, ◌≤◌, [], ℕ, IfOk, MatchOption, None, replicate, slice_set};
+ghost use Rattle.std.specs.Prelude.{◌≡◌, ◌∷◌, ◌++◌, ◌+◌, ◌≤◌, [], ℕ, IfOk, IfSome, MatchOption, None, replicate, slice_set};
 ghost use Rattle.regress_tree.specs.Repetition.{unset_from};
 ghost use Rattle.regress_program.specs.Program.{ended, goto};
-ghost use Rattle.regress_backtrack.specs.Machine.{Chosen, Closed, Kept, Ranged, at, changes_of, groups_of, points, rewound, undone};
+ghost use Rattle.regress_backtrack.specs.Machine.{Chosen, Closed, EndsIn, Kept, Ranged, Shortened, at, changes_of, groups_of, points, rewound, undone};
 
 use std::alloc::{AllocError, Global};
 use std::mem;
@@ -197,6 +197,39 @@ impl Machine {
             }
         }
         Ok(None)
+    }
+
+    /// Returns the first place of the latest entry, and the number of positions after it, if it is backtrack points at more
+    /// than one position.
+    #[inline(always)]
+    pub fn latest_range(&self) -> Option<(Place, usize)>
+        ensures latest { IfSome result (λ range. EndsIn self.now range.0 range.1) }
+        ensures within { IfSome result (λ range. range.0.position + range.1 ≤ usize.MAX) }
+    {
+        let (latest, _) = self.stack.entries.split_last()?;
+        match *latest {
+            Entry::Points { first, last } if last > first.position => {
+                Some((first, last - first.position))
+            }
+            _ => None,
+        }
+    }
+
+    /// Keeps of the latest entry, which is backtrack points, those at the place `first` and at the `more` positions after it.
+    ///
+    /// # Preconditions
+    /// The latest entry is backtrack points from there on, at no fewer positions, and the last one is at most `usize::MAX`.
+    #[inline(always)]
+    pub fn keep_range(&mut self, first: Place, more: usize)
+        requires latest { (all : ℕ) × EndsIn self.old first all }
+        requires within { first.position + more ≤ usize.MAX }
+        ensures { (all : ℕ) → EndsIn self.old first all → Shortened first all more self.old self.new }
+    {
+        let latest = self.stack.entries.len() - 1;
+        self.stack.entries[latest] = Entry::Points {
+            first,
+            last: first.position + more,
+        };
     }
 
     /// Undoes a change.

@@ -17,6 +17,7 @@ use crate::alternatives::fails;
 use crate::input::{Input, input_for, instruction_at};
 use crate::machine::{Machine, Place};
 use crate::step::{Next, step};
+use crate::sweep::points_that_may_match;
 use regress_program::instruction::Instruction;
 use std::alloc::{AllocError, Global};
 
@@ -121,8 +122,29 @@ fn resume(input: &Input<'_, '_>, machine: &mut Machine) -> Result<Option<Place>,
         if !fails(input, to) {
             return Ok(Some(to));
         }
+        leave_out(input, machine);
     }
     Ok(None)
+}
+
+/// Leaves out the last backtrack points of the latest entry at which the run is known to fail.
+///
+/// # Preconditions
+/// The routines are a program.
+fn leave_out(input: &Input<'_, '_>, machine: &mut Machine)
+    requires { IsInput input.now }
+    ensures leads { (outs : ℕ → Out) → Solve input.now outs → (let out = outs input.now.index in
+        flat_map out (points machine.new) ≡ flat_map out (points machine.old)) }
+    ensures inside { All (Inside input.now) (points machine.old) → All (Inside input.now) (points machine.new) }
+    ensures groups { groups_of machine.new ≡ groups_of machine.old }
+    ensures rewound { rewound machine.new ≡ rewound machine.old }
+    ensures costs { (cost : Cost) → points_cost cost machine.new ≤ points_cost cost machine.old }
+    ensures fewer { length (points machine.new) ≤ length (points machine.old) }
+{
+    if let Some((first, more)) = machine.latest_range() {
+        let kept = points_that_may_match(input, first, more);
+        machine.keep_range(first, kept);
+    }
 }
 
 /// Runs one instruction.

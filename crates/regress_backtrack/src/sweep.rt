@@ -103,9 +103,26 @@ fn points_kept(input: &Input<'_, '_>, to: Place, first: Place, more: usize) -> u
     ensures fails { (k : ℕ) → result < k → k ≤ more →
         Fails input.now (record { pc = first.pc; moved = true; position = first.position + k }) }
 {
-    if !fails(input, to) {
-        return more;
+    if fails(input, to) {
+        points_that_may_match(input, first, more)
+    } else {
+        more
     }
+}
+
+/// Returns how many of the `more` positions after the place `first` are left without the last ones at which a run is known
+/// to fail.
+///
+/// # Preconditions
+/// The routines are a program, and the last position is at most `usize::MAX`.
+#[inline(always)]
+pub(crate) fn points_that_may_match(input: &Input<'_, '_>, first: Place, more: usize) -> usize
+    requires input { IsInput input.now }
+    requires last { first.position + more ≤ usize.MAX }
+    ensures within { result ≤ more }
+    ensures fails { (k : ℕ) → result < k → k ≤ more →
+        Fails input.now (record { pc = first.pc; moved = true; position = first.position + k }) }
+{
     let mut kept = more;
     while kept > 0 && fails_after(input, first, kept) {
         kept -= 1;

@@ -1,7 +1,7 @@
 use Rattle.std.proofs.Common.{arith, ◌+◌, true}
 use Rattle.regress_backtrack.specs.Next.{Fails}
 use Rattle.regress_backtrack.proofs.SweepLemmas.{holds_from}
-use Rattle.regress_backtrack.proofs.sweep.points_kept.Goals as goal
+use Rattle.regress_backtrack.proofs.sweep.points_that_may_match.Goals as goal
 
 pub loop-kept-preserved : goal.loop-kept-preserved
 loop-kept-preserved c =

@@ -1,7 +1,7 @@
 -- The positions that are left out have no outcome.
 use Rattle.std.proofs.Common.{◌+◌, ◌≤◌, ◌<◌, ℕ, true}
 use Rattle.regress_backtrack.specs.Next.{Fails}
-use Rattle.regress_backtrack.proofs.sweep.points_kept.Given as goal
+use Rattle.regress_backtrack.proofs.sweep.points_that_may_match.Given as goal
 
 abbrev pub invariant-loop-kept : goal.invariant-loop-kept
 invariant-loop-kept l = record {
