@@ -21,6 +21,10 @@ run_tables b = b.known.tables.now
 abbrev pub run_text : Backtracker → List ℕ
 run_text b = b.text.now
 
+-- the number of entries for which each backtrack stack may have room
+abbrev pub run_room : Backtracker → ℕ
+run_room b = b.room
+
 -- These are the outcomes of the instructions of the program in the text.
 abbrev pub AreOutcomes : Backtracker → (ℕ → Out) → Type 0
 AreOutcomes b outs = IsSolution (setting_with (run_code b) (run_tables b)) (run_text b) (code_routines (run_code b)) outs

@@ -2,6 +2,7 @@ pub mod Backtracker
 pub mod Costs
 pub mod Lead
 pub mod Machine
+pub mod Memory
 pub mod Next
 pub mod Run
 pub mod Searched

@@ -1,9 +1,11 @@
 //! Alternatives, and the iterations of loops.
-ghost use Rattle.std.specs.Prelude.{◌≡◌, ◌≤◌, ◌<◌, ◌+◌, ◌++◌, ◌∷◌, ℕ, All, IfOk, IfSome, false, flat_map, length, true};
+ghost use Rattle.std.specs.Prelude.{◌≡◌, ◌≤◌, ◌<◌, ◌+◌, ◌++◌, ◌∷◌, ℕ, All, IfErr, IfOk, IfSome, false, flat_map, length, true};
 ghost use Rattle.regress_program.specs.Cost.{Cost};
 ghost use Rattle.regress_program.specs.Program.{Out, either};
 ghost use Rattle.regress_backtrack.specs.Costs.{HasCost, cost_ahead, points_cost};
 ghost use Rattle.regress_backtrack.specs.Machine.{Groups, at, groups_of, points, rewound};
+ghost use Rattle.regress_found.specs.declared.fault.MemoryFault.TheVariants.{TooMuchMemory};
+ghost use Rattle.regress_backtrack.specs.Memory.{AreWithin, entry_count};
 ghost use Rattle.regress_backtrack.specs.Next.{Fails, Inside, IsInput, Leads, Solve, ahead};
 ghost use Rattle.regress_code.specs.Skips.{AreSkipped, IsBeside};
 ghost use Rattle.regress_tree.specs.Reading.{direction_if};
@@ -14,8 +16,8 @@ use crate::machine::{Machine, Place};
 use crate::step::Next;
 use crate::sweep::sweep;
 use regress_code::skips::count_at;
+use regress_found::MemoryFault;
 use regress_program::instruction::Instruction;
-use std::alloc::AllocError;
 
 /// A loop.
 #[derive(Clone, Copy)]
@@ -34,14 +36,14 @@ pub struct Looping {
 /// Both places are inside the routine and the text.
 ///
 /// # Errors
-/// Returns [`AllocError`] if an allocation fails.
+/// Returns [`MemoryFault`] if an allocation fails, or if the stack would need more room than the input allows.
 #[inline(always)]
 pub fn fork(
     input: &Input<'_, '_>,
     first: Place,
     second: Place,
     machine: &mut Machine,
-) -> Result<Next, AllocError>
+) -> Result<Next, MemoryFault>
     requires input { IsInput input.now }
     requires first { Inside input.now (at first (groups_of machine.old)) }
     requires second { Inside input.now (at second (groups_of machine.old)) }
@@ -54,6 +56,9 @@ pub fn fork(
         cost_ahead cost machine.new next ≤ (cost (at first (groups_of machine.old)) + cost (at second (groups_of machine.old)))
         + points_cost cost machine.old)) }
     ensures goes { IfOk result (λ next. next ≡ OutOfSteps → ⊥) }
+    ensures grows { IfOk result (λ _. entry_count machine.new ≤ entry_count machine.old + 1) }
+    ensures within { AreWithin input.now.room machine.old → AreWithin input.now.room machine.new }
+    ensures too_much { IfErr result (λ fault. fault ≡ TooMuchMemory → input.now.room ≤ entry_count machine.old) }
 {
     if fails(input, first) {
         return Ok(on(input, skip(input, second)));
@@ -61,7 +66,7 @@ pub fn fork(
     if fails(input, second) {
         return Ok(Next::On(first));
     }
-    machine.choose(second)?;
+    machine.choose(second, input.room)?;
     Ok(Next::On(first))
 }
 
@@ -74,7 +79,7 @@ pub fn fork(
 /// It subtracts from `remaining` the number of bytes by which it moves the position.
 ///
 /// # Errors
-/// Returns [`AllocError`] if an allocation fails.
+/// Returns [`MemoryFault`] if an allocation fails, or if the stack would need more room than the input allows.
 #[inline(always)]
 pub fn iterate(
     input: &Input<'_, '_>,
@@ -82,7 +87,7 @@ pub fn iterate(
     here: Place,
     machine: &mut Machine,
     remaining: &mut u64,
-) -> Result<Next, AllocError>
+) -> Result<Next, MemoryFault>
     requires input { IsInput input.now }
     requires body { looping.body < length input.now.instructions.now }
     requires next { looping.next < length input.now.instructions.now }
@@ -101,6 +106,9 @@ pub fn iterate(
         remaining.old + cost_ahead cost machine.new to
         ≤ remaining.new + ((cost (at again (groups_of machine.old)) + cost (at after (groups_of machine.old))) + points_cost cost machine.old))) }
     ensures goes { IfOk result (λ to. to ≡ OutOfSteps → ⊥) }
+    ensures grows { IfOk result (λ _. entry_count machine.new ≤ entry_count machine.old + 1) }
+    ensures within { AreWithin input.now.room machine.old → AreWithin input.now.room machine.new }
+    ensures too_much { IfErr result (λ fault. fault ≡ TooMuchMemory → input.now.room ≤ entry_count machine.old) }
 {
     let again = Place {
         pc: looping.body,

@@ -1,5 +1,5 @@
 //! Runs from many positions of a text.
-ghost use Rattle.std.specs.Prelude.{◌≡◌, ◌≤◌, ◌+◌, ◌-◌, ℕ, IfOk, List, None, length, replicate};
+ghost use Rattle.std.specs.Prelude.{◌≡◌, ◌≤◌, ◌+◌, ◌-◌, ◌*◌, ℕ, IfErr, IfOk, List, None, length, replicate};
 ghost use Rattle.regress_tree.specs.Steps.{MatchState};
 ghost use Rattle.regress_tree.specs.Tree.{Tree};
 ghost use Rattle.regress_program.specs.Compiled.{IsPattern};
@@ -10,18 +10,20 @@ ghost use Rattle.regress_backtrack.specs.Run.{IsResponseOf};
 ghost use Rattle.regress_backtrack.specs.declared.run.Response.TheVariants as responses;
 ghost use Rattle.regress_found.specs.Results.{IsMatchResult};
 ghost use Rattle.regress_found.specs.declared.outcome.Outcome.TheVariants.{NoMatch, OutOfSteps};
+ghost use Rattle.regress_found.specs.declared.fault.MemoryFault.TheVariants.{TooMuchMemory};
+ghost use Rattle.regress_backtrack.specs.Memory.{AreWithin, IsWithin, entries_in};
 ghost use Rattle.regress_backtrack.specs.Searched.{IsFor};
 
 use crate::cache::Cache;
 use crate::input::{Input, input_for};
-use crate::machine::Machine;
+use crate::machine::{ENTRY_BYTES, Machine};
 use crate::run::{Response, run};
 use regress_code::Code;
-use regress_found::{Match, Outcome};
+use regress_found::{Match, MemoryFault, Outcome};
 use regress_leaves::known::Known;
 use regress_leaves::rules::MatchContext;
 use regress_program::blocks::blocks;
-use std::alloc::{AllocError, Global};
+use std::alloc::Global;
 use std::mem;
 
 /// A program and a text, for runs from many positions. The memory of a run is that of a [`Cache`].
@@ -33,19 +35,34 @@ pub struct Backtracker<'c, 'x> {
     pub(crate) known: Known<'x>,
     /// The text.
     pub(crate) text: &'x str,
+    /// The number of entries for which each backtrack stack may have room.
+    pub(crate) room: usize,
 }
 
 impl<'c, 'x> Backtracker<'c, 'x> {
-    ghost use Rattle.regress_backtrack.specs.Backtracker.{AreCosts, AreOutcomes, captures_cost_of, cost_at, match_cost_at, outcomes_at, run_code, run_tables, run_text, tree_outcomes_at};
+    ghost use Rattle.regress_backtrack.specs.Backtracker.{AreCosts, AreOutcomes, captures_cost_of, cost_at, match_cost_at, outcomes_at, run_code, run_room, run_tables, run_text, tree_outcomes_at};
 
-    /// Returns a backtracker for a program and a text, under case mappings. The program has a cost in the text.
-    pub fn new(code: &'c Code, known: Known<'x>, text: &'x str) -> Backtracker<'c, 'x>
+    /// Returns a backtracker for a program and a text, under case mappings. The program has a cost in the text. Each
+    /// backtrack stack may take at most `memory` bytes: there is one for the pattern, and one for each level of nested
+    /// lookarounds.
+    pub fn new(
+        code: &'c Code,
+        known: Known<'x>,
+        text: &'x str,
+        memory: usize,
+    ) -> Backtracker<'c, 'x>
         ensures code { run_code result ≡ code.now }
         ensures tables { run_tables result ≡ known.entry.tables.now }
         ensures text { run_text result ≡ text.now }
+        ensures room { run_room result ≡ entries_in memory }
         ensures has_cost { (outs : ℕ → Out) → AreOutcomes result outs → (costs : ℕ → Cost) × AreCosts result outs costs }
     {
-        Backtracker { code, known, text }
+        Backtracker {
+            code,
+            known,
+            text,
+            room: memory / ENTRY_BYTES,
+        }
     }
 
     /// Matches at exactly the byte offset `position`, with every group unset at first, and subtracts the steps from
@@ -58,14 +75,15 @@ impl<'c, 'x> Backtracker<'c, 'x> {
     /// The position is inside the text.
     ///
     /// # Errors
-    /// Returns [`AllocError`] if an allocation fails.
+    /// - [`MemoryFault::TooMuchMemory`] if a backtrack stack needs more bytes than the backtracker allows.
+    /// - [`MemoryFault::Memory`] if an allocation fails.
     pub fn match_at(
         &self,
         alloc: Global,
         cache: &mut Cache,
         position: usize,
         remaining: &mut u64,
-    ) -> Result<Outcome, AllocError>
+    ) -> Result<Outcome, MemoryFault>
         requires { position ≤ length (run_text self.now) }
         ensures solved { IfOk result (λ outcome. (outs : ℕ → Out) → AreOutcomes self.now outs →
             IsMatchResult position (outcomes_at self.now outs position) outcome) }
@@ -76,8 +94,11 @@ impl<'c, 'x> Backtracker<'c, 'x> {
             remaining.old ≤ remaining.new + match_cost_at self.now costs position) }
         ensures spent { IfOk result (λ outcome. outcome ≡ OutOfSteps → remaining.new ≡ 0) }
         ensures charged { IfOk result (λ _. remaining.new ≤ remaining.old - captures_cost_of self.now) }
+        ensures within { IsWithin (run_room self.now) cache.old → IsWithin (run_room self.now) cache.new }
+        ensures too_much { IfErr result (λ fault. fault ≡ TooMuchMemory → (outs : ℕ → Out) (costs : ℕ → Cost) → AreCosts self.now outs costs →
+            run_room self.now ≤ 64 * match_cost_at self.now costs position) }
     {
-        let input = input_of(self.code, self.known, self.text);
+        let input = input_of(self);
         *remaining = remaining.saturating_sub(self.captures_cost());
         cache.machine.unset_all(self.code.program.groups)?;
         self.match_in(alloc, &input, &mut cache.machine, position, remaining)
@@ -98,7 +119,8 @@ impl<'c, 'x> Backtracker<'c, 'x> {
     /// unset.
     ///
     /// # Errors
-    /// Returns [`AllocError`] if an allocation fails.
+    /// - [`MemoryFault::TooMuchMemory`] if a backtrack stack needs more bytes than the backtracker allows.
+    /// - [`MemoryFault::Memory`] if an allocation fails.
     #[inline(always)]
     pub(crate) fn match_in(
         &self,
@@ -107,8 +129,9 @@ impl<'c, 'x> Backtracker<'c, 'x> {
         machine: &mut Machine,
         position: usize,
         remaining: &mut u64,
-    ) -> Result<Outcome, AllocError>
+    ) -> Result<Outcome, MemoryFault>
         requires input { IsFor (run_code self.now) (run_tables self.now) (run_text self.now) input.now }
+        requires room { input.now.room ≡ run_room self.now }
         requires unset { machine.old.captures.items ≡ replicate (code_groups (run_code self.now)) None }
         requires position { position ≤ length (run_text self.now) }
         ensures solved { IfOk result (λ outcome. (outs : ℕ → Out) → AreOutcomes self.now outs →
@@ -120,6 +143,9 @@ impl<'c, 'x> Backtracker<'c, 'x> {
         ensures costs { IfOk result (λ _. (outs : ℕ → Out) (costs : ℕ → Cost) → AreCosts self.now outs costs →
             remaining.old ≤ remaining.new + cost_at self.now costs position) }
         ensures spent { IfOk result (λ outcome. outcome ≡ OutOfSteps → remaining.new ≡ 0) }
+        ensures within { AreWithin (run_room self.now) machine.old → AreWithin (run_room self.now) machine.new }
+        ensures too_much { IfErr result (λ fault. fault ≡ TooMuchMemory → (outs : ℕ → Out) (costs : ℕ → Cost) → AreCosts self.now outs costs →
+            run_room self.now ≤ 64 * cost_at self.now costs position) }
     {
         let response = self.run_at(alloc, input, machine, position, remaining)?;
         Ok(outcome_of(alloc, machine, response, position))
@@ -131,7 +157,8 @@ impl<'c, 'x> Backtracker<'c, 'x> {
     /// As for [`Backtracker::match_in`].
     ///
     /// # Errors
-    /// Returns [`AllocError`] if an allocation fails.
+    /// - [`MemoryFault::TooMuchMemory`] if a backtrack stack needs more bytes than the backtracker allows.
+    /// - [`MemoryFault::Memory`] if an allocation fails.
     #[inline(always)]
     fn run_at(
         &self,
@@ -140,8 +167,9 @@ impl<'c, 'x> Backtracker<'c, 'x> {
         machine: &mut Machine,
         position: usize,
         remaining: &mut u64,
-    ) -> Result<Response, AllocError>
+    ) -> Result<Response, MemoryFault>
         requires input { IsFor (run_code self.now) (run_tables self.now) (run_text self.now) input.now }
+        requires room { input.now.room ≡ run_room self.now }
         requires unset { machine.old.captures.items ≡ replicate (code_groups (run_code self.now)) None }
         requires position { position ≤ length (run_text self.now) }
         ensures solved { IfOk result (λ response. (outs : ℕ → Out) → AreOutcomes self.now outs →
@@ -153,6 +181,9 @@ impl<'c, 'x> Backtracker<'c, 'x> {
         ensures costs { IfOk result (λ _. (outs : ℕ → Out) (costs : ℕ → Cost) → AreCosts self.now outs costs →
             remaining.old ≤ remaining.new + cost_at self.now costs position) }
         ensures spent { IfOk result (λ response. response ≡ responses.OutOfSteps → remaining.new ≡ 0) }
+        ensures within { AreWithin (run_room self.now) machine.old → AreWithin (run_room self.now) machine.new }
+        ensures too_much { IfErr result (λ fault. fault ≡ TooMuchMemory → (outs : ℕ → Out) (costs : ℕ → Cost) → AreCosts self.now outs costs →
+            run_room self.now ≤ 64 * cost_at self.now costs position) }
     {
         run(alloc, input, position, machine, remaining)
     }
@@ -163,6 +194,7 @@ fn outcome_of(alloc: Global, machine: &mut Machine, response: Response, position
     ensures first { (states : List MatchState) → IsResponseOf states machine.old response → IsMatchResult position states result }
     ensures none { result ≡ NoMatch → response ≡ responses.NoMatch }
     ensures kept { result ≡ NoMatch → machine.new ≡ machine.old }
+    ensures within { (room : ℕ) → AreWithin room machine.old → AreWithin room machine.new }
     ensures spent { result ≡ OutOfSteps → response ≡ responses.OutOfSteps }
 {
     match response {
@@ -176,15 +208,22 @@ fn outcome_of(alloc: Global, machine: &mut Machine, response: Response, position
     }
 }
 
-/// Returns the input for the pattern of a program.
+/// Returns the input for the pattern of the program.
 #[inline(always)]
-pub(crate) fn input_of<'c, 'x>(code: &'c Code, known: Known<'x>, text: &'x str) -> Input<'c, 'x>
-    ensures { IsFor code.now known.entry.tables.now text.now result }
+pub(crate) fn input_of<'c, 'x>(backtracker: &Backtracker<'c, 'x>) -> Input<'c, 'x>
+    ensures input { IsFor (run_code backtracker.now) (run_tables backtracker.now) (run_text backtracker.now) result }
+    ensures room { result.room ≡ run_room backtracker.now }
 {
     let rules = MatchContext {
-        flags: code.program.flags,
-        known,
+        flags: backtracker.code.program.flags,
+        known: backtracker.known,
         backwards: false,
     };
-    input_for(text, rules, code, code.program.routines.len() - 1)
+    input_for(
+        backtracker.text,
+        rules,
+        backtracker.code,
+        backtracker.code.program.routines.len() - 1,
+        backtracker.room,
+    )
 }

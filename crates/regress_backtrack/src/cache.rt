@@ -1,4 +1,6 @@
 //! Memory that is kept from one search to the next.
+ghost use Rattle.std.specs.Prelude.{ℕ};
+ghost use Rattle.regress_backtrack.specs.Memory.{IsWithin};
 
 use crate::machine::Machine;
 use regress_found::Match;
@@ -13,14 +15,18 @@ pub struct Cache {
 
 impl Cache {
     /// Returns an empty cache. It allocates nothing.
-    pub fn new(alloc: Global) -> Cache {
+    pub fn new(alloc: Global) -> Cache
+        ensures within { (room : ℕ) → IsWithin room result }
+    {
         Cache {
             machine: Machine::new(alloc),
         }
     }
 
     /// Takes the memory of a match, for the captures of the next one.
-    pub fn recycle(&mut self, found: Match) {
+    pub fn recycle(&mut self, found: Match)
+        ensures within { (room : ℕ) → IsWithin room self.old → IsWithin room self.new }
+    {
         self.machine.captures = found.into_groups();
     }
 }

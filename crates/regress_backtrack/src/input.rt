@@ -34,9 +34,11 @@ pub struct Input<'c, 'x> {
     pub skips: &'c [Skip],
     /// The index of the instruction at which a match starts.
     pub first: usize,
+    /// The number of entries for which each backtrack stack may have room.
+    pub room: usize,
 }
 
-/// Returns the input for the routine with this index.
+/// Returns the input for the routine with this index. Each backtrack stack may have room for `room` entries.
 ///
 /// # Preconditions
 /// There is a routine with this index.
@@ -45,6 +47,7 @@ pub fn input_for<'c, 'x>(
     rules: MatchContext<'x>,
     code: &'c Code,
     index: usize,
+    room: usize,
 ) -> Input<'c, 'x>
     requires { index < length (code_routines code.now) }
     ensures input { IsInput result }
@@ -52,6 +55,7 @@ pub fn input_for<'c, 'x>(
     ensures setting { (subject result.rules text.now).setting ≡ (subject rules.entry text.now).setting }
     ensures code { result.code.now ≡ code.now }
     ensures index { result.index ≡ index }
+    ensures room { result.room ≡ room }
 {
     let routine = &code.program.routines[index];
     let input = Input {
@@ -66,6 +70,7 @@ pub fn input_for<'c, 'x>(
         next_bytes: &[],
         skips: &[],
         first: routine.entry,
+        room,
     };
     match analysis_of(code, rules, index) {
         Some(analysis) => Input {

@@ -1,9 +1,12 @@
 //! The captures of a run, and its backtrack stack.
-ghost use Rattle.std.specs.Prelude.{◌≡◌, ◌∷◌, ◌++◌, ◌+◌, ◌≤◌, [], ℕ, IfOk, IfSome, MatchOption, None, replicate, slice_set};
+ghost use Rattle.std.specs.Prelude.{◌≡◌, ◌∷◌, ◌++◌, ◌+◌, ◌-◌, ◌≤◌, [], ℕ, IfErr, IfOk, IfSome, MatchOption, None, length, min, replicate, slice_set, vec_capacity};
 ghost use Rattle.regress_tree.specs.Repetition.{unset_from};
 ghost use Rattle.regress_program.specs.Program.{ended, goto};
+ghost use Rattle.regress_found.specs.declared.fault.MemoryFault.TheVariants.{TooMuchMemory};
+ghost use Rattle.regress_backtrack.specs.Memory.{AreWithin, IsStackWithin, entry_count};
 ghost use Rattle.regress_backtrack.specs.Machine.{Chosen, Closed, EndsIn, Kept, Ranged, Shortened, at, changes_of, groups_of, points, rewound, undone};
 
+use regress_found::{MemoryFault, push_within};
 use std::alloc::{AllocError, Global};
 use std::mem;
 
@@ -45,6 +48,11 @@ pub enum Entry {
     },
 }
 
+/// The number of bytes of an entry.
+pub const ENTRY_BYTES: usize = 40;
+
+const _: () = prove!(size_of::<Entry>() == 40);
+
 /// What belongs to one run of a routine.
 #[derive(Drop)]
 pub struct Stack {
@@ -56,7 +64,9 @@ pub struct Stack {
 
 impl Stack {
     /// Returns an empty stack.
-    pub fn new(alloc: Global) -> Stack {
+    pub fn new(alloc: Global) -> Stack
+        ensures within { (room : ℕ) → IsStackWithin room result }
+    {
         Stack {
             begins: Vec::new(alloc),
             entries: Vec::new(alloc),
@@ -67,6 +77,7 @@ impl Stack {
     pub fn clear(&mut self)
         ensures begins { self.new.begins.items ≡ [] }
         ensures entries { self.new.entries.items ≡ [] }
+        ensures within { (room : ℕ) → IsStackWithin room self.old → IsStackWithin room self.new }
     {
         self.begins.clear();
         self.entries.clear();
@@ -86,7 +97,9 @@ pub struct Machine {
 
 impl Machine {
     /// Returns a machine without groups. It allocates nothing.
-    pub fn new(alloc: Global) -> Machine {
+    pub fn new(alloc: Global) -> Machine
+        ensures within { (room : ℕ) → AreWithin room result }
+    {
         Machine {
             captures: Vec::new(alloc),
             stack: Stack::new(alloc),
@@ -99,7 +112,8 @@ impl Machine {
     /// # Errors
     /// Returns [`AllocError`] if an allocation fails.
     pub fn unset_all(&mut self, groups: usize) -> Result<(), AllocError>
-        ensures { IfOk result (λ _. self.new.captures.items ≡ replicate groups None) }
+        ensures captures { IfOk result (λ _. self.new.captures.items ≡ replicate groups None) }
+        ensures within { (room : ℕ) → AreWithin room self.old → AreWithin room self.new }
     {
         self.captures.clear();
         self.captures.resize(groups, None)?;
@@ -110,6 +124,7 @@ impl Machine {
     pub fn enter(&mut self, alloc: Global) -> Stack
         ensures stack { result ≡ self.old.stack }
         ensures captures { self.new.captures.items ≡ self.old.captures.items }
+        ensures within { (room : ℕ) → AreWithin room self.old → AreWithin room self.new }
     {
         let inner = match self.idle.pop() {
             Some(stack) => stack,
@@ -122,14 +137,16 @@ impl Machine {
     /// are kept, so that backtracking undoes them.
     ///
     /// # Errors
-    /// Returns [`AllocError`] if an allocation fails.
-    pub fn leave(&mut self, outer: Stack) -> Result<(), AllocError>
+    /// Returns [`MemoryFault`] if an allocation fails, or if the stack would need room for more than `room` entries.
+    pub fn leave(&mut self, outer: Stack, room: usize) -> Result<(), MemoryFault>
         ensures entries { IfOk result (λ _. self.new.stack.entries.items ≡ outer.entries.items ++ changes_of self.old.stack.entries.items) }
         ensures begins { IfOk result (λ _. self.new.stack.begins.items ≡ outer.begins.items) }
         ensures captures { IfOk result (λ _. self.new.captures.items ≡ self.old.captures.items) }
+        ensures within { AreWithin room self.old → IsStackWithin room outer → AreWithin room self.new }
+        ensures too_much { IfErr result (λ fault. fault ≡ TooMuchMemory → room ≤ length outer.entries.items + entry_count self.old) }
     {
         let inner = mem::replace(&mut self.stack, outer);
-        append_changes(&inner.entries, &mut self.stack.entries)?;
+        append_changes(&inner.entries, &mut self.stack.entries, room)?;
         self.idle.push(inner)?;
         Ok(())
     }
@@ -137,15 +154,18 @@ impl Machine {
     /// Adds a backtrack point.
     ///
     /// # Errors
-    /// Returns [`AllocError`] if an allocation fails.
-    pub fn choose(&mut self, place: Place) -> Result<(), AllocError>
-        ensures { IfOk result (λ _. Chosen place self.old self.new) }
+    /// Returns [`MemoryFault`] if an allocation fails, or if the stack would need room for more than `room` entries.
+    pub fn choose(&mut self, place: Place, room: usize) -> Result<(), MemoryFault>
+        ensures chosen { IfOk result (λ _. Chosen place self.old self.new) }
+        ensures grows { IfOk result (λ _. entry_count self.new ≤ entry_count self.old + 1) }
+        ensures within { AreWithin room self.old → AreWithin room self.new }
+        ensures too_much { IfErr result (λ fault. fault ≡ TooMuchMemory → room ≤ entry_count self.old) }
     {
-        self.stack.entries.push(Entry::Points {
+        let entry = Entry::Points {
             first: place,
             last: place.position,
-        })?;
-        Ok(())
+        };
+        push_within(&mut self.stack.entries, entry, room)
     }
 
     /// Adds a backtrack point, and one at each of the `more` positions after it, at which the innermost open iteration
@@ -155,16 +175,24 @@ impl Machine {
     /// The last position is at most `usize::MAX`.
     ///
     /// # Errors
-    /// Returns [`AllocError`] if an allocation fails.
-    pub fn choose_range(&mut self, first: Place, more: usize) -> Result<(), AllocError>
+    /// Returns [`MemoryFault`] if an allocation fails, or if the stack would need room for more than `room` entries.
+    pub fn choose_range(
+        &mut self,
+        first: Place,
+        more: usize,
+        room: usize,
+    ) -> Result<(), MemoryFault>
         requires { first.position + more ≤ usize.MAX }
-        ensures { IfOk result (λ _. Ranged first more self.old self.new) }
+        ensures ranged { IfOk result (λ _. Ranged first more self.old self.new) }
+        ensures grows { IfOk result (λ _. entry_count self.new ≤ entry_count self.old + 1) }
+        ensures within { AreWithin room self.old → AreWithin room self.new }
+        ensures too_much { IfErr result (λ fault. fault ≡ TooMuchMemory → room ≤ entry_count self.old) }
     {
-        self.stack.entries.push(Entry::Points {
+        let entry = Entry::Points {
             first,
             last: first.position + more,
-        })?;
-        Ok(())
+        };
+        push_within(&mut self.stack.entries, entry, room)
     }
 
     /// Backtracks: undoes the changes since the last backtrack point, removes it, and returns its place. Returns `None`
@@ -176,6 +204,8 @@ impl Machine {
         ensures points { IfOk result (λ to. MatchOption to (points self.old ≡ []) (λ p. points self.old ≡ at p (groups_of self.new) ∷ points self.new)) }
         ensures rewound { IfOk result (λ _. rewound self.new ≡ rewound self.old) }
         ensures all { IfOk result (λ to. MatchOption to (groups_of self.new ≡ rewound self.old) (λ _. Unit)) }
+        ensures shrinks { entry_count self.new ≤ entry_count self.old }
+        ensures within { (room : ℕ) → AreWithin room self.old → AreWithin room self.new }
     {
         while let Some(entry) = self.stack.entries.pop() {
             match entry {
@@ -183,10 +213,10 @@ impl Machine {
                     if last <= first.position {
                         return Ok(Some(first));
                     }
-                    self.stack.entries.push(Entry::Points {
+                    self.stack.entries.push_reserved(Entry::Points {
                         first,
                         last: last - 1,
-                    })?;
+                    });
                     return Ok(Some(Place {
                         pc: first.pc,
                         moved: true,
@@ -239,6 +269,7 @@ impl Machine {
     fn undo(&mut self, entry: Entry) -> Result<(), AllocError>
         ensures groups { IfOk result (λ _. groups_of self.new ≡ undone entry (groups_of self.old)) }
         ensures entries { self.new.stack.entries.items ≡ self.old.stack.entries.items }
+        ensures within { (room : ℕ) → AreWithin room self.old → AreWithin room self.new }
     {
         match entry {
             Entry::Points { .. } => {}
@@ -258,17 +289,26 @@ impl Machine {
     /// Sets the capture of a group, or with `None` unsets it. An id with no group changes nothing.
     ///
     /// # Errors
-    /// Returns [`AllocError`] if an allocation fails.
-    fn set(&mut self, group: usize, span: Option<(usize, usize)>) -> Result<(), AllocError>
+    /// Returns [`MemoryFault`] if an allocation fails, or if the stack would need room for more than `room` entries.
+    fn set(
+        &mut self,
+        group: usize,
+        span: Option<(usize, usize)>,
+        room: usize,
+    ) -> Result<(), MemoryFault>
         ensures captures { IfOk result (λ _. self.new.captures.items ≡ slice_set self.old.captures.items group span) }
         ensures begins { self.new.stack.begins.items ≡ self.old.stack.begins.items }
         ensures kept { IfOk result (λ _. Kept self.old self.new) }
+        ensures grows { IfOk result (λ _. entry_count self.new ≤ entry_count self.old + 1) }
+        ensures within { AreWithin room self.old → AreWithin room self.new }
+        ensures too_much { IfErr result (λ fault. fault ≡ TooMuchMemory → room ≤ entry_count self.old) }
     {
         if group < self.captures.len() {
-            self.stack.entries.push(Entry::Capture {
+            let entry = Entry::Capture {
                 group,
                 before: self.captures[group],
-            })?;
+            };
+            push_within(&mut self.stack.entries, entry, room)?;
             self.captures[group] = span;
         }
         Ok(())
@@ -277,16 +317,20 @@ impl Machine {
     /// Unsets the groups `start` to `end - 1`.
     ///
     /// # Errors
-    /// Returns [`AllocError`] if an allocation fails.
-    pub fn unset(&mut self, start: usize, end: usize) -> Result<(), AllocError>
+    /// Returns [`MemoryFault`] if an allocation fails, or if the stack would need room for more than `room` entries.
+    pub fn unset(&mut self, start: usize, end: usize, room: usize) -> Result<(), MemoryFault>
         ensures captures { IfOk result (λ _. self.new.captures.items ≡ unset_from 0 start end self.old.captures.items) }
         ensures begins { self.new.stack.begins.items ≡ self.old.stack.begins.items }
         ensures kept { IfOk result (λ _. Kept self.old self.new) }
+        ensures grows { IfOk result (λ _. entry_count self.new ≤ entry_count self.old + (min end (length self.old.captures.items) - start)) }
+        ensures within { AreWithin room self.old → AreWithin room self.new }
+        ensures too_much { IfErr result (λ fault. fault ≡ TooMuchMemory →
+            room ≤ entry_count self.old + (min end (length self.old.captures.items) - start)) }
     {
         let after = end.min(self.captures.len());
         for group in start..after {
             if self.captures[group].is_some() {
-                self.set(group, None)?;
+                self.set(group, None, room)?;
             }
         }
         Ok(())
@@ -295,44 +339,53 @@ impl Machine {
     /// Begins a capture group.
     ///
     /// # Errors
-    /// Returns [`AllocError`] if an allocation fails.
-    pub fn begin_group(&mut self, position: usize) -> Result<(), AllocError>
+    /// Returns [`MemoryFault`] if an allocation fails, or if the stack would need room for more than `room` entries.
+    pub fn begin_group(&mut self, position: usize, room: usize) -> Result<(), MemoryFault>
         ensures captures { self.new.captures.items ≡ self.old.captures.items }
         ensures begins { IfOk result (λ _. self.new.stack.begins.items ≡ self.old.stack.begins.items ++ position ∷ []) }
         ensures kept { IfOk result (λ _. Kept self.old self.new) }
+        ensures grows { IfOk result (λ _. entry_count self.new ≤ entry_count self.old + 1) }
+        ensures within { AreWithin room self.old → AreWithin room self.new }
+        ensures too_much { IfErr result (λ fault. fault ≡ TooMuchMemory → room ≤ entry_count self.old) }
     {
         self.stack.begins.push(position)?;
-        self.stack.entries.push(Entry::Began)?;
-        Ok(())
+        push_within(&mut self.stack.entries, Entry::Began, room)
     }
 
     /// Ends the innermost open group, and sets the capture of the group `id`.
     ///
     /// # Errors
-    /// Returns [`AllocError`] if an allocation fails.
-    pub fn end_group(&mut self, id: u16, here: Place) -> Result<(), AllocError>
+    /// Returns [`MemoryFault`] if an allocation fails, or if the stack would need room for more than `room` entries.
+    pub fn end_group(&mut self, id: u16, here: Place, room: usize) -> Result<(), MemoryFault>
         ensures groups { IfOk result (λ _. (next : ℕ) →
             goto next (at here (groups_of self.new)) ≡ ended id next (at here (groups_of self.old)) (groups_of self.old).begins) }
         ensures kept { IfOk result (λ _. Kept self.old self.new) }
+        ensures grows { IfOk result (λ _. entry_count self.new ≤ entry_count self.old + 2) }
+        ensures within { AreWithin room self.old → AreWithin room self.new }
+        ensures too_much { IfErr result (λ fault. fault ≡ TooMuchMemory → room ≤ entry_count self.old + 1) }
     {
-        let from = self.close(here.position)?;
+        let from = self.close(here.position, room)?;
         self.set(
             usize::from(id),
             Some((from.min(here.position), from.max(here.position))),
+            room,
         )
     }
 
     /// Ends the innermost open group. Returns where it began, or `position` if no group is open.
     ///
     /// # Errors
-    /// Returns [`AllocError`] if an allocation fails.
-    fn close(&mut self, position: usize) -> Result<usize, AllocError>
+    /// Returns [`MemoryFault`] if an allocation fails, or if the stack would need room for more than `room` entries.
+    fn close(&mut self, position: usize, room: usize) -> Result<usize, MemoryFault>
         ensures closed { IfOk result (λ from. Closed position (groups_of self.old) (groups_of self.new) from) }
         ensures kept { IfOk result (λ _. Kept self.old self.new) }
+        ensures grows { IfOk result (λ _. entry_count self.new ≤ entry_count self.old + 1) }
+        ensures within { AreWithin room self.old → AreWithin room self.new }
+        ensures too_much { IfErr result (λ fault. fault ≡ TooMuchMemory → room ≤ entry_count self.old) }
     {
         match self.stack.begins.pop() {
             Some(from) => {
-                self.stack.entries.push(Entry::Ended { from })?;
+                push_within(&mut self.stack.entries, Entry::Ended { from }, room)?;
                 Ok(from)
             }
             None => Ok(position),
@@ -343,13 +396,15 @@ impl Machine {
 /// Appends those entries that are changes of captures.
 ///
 /// # Errors
-/// Returns [`AllocError`] if an allocation fails.
-fn append_changes(entries: &[Entry], to: &mut Vec<Entry>) -> Result<(), AllocError>
-    ensures { IfOk result (λ _. to.new.items ≡ to.old.items ++ changes_of entries.now) }
+/// Returns [`MemoryFault`] if an allocation fails, or if the stack would need room for more than `room` entries.
+fn append_changes(entries: &[Entry], to: &mut Vec<Entry>, room: usize) -> Result<(), MemoryFault>
+    ensures items { IfOk result (λ _. to.new.items ≡ to.old.items ++ changes_of entries.now) }
+    ensures within { vec_capacity to.old ≤ room → vec_capacity to.new ≤ room }
+    ensures too_much { IfErr result (λ fault. fault ≡ TooMuchMemory → room ≤ length to.old.items + length entries.now) }
 {
     for entry in entries {
         if let Entry::Capture { .. } = entry {
-            to.push(*entry)?;
+            push_within(to, *entry, room)?;
         }
     }
     Ok(())

@@ -1,5 +1,5 @@
 //! Runs of routines, within a step limit.
-ghost use Rattle.std.specs.Prelude.{◌≡◌, ◌≤◌, ◌<◌, ◌+◌, ◌∷◌, ◌++◌, [], ℕ, All, IfOk, IfSome, MatchOption, flat_map, if◌then◌else◌, length, take, true};
+ghost use Rattle.std.specs.Prelude.{◌≡◌, ◌≤◌, ◌<◌, ◌+◌, ◌*◌, ◌∷◌, ◌++◌, [], ℕ, All, IfErr, IfOk, IfSome, MatchOption, flat_map, if◌then◌else◌, length, take, true};
 ghost use Rattle.regress_leaves.specs.Subject.{subject};
 ghost use Rattle.regress_found.specs.Found.{state};
 ghost use Rattle.regress_program.specs.Cost.{Cost, IsCost, cost_of};
@@ -7,6 +7,8 @@ ghost use Rattle.regress_program.specs.Program.{IsSolution, Out, goto, look, mat
 ghost use Rattle.regress_program.specs.Shape.{IsProgram};
 ghost use Rattle.regress_code.specs.Code.{code_routines};
 ghost use Rattle.regress_backtrack.specs.Costs.{HasCost, cost_ahead, op_cost, points_cost};
+ghost use Rattle.regress_found.specs.declared.fault.MemoryFault.TheVariants.{TooMuchMemory};
+ghost use Rattle.regress_backtrack.specs.Memory.{AreWithin, entry_count};
 ghost use Rattle.regress_backtrack.specs.Machine.{at, groups_of, points, rewound};
 ghost use Rattle.regress_backtrack.specs.Next.{Inside, IsInput, Leads, Solve, ahead};
 ghost use Rattle.regress_backtrack.specs.Run.{IsResponseOf, IsAfter};
@@ -18,6 +20,7 @@ use crate::input::{Input, input_for, instruction_at};
 use crate::machine::{Machine, Place};
 use crate::step::{Next, step};
 use crate::sweep::points_that_may_match;
+use regress_found::MemoryFault;
 use regress_program::instruction::Instruction;
 use std::alloc::{AllocError, Global};
 
@@ -56,7 +59,7 @@ pub struct Looking {
 /// run by later ones only.
 ///
 /// # Errors
-/// Returns [`AllocError`] if an allocation fails.
+/// Returns [`MemoryFault`] if an allocation fails, or if a stack would need more room than the input allows.
 #[cycle(run)]
 pub fn run(
     alloc: Global,
@@ -64,7 +67,7 @@ pub fn run(
     start: usize,
     machine: &mut Machine,
     remaining: &mut u64,
-) -> Result<Response, AllocError>
+) -> Result<Response, MemoryFault>
     requires program { IsProgram (code_routines input.now.code.now) }
     requires input { IsInput input.now }
     requires start { start ≤ length input.now.text.now }
@@ -80,6 +83,15 @@ pub fn run(
         IsCost u.setting u.bytes program outs costs →
         remaining.old ≤ remaining.new + cost_of u.setting u.bytes program costs input.now.index (state machine.old.captures.items start))) }
     ensures spent { IfOk result (λ response. response ≡ OutOfSteps → remaining.new ≡ 0) }
+    ensures within { AreWithin input.now.room machine.old → AreWithin input.now.room machine.new }
+    ensures grows { IfOk result (λ _. (outs : ℕ → Out) (costs : ℕ → Cost) → (let u = subject input.now.rules input.now.text.now in
+        let program = code_routines input.now.code.now in
+        IsCost u.setting u.bytes program outs costs →
+        entry_count machine.new ≤ 64 * cost_of u.setting u.bytes program costs input.now.index (state machine.old.captures.items start))) }
+    ensures too_much { IfErr result (λ fault. fault ≡ TooMuchMemory → (outs : ℕ → Out) (costs : ℕ → Cost) → (let u = subject input.now.rules input.now.text.now in
+        let program = code_routines input.now.code.now in
+        IsCost u.setting u.bytes program outs costs →
+        input.now.room ≤ 64 * cost_of u.setting u.bytes program costs input.now.index (state machine.old.captures.items start))) }
 {
     machine.stack.clear();
     let mut here = Place {
@@ -117,6 +129,8 @@ fn resume(input: &Input<'_, '_>, machine: &mut Machine) -> Result<Option<Place>,
     ensures costs { IfOk result (λ to. IfSome to (λ p. (cost : Cost) →
         cost (at p (groups_of machine.new)) + points_cost cost machine.new ≤ points_cost cost machine.old)) }
     ensures all { IfOk result (λ to. MatchOption to (groups_of machine.new ≡ rewound machine.old) (λ _. Unit)) }
+    ensures shrinks { entry_count machine.new ≤ entry_count machine.old }
+    ensures within { (room : ℕ) → AreWithin room machine.old → AreWithin room machine.new }
 {
     while let Some(to) = machine.backtrack()? {
         if !fails(input, to) {
@@ -156,7 +170,7 @@ fn advance(
     here: Place,
     machine: &mut Machine,
     remaining: &mut u64,
-) -> Result<Next, AllocError>
+) -> Result<Next, MemoryFault>
     requires program { IsProgram (code_routines input.now.code.now) }
     requires input { IsInput input.now }
     requires inside { Inside input.now (at here (groups_of machine.old)) }
@@ -170,6 +184,12 @@ fn advance(
     ensures costs { IfOk result (λ next. (outs : ℕ → Out) (costs : ℕ → Cost) → HasCost input.now outs costs → (let cost = costs input.now.index in
         remaining.old + 1 + cost_ahead cost machine.new next ≤ remaining.new + (cost (at here (groups_of machine.old)) + points_cost cost machine.old))) }
     ensures spent { IfOk result (λ next. next ≡ nexts.OutOfSteps → remaining.new ≡ 0) }
+    ensures within { AreWithin input.now.room machine.old → AreWithin input.now.room machine.new }
+    ensures grows { IfOk result (λ next. (outs : ℕ → Out) (costs : ℕ → Cost) → HasCost input.now outs costs → (let cost = costs input.now.index in
+        entry_count machine.new + 64 * cost_ahead cost machine.new next
+        ≤ entry_count machine.old + 64 * (cost (at here (groups_of machine.old)) + points_cost cost machine.old))) }
+    ensures too_much { IfErr result (λ fault. fault ≡ TooMuchMemory → (outs : ℕ → Out) (costs : ℕ → Cost) → HasCost input.now outs costs →
+        input.now.room ≤ entry_count machine.old + 64 * costs input.now.index (at here (groups_of machine.old))) }
 {
     let instruction = instruction_at(input, here.pc);
     match instruction {
@@ -198,7 +218,7 @@ fn look(
     here: Place,
     machine: &mut Machine,
     remaining: &mut u64,
-) -> Result<Next, AllocError>
+) -> Result<Next, MemoryFault>
     requires program { IsProgram (code_routines input.now.code.now) }
     requires input { IsInput input.now }
     requires routine { looking.routine < length (take input.now.index (code_routines input.now.code.now)) }
@@ -217,12 +237,25 @@ fn look(
         remaining.old + cost_ahead cost machine.new next ≤ remaining.new + (op_cost input.now outs costs
         (look looking.negate looking.routine looking.next) (at here (groups_of machine.old)) + points_cost cost machine.old))) }
     ensures spent { IfOk result (λ next. next ≡ nexts.OutOfSteps → remaining.new ≡ 0) }
+    ensures within { AreWithin input.now.room machine.old → AreWithin input.now.room machine.new }
+    ensures grows { IfOk result (λ next. (outs : ℕ → Out) (costs : ℕ → Cost) → HasCost input.now outs costs → (let cost = costs input.now.index in
+        entry_count machine.new + 64 * cost_ahead cost machine.new next ≤ entry_count machine.old + 64 * (op_cost input.now outs costs
+        (look looking.negate looking.routine looking.next) (at here (groups_of machine.old)) + points_cost cost machine.old))) }
+    ensures too_much { IfErr result (λ fault. fault ≡ TooMuchMemory → (outs : ℕ → Out) (costs : ℕ → Cost) → HasCost input.now outs costs →
+        input.now.room ≤ entry_count machine.old + 64 * op_cost input.now outs costs
+        (look looking.negate looking.routine looking.next) (at here (groups_of machine.old))) }
 {
     let after = Place {
         pc: looking.next,
         ..here
     };
-    let inside = input_for(input.text, input.rules, input.code, looking.routine);
+    let inside = input_for(
+        input.text,
+        input.rules,
+        input.code,
+        looking.routine,
+        input.room,
+    );
     let start = Place {
         pc: inside.first,
         moved: true,
@@ -233,7 +266,7 @@ fn look(
     }
     let outer = machine.enter(alloc);
     let response = run(alloc, &inside, here.position, machine, remaining)?;
-    machine.leave(outer)?;
+    machine.leave(outer, input.room)?;
     Ok(next_after(response, looking.negate, after))
 }
 

@@ -1,14 +1,16 @@
 //! Searching a text from left to right.
-ghost use Rattle.std.specs.Prelude.{◌≡◌, ◌≤◌, ◌<◌, ◌+◌, ◌-◌, [], ℕ, IfOk, IfSome, MatchOption, Some, length, min};
+ghost use Rattle.std.specs.Prelude.{◌≡◌, ◌≤◌, ◌<◌, ◌+◌, ◌-◌, ◌*◌, [], ℕ, IfErr, IfOk, IfSome, MatchOption, Some, length, min};
 ghost use Rattle.regress_tree.specs.Tree.{Tree};
 ghost use Rattle.regress_unicode.specs.declared.Tables.{Tables};
 ghost use Rattle.regress_program.specs.Compiled.{IsPattern};
 ghost use Rattle.regress_program.specs.Cost.{Cost, IsCost};
 ghost use Rattle.regress_program.specs.Program.{IsSolution, Out};
-ghost use Rattle.regress_backtrack.specs.Backtracker.{AreCosts, AreOutcomes, captures_cost_of, outcomes_at, run_code, run_text, runs_cost_at, search_cost_at, tree_outcomes_at};
+ghost use Rattle.regress_backtrack.specs.Backtracker.{AreCosts, AreOutcomes, captures_cost_of, outcomes_at, run_code, run_room, run_text, runs_cost_at, search_cost_at, tree_outcomes_at};
 ghost use Rattle.regress_code.specs.Code.{captures_cost, code_routines, match_cost, outcomes_from, setting_with, tree_outcomes_from};
 ghost use Rattle.regress_found.specs.Results.{IfMatched, IsSearchResult, IsMatchResult};
 ghost use Rattle.regress_found.specs.Tried.{positions_tried};
+ghost use Rattle.regress_found.specs.declared.fault.MemoryFault.TheVariants.{TooMuchMemory};
+ghost use Rattle.regress_backtrack.specs.Memory.{IsWithin, entries_in};
 ghost use Rattle.regress_backtrack.specs.Searched.{IsFor};
 ghost use Rattle.regress_code.specs.declared.code.Code.{Code};
 ghost use Rattle.regress_found.specs.declared.outcome.Outcome.TheVariants.{OutOfSteps};
@@ -18,10 +20,10 @@ use crate::cache::Cache;
 use crate::input::{Input, next_bytes_at};
 use crate::lead::{lead_of, next_after};
 use regress_code::Code;
-use regress_found::{Found, Outcome};
+use regress_found::{Found, MemoryFault, Outcome};
 use regress_leaves::known::Known;
 use regress_prefilter::candidates::next_candidate_from;
-use std::alloc::{AllocError, Global};
+use std::alloc::Global;
 
 /// Matches at exactly the byte offset `position`, with every group unset at first.
 ///
@@ -32,7 +34,8 @@ use std::alloc::{AllocError, Global};
 /// The position is inside the text.
 ///
 /// # Errors
-/// Returns [`AllocError`] if an allocation fails.
+/// - [`MemoryFault::TooMuchMemory`] if a backtrack stack needs more bytes than `memory`.
+/// - [`MemoryFault::Memory`] if an allocation fails.
 pub fn match_at(
     alloc: Global,
     code: &Code,
@@ -40,7 +43,8 @@ pub fn match_at(
     text: &str,
     position: usize,
     steps: u64,
-) -> Result<Found, AllocError>
+    memory: usize,
+) -> Result<Found, MemoryFault>
     requires { position ≤ length text.now }
     ensures solved { IfOk result (λ found. (outs : ℕ → Out) →
         IsSolution (setting_with code.now known.entry.tables.now) text.now (code_routines code.now) outs →
@@ -53,10 +57,13 @@ pub fn match_at(
         found.steps ≤ match_cost code.now known.entry.tables.now text.now costs position) }
     ensures charged { IfOk result (λ found. min (captures_cost code.now) steps ≤ found.steps) }
     ensures out_of_steps { IfOk result (λ found. found.outcome ≡ OutOfSteps → found.steps ≡ steps) }
+    ensures too_much { IfErr result (λ fault. fault ≡ TooMuchMemory → (outs : ℕ → Out) (costs : ℕ → Cost) →
+        IsCost (setting_with code.now known.entry.tables.now) text.now (code_routines code.now) outs costs →
+        entries_in memory ≤ 64 * match_cost code.now known.entry.tables.now text.now costs position) }
 {
     let mut remaining = steps;
     let mut cache = Cache::new(alloc);
-    let backtracker = Backtracker::new(code, known, text);
+    let backtracker = Backtracker::new(code, known, text, memory);
     let outcome = backtracker.match_at(alloc, &mut cache, position, &mut remaining)?;
     Ok(Found {
         outcome,
@@ -85,18 +92,21 @@ impl Backtracker<'_, '_> {
     /// [`Outcome::OutOfSteps`].
     ///
     /// So the limit bounds the time: it is at most `remaining` and the length of the text together, times a factor that depends
-    /// only on the program. The memory is at most `remaining` times such a factor, and the cache keeps it. Recursion is as deep
-    /// as lookarounds are nested.
+    /// only on the program. Each backtrack stack takes at most the bytes that the backtracker was given, and the cache keeps
+    /// it: there is one for the pattern, and one for each level of nested lookarounds. A search whose stack would need more is
+    /// refused. Its cost is then at least 1 for each 64 entries that the stack has room for. Recursion is as deep as
+    /// lookarounds are nested.
     ///
     /// # Errors
-    /// Returns [`AllocError`] if an allocation fails.
+    /// - [`MemoryFault::TooMuchMemory`] if a backtrack stack needs more bytes than the backtracker allows.
+    /// - [`MemoryFault::Memory`] if an allocation fails.
     pub fn find(
         &self,
         alloc: Global,
         cache: &mut Cache,
         from: usize,
         remaining: &mut u64,
-    ) -> Result<Outcome, AllocError>
+    ) -> Result<Outcome, MemoryFault>
         ensures solved { IfOk result (λ outcome. (outs : ℕ → Out) → AreOutcomes self.now outs →
             IsSearchResult (run_text self.now) (outcomes_at self.now outs) from outcome) }
         ensures finds { IfOk result (λ outcome. (t : Tree) → IsPattern (code_routines (run_code self.now)) t →
@@ -107,6 +117,9 @@ impl Backtracker<'_, '_> {
         ensures spent { IfOk result (λ outcome. outcome ≡ OutOfSteps → remaining.new ≡ 0) }
         ensures counted { IfOk result (λ outcome. IfMatched outcome (λ m.
             remaining.new ≤ remaining.old - (captures_cost_of self.now + positions_tried (run_text self.now) from (Some m)))) }
+        ensures within { IsWithin (run_room self.now) cache.old → IsWithin (run_room self.now) cache.new }
+        ensures too_much { IfErr result (λ fault. fault ≡ TooMuchMemory → (outs : ℕ → Out) (costs : ℕ → Cost) → AreCosts self.now outs costs →
+            run_room self.now ≤ 64 * search_cost_at self.now costs from) }
     {
         *remaining = remaining.saturating_sub(self.captures_cost());
         self.run_from(alloc, cache, from, remaining)
@@ -115,14 +128,15 @@ impl Backtracker<'_, '_> {
     /// Returns the leftmost match as [`Backtracker::find`]. The captures of the match are counted before.
     ///
     /// # Errors
-    /// Returns [`AllocError`] if an allocation fails.
+    /// - [`MemoryFault::TooMuchMemory`] if a backtrack stack needs more bytes than the backtracker allows.
+    /// - [`MemoryFault::Memory`] if an allocation fails.
     fn run_from(
         &self,
         alloc: Global,
         cache: &mut Cache,
         from: usize,
         remaining: &mut u64,
-    ) -> Result<Outcome, AllocError>
+    ) -> Result<Outcome, MemoryFault>
         ensures solved { IfOk result (λ outcome. (outs : ℕ → Out) → AreOutcomes self.now outs →
             IsSearchResult (run_text self.now) (outcomes_at self.now outs) from outcome) }
         ensures finds { IfOk result (λ outcome. (t : Tree) → IsPattern (code_routines (run_code self.now)) t →
@@ -132,10 +146,13 @@ impl Backtracker<'_, '_> {
             remaining.old ≤ remaining.new + runs_cost_at self.now costs from) }
         ensures spent { IfOk result (λ outcome. outcome ≡ OutOfSteps → remaining.new ≡ 0) }
         ensures tried { IfOk result (λ outcome. IfMatched outcome (λ m. remaining.new ≤ remaining.old - positions_tried (run_text self.now) from (Some m))) }
+        ensures within { IsWithin (run_room self.now) cache.old → IsWithin (run_room self.now) cache.new }
+        ensures too_much { IfErr result (λ fault. fault ≡ TooMuchMemory → (outs : ℕ → Out) (costs : ℕ → Cost) → AreCosts self.now outs costs →
+            run_room self.now ≤ 64 * runs_cost_at self.now costs from) }
     {
         let code = self.code;
         let text = self.text;
-        let input = input_of(code, self.known, text);
+        let input = input_of(self);
         cache.machine.unset_all(code.program.groups)?;
         let lead = lead_of(&input);
         let mut counted = from;

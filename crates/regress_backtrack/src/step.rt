@@ -1,5 +1,5 @@
 //! One instruction.
-ghost use Rattle.std.specs.Prelude.{◌≡◌, ◌≤◌, ◌+◌, ◌++◌, ◌||◌, ◌==◌, ℕ, All, IfOk, MatchOption, false, flat_map, length, not, slice_get, true};
+ghost use Rattle.std.specs.Prelude.{◌≡◌, ◌≤◌, ◌+◌, ◌*◌, ◌++◌, ◌||◌, ◌==◌, ℕ, All, IfErr, IfOk, MatchOption, false, flat_map, length, not, slice_get, true};
 ghost use Rattle.std.specs.Int.{abs_diff};
 ghost use Rattle.regress_prefilter.specs.OneCharacter.{takes_one};
 ghost use Rattle.regress_leaves.specs.Leaves.{GoesTo, exactly, put};
@@ -14,6 +14,8 @@ ghost use Rattle.regress_program.specs.Program.{Out, goto, matcher_of, outcomes_
 ghost use Rattle.regress_program.specs.Shape.{IsPart};
 ghost use Rattle.regress_code.specs.Code.{code_routines};
 ghost use Rattle.regress_backtrack.specs.Costs.{HasCost, cost_ahead, op_cost, points_cost};
+ghost use Rattle.regress_found.specs.declared.fault.MemoryFault.TheVariants.{TooMuchMemory};
+ghost use Rattle.regress_backtrack.specs.Memory.{AreWithin, entry_count};
 ghost use Rattle.regress_backtrack.specs.Machine.{at, groups_of, points, rewound};
 ghost use Rattle.regress_program.specs.Views.{characters_of, op_in, part_of};
 ghost use Rattle.regress_backtrack.specs.Next.{CanStep, Inside, IsInput, Leads, Solve, ahead, is_look};
@@ -22,12 +24,12 @@ ghost use Rattle.regress_backtrack.specs.declared.step.Next.TheVariants.{Back, O
 use crate::alternatives::{Looping, fork, iterate};
 use crate::input::{Input, test_at};
 use crate::machine::{Machine, Place};
+use regress_found::MemoryFault;
 use regress_leaves::leaves::simple_leaf;
 use regress_leaves::test::Test;
 use regress_program::blocks::{blocks, unset_cost};
 use regress_program::instruction::Instruction;
 use regress_program::leaf::{bytes_ahead, leaf_end};
-use std::alloc::AllocError;
 
 /// What follows an instruction.
 #[derive(Clone, Copy)]
@@ -52,7 +54,7 @@ pub enum Next {
 /// reference is compared with, for each 64 characters before one that fails, and for each 64 groups that it unsets.
 ///
 /// # Errors
-/// Returns [`AllocError`] if an allocation fails.
+/// Returns [`MemoryFault`] if an allocation fails, or if the stack would need more room than the input allows.
 #[inline(always)]
 pub fn step(
     input: &Input<'_, '_>,
@@ -60,7 +62,7 @@ pub fn step(
     here: Place,
     machine: &mut Machine,
     remaining: &mut u64,
-) -> Result<Next, AllocError>
+) -> Result<Next, MemoryFault>
     requires can { CanStep input.now (op_in input.now.code.now.program.leaves.items instruction) here }
     requires input { IsInput input.now }
     requires no_look { is_look (op_in input.now.code.now.program.leaves.items instruction) ≡ false }
@@ -76,6 +78,13 @@ pub fn step(
         remaining.old + cost_ahead cost machine.new next ≤ remaining.new + (op_cost input.now outs costs
         (op_in input.now.code.now.program.leaves.items instruction) (at here (groups_of machine.old)) + points_cost cost machine.old))) }
     ensures goes { IfOk result (λ next. next ≡ OutOfSteps → ⊥) }
+    ensures within { AreWithin input.now.room machine.old → AreWithin input.now.room machine.new }
+    ensures grows { IfOk result (λ next. (outs : ℕ → Out) (costs : ℕ → Cost) → HasCost input.now outs costs → (let cost = costs input.now.index in
+        entry_count machine.new + 64 * cost_ahead cost machine.new next ≤ entry_count machine.old + 64 * (1 + (op_cost input.now outs costs
+        (op_in input.now.code.now.program.leaves.items instruction) (at here (groups_of machine.old)) + points_cost cost machine.old)))) }
+    ensures too_much { IfErr result (λ fault. fault ≡ TooMuchMemory → (outs : ℕ → Out) (costs : ℕ → Cost) →
+        input.now.room ≤ entry_count machine.old + 64 * (1 + op_cost input.now outs costs
+        (op_in input.now.code.now.program.leaves.items instruction) (at here (groups_of machine.old)))) }
 {
     match instruction {
         Instruction::Accept => Ok(Next::Accept(here.position)),
@@ -121,15 +130,15 @@ pub fn step(
         Instruction::Unset { start, end, next } => {
             let cost = unset_cost(start, end, machine.captures.len());
             *remaining = remaining.saturating_sub(cost);
-            machine.unset(start, end)?;
+            machine.unset(start, end, input.room)?;
             Ok(Next::On(goto(next, here)))
         }
         Instruction::BeginGroup { next } => {
-            machine.begin_group(here.position)?;
+            machine.begin_group(here.position, input.room)?;
             Ok(Next::On(goto(next, here)))
         }
         Instruction::EndGroup { id, next } => {
-            machine.end_group(id, here)?;
+            machine.end_group(id, here, input.room)?;
             Ok(Next::On(goto(next, here)))
         }
         // the precondition excludes it

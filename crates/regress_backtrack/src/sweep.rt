@@ -1,9 +1,11 @@
 //! Loops over one character, whose iterations are run at once.
-ghost use Rattle.std.specs.Prelude.{◌≡◌, ◌≤◌, ◌<◌, ◌+◌, ◌++◌, ◌∷◌, ℕ, All, IfOk, IfSome, MatchOption, flat_map, length, false, true};
+ghost use Rattle.std.specs.Prelude.{◌≡◌, ◌≤◌, ◌<◌, ◌+◌, ◌++◌, ◌∷◌, ℕ, All, IfErr, IfOk, IfSome, MatchOption, flat_map, length, false, true};
 ghost use Rattle.regress_program.specs.Cost.{Cost};
 ghost use Rattle.regress_program.specs.Program.{Out};
 ghost use Rattle.regress_backtrack.specs.Costs.{HasCost, points_cost};
 ghost use Rattle.regress_backtrack.specs.Machine.{Groups, at, groups_of, points, rewound};
+ghost use Rattle.regress_found.specs.declared.fault.MemoryFault.TheVariants.{TooMuchMemory};
+ghost use Rattle.regress_backtrack.specs.Memory.{AreWithin, entry_count};
 ghost use Rattle.regress_backtrack.specs.Next.{Fails, Inside, IsInput, Solve};
 ghost use Rattle.regress_backtrack.specs.Sweep.{IsSwept};
 
@@ -11,10 +13,10 @@ use crate::alternatives::{Looping, fails, skip};
 use crate::input::{Input, instruction_at, test_at};
 use crate::machine::{Machine, Place};
 use regress_base::bytesearch::ByteBitmap;
+use regress_found::MemoryFault;
 use regress_leaves::ascii::count_of;
 use regress_leaves::start::Start;
 use regress_program::instruction::Instruction;
-use std::alloc::AllocError;
 
 /// A loop over a leaf that matches one character.
 #[derive(Clone, Copy)]
@@ -36,7 +38,7 @@ pub(crate) struct Swept<'c> {
 /// It subtracts from `remaining` the number of characters that it consumes.
 ///
 /// # Errors
-/// Returns [`AllocError`] if an allocation fails.
+/// Returns [`MemoryFault`] if an allocation fails, or if the stack would need more room than the input allows.
 #[inline(always)]
 pub fn sweep(
     input: &Input<'_, '_>,
@@ -44,7 +46,7 @@ pub fn sweep(
     here: Place,
     machine: &mut Machine,
     remaining: &mut u64,
-) -> Result<Option<Place>, AllocError>
+) -> Result<Option<Place>, MemoryFault>
     requires input { IsInput input.now }
     requires body { looping.body < length input.now.instructions.now }
     requires next { looping.next < length input.now.instructions.now }
@@ -66,6 +68,9 @@ pub fn sweep(
         let after : Place = record here { pc = looping.next } in
         remaining.old + (cost (at to (groups_of machine.new)) + points_cost cost machine.new)
         ≤ remaining.new + ((cost (at again (groups_of machine.old)) + cost (at after (groups_of machine.old))) + points_cost cost machine.old)))) }
+    ensures grows { IfOk result (λ _. entry_count machine.new ≤ entry_count machine.old + 1) }
+    ensures within { AreWithin input.now.room machine.old → AreWithin input.now.room machine.new }
+    ensures too_much { IfErr result (λ fault. fault ≡ TooMuchMemory → input.now.room ≤ entry_count machine.old) }
 {
     let Some(swept) = sole_leaf(input, looping) else {
         return Ok(None);
@@ -85,7 +90,7 @@ pub fn sweep(
     };
     let to = leave(input, swept, looping, end);
     let more = points_kept(input, to, after, count - 1);
-    machine.choose_range(after, more)?;
+    machine.choose_range(after, more, input.room)?;
     *remaining = remaining.saturating_sub(count as u64);
     Ok(Some(to))
 }
