@@ -46,19 +46,19 @@ module _ (m m' : Machine) (p : Place) (more kept : ℕ) (le : kept ≤ more) (s 
       (sym (fewer_outcomes out g p kept (more - kept) (λ k lt le'. none k lt (omega (arith, le', le)))))
       ∙ ap (λ n. flat_map out (range_points p n g) ++ flat_map out s.others) (sym all_points)
       ∙ sym (flat_map-append out (range_points p more g) s.others)
-      ∙ ap (flat_map out) (sym s.points)
+      ∙ ap (flat_map out) (sym s.all)
 
   pub left_out_all : (P : At → Type 0) → All P (points m) → All P (points m')
   left_out_all P all =
       let g = groups_of m in
       subst (All P) (sym s.fewer)
       (fewer_all P g p s.others kept (more - kept)
-      (subst (λ n. All P (range_points p n g ++ s.others)) all_points (subst (All P) s.points all)))
+      (subst (λ n. All P (range_points p n g ++ s.others)) all_points (subst (All P) s.all all)))
 
   pub left_out_cost : (cost : Cost) → points_cost cost m' ≤ points_cost cost m
   left_out_cost cost =
       let g = groups_of m in
-      let before = ap (sum_by cost) s.points ∙ sum_by-append cost (range_points p more g) s.others in
+      let before = ap (sum_by cost) s.all ∙ sum_by-append cost (range_points p more g) s.others in
       let after = ap (sum_by cost) s.fewer ∙ sum_by-append cost (range_points p kept g) s.others in
       let fewer = fewer_cost cost g p kept (more - kept) in
       let grown = ap (λ n. sum_by cost (range_points p n g)) all_points in
@@ -67,6 +67,6 @@ module _ (m m' : Machine) (p : Place) (more kept : ℕ) (le : kept ≤ more) (s 
   pub left_out_fewer : length (points m') ≤ length (points m)
   left_out_fewer =
       let g = groups_of m in
-      let before = ap length s.points ∙ length-append (range_points p more g) s.others in
+      let before = ap length s.all ∙ length-append (range_points p more g) s.others in
       let after = ap length s.fewer ∙ length-append (range_points p kept g) s.others in
       omega (arith, before, after, range_length p g more, range_length p g kept, le)

@@ -1,5 +1,6 @@
 -- The backtrack points and the groups at the start, as the stack changes.
-use Rattle.std.proofs.Common.{◌≡◌, ℕ, zero, suc, ◌+◌, ◌-◌, ◌<◌, ◌≤◌, arith, List, [], ◌∷◌, ◌++◌, drop, reverse, Option, Some, refl, sym, ap, ap₂, ◌∙◌, get_or, set, min, max, true}
+use Rattle.std.proofs.Common.{◌≡◌, ℕ, zero, suc, ◌+◌, ◌-◌, ◌<◌, ◌≤◌, arith, List, [], ◌∷◌, ◌++◌, length, length-append, drop, reverse, Option, Some, refl, sym, ap, ap₂, ◌∙◌, get_or, set, min, max, true}
+use Rattle.std.proofs.Math.Seq.{set-append_seam}
 use Rattle.std.proofs.lemmas.List.{reverse-append}
 use Rattle.std.proofs.lemmas.List.Elements.{filter-append}
 use Rattle.regress_tree.specs.Steps.{CaptureSpan}
@@ -267,6 +268,12 @@ shortened m m' base p more kept is is' same = record {
   groups = same;
   rewound = rewound-of-range m' base p (p.position + kept) is' ∙ ap (before_all (reverse base)) same ∙ sym (rewound-of-range m base p (p.position + more) is);
   others = points_of (reverse base) (groups_of m);
-  points = points-of-range m base p more is;
+  all = points-of-range m base p more is;
   fewer = points-of-range m' base p kept is' ∙ ap (λ g. range_points p kept g ++ points_of (reverse base) g) same;
 }
+
+-- The last element is replaced.
+pub set_last : {A : Type 0} (xs ys : List A) (y z : A) (n : ℕ) → xs ≡ ys ++ y ∷ [] → n ≡ length xs → set xs (n - 1) z ≡ ys ++ z ∷ []
+set_last xs ys y z n is count =
+    let at_end : n - 1 ≡ length ys = omega (arith, count, ap length is, length-append ys (y ∷ [])) in
+    ap₂ (λ l i. set l i z) is at_end ∙ set-append_seam ys y [] z

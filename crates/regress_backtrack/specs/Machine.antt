@@ -82,10 +82,10 @@ pub record EndsIn (m : Machine) (p : Place) (more : ℕ) : Type 0 where
 -- Of these backtrack points, those at more than `kept` positions after the place were removed.
 pub record Shortened (p : Place) (more kept : ℕ) (old new : Machine) : Type 0 where
   pub groups : groups_of new ≡ groups_of old
-  pub rewound : rewound new ≡ rewound old
   pub others : List At
-  pub points : points old ≡ range_points p more (groups_of old) ++ others
+  pub all : points old ≡ range_points p more (groups_of old) ++ others
   pub fewer : points new ≡ range_points p kept (groups_of old) ++ others
+  pub rewound : rewound new ≡ rewound old
 
 -- where the innermost open group began; without one it is the position
 abbrev pub closed_at : (position : ℕ) → List ℕ → ℕ

@@ -253,7 +253,9 @@ impl Machine {
     pub fn keep_range(&mut self, first: Place, more: usize)
         requires latest { (all : ℕ) × EndsIn self.old first all }
         requires within { first.position + more ≤ usize.MAX }
-        ensures { (all : ℕ) → EndsIn self.old first all → Shortened first all more self.old self.new }
+        ensures shortened { (all : ℕ) → EndsIn self.old first all → Shortened first all more self.old self.new }
+        ensures count { entry_count self.new ≡ entry_count self.old }
+        ensures within { (room : ℕ) → AreWithin room self.old → AreWithin room self.new }
     {
         let latest = self.stack.entries.len() - 1;
         self.stack.entries[latest] = Entry::Points {

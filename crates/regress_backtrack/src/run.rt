@@ -154,6 +154,8 @@ fn leave_out(input: &Input<'_, '_>, machine: &mut Machine)
     ensures rewound { rewound machine.new ≡ rewound machine.old }
     ensures costs { (cost : Cost) → points_cost cost machine.new ≤ points_cost cost machine.old }
     ensures fewer { length (points machine.new) ≤ length (points machine.old) }
+    ensures shrinks { entry_count machine.new ≤ entry_count machine.old }
+    ensures within { (room : ℕ) → AreWithin room machine.old → AreWithin room machine.new }
 {
     if let Some((first, more)) = machine.latest_range() {
         let kept = points_that_may_match(input, first, more);

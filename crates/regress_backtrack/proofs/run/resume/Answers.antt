@@ -1,5 +1,5 @@
 use Rattle.std.proofs.lemmas.Grind.{common_steps}
-use Rattle.std.proofs.Common.{rules, arith, ◌≡◌, ◌∷◌, ◌++◌, All, true, flat_map, ap, ◌∙◌, subst}
+use Rattle.std.proofs.Common.{rules, arith, ◌≡◌, ◌∷◌, ◌++◌, All, true, flat_map, sym, ap, ◌∙◌, subst}
 use Rattle.std.proofs.lemmas.List.Elements.{All-tail}
 use Rattle.regress_backtrack.specs.Machine.{at, groups_of, points}
 use Rattle.regress_backtrack.specs.Next.{Inside}
@@ -24,6 +24,7 @@ pub loop-to-preserved : goal.loop-to-preserved
 loop-to-preserved c =
     let input = c.args.input.now in
     let m' = c.backtrack.new.self in
+    let left = c.leave_out.ensures in
     let to = at c.in-Some.to (groups_of m') in
     let known : c.fails.result ≡ true = first_of (search rules, grind (arith, common_steps)) in
     let back : points c.loop-to.machine ≡ to ∷ points m' = rw c.in-Some.is at c.in_ok-to.ensures.points in
@@ -32,11 +33,13 @@ loop-to-preserved c =
           c.loop-to.invariant.same outs solve
           ∙ ap (flat_map (outs input.index)) back
           ∙ ap (λ xs. xs ++ flat_map (outs input.index) (points m'))
-          (c.fails.ensures known outs (groups_of m') solve);
-      inside = λ all. All-tail (Inside input) to (points m') (subst (All (Inside input)) back (c.loop-to.invariant.inside all));
-      rewound = c.in_ok-to.ensures.rewound ∙ c.loop-to.invariant.rewound;
+          (c.fails.ensures known outs (groups_of m') solve)
+          ∙ sym (left.leads outs solve);
+      inside = λ all. left.inside (All-tail (Inside input) to (points m') (subst (All (Inside input)) back (c.loop-to.invariant.inside all)));
+      rewound = left.rewound ∙ c.in_ok-to.ensures.rewound ∙ c.loop-to.invariant.rewound;
       costs = λ cost.
           let so_far = c.loop-to.invariant.costs cost in
           let one = back_cost cost c.loop-to.machine m' c.in-Some.to back in
-          omega (arith, so_far, one);
+          let fewer = left.costs cost in
+          omega (arith, so_far, one, fewer);
     }
