@@ -97,7 +97,7 @@ module _ (input : Input) (is : IsInput input) (pc : ℕ) (set : ByteBitmap) (beg
       on j below ∙ subst (λ k. at_loop k ≡ []) (omega arith) loop
 
 -- the outcomes of the program are those of its first instruction
-entry_is : (code : Code) (tables : Tables) (text : List ℕ) (input : Input) → IsFor code tables text input → (outs : ℕ → Out) → (k : ℕ) →
+pub entry_is : (code : Code) (tables : Tables) (text : List ℕ) (input : Input) → IsFor code tables text input → (outs : ℕ → Out) → (k : ℕ) →
     outcomes_from code tables text outs k
     ≡ outs input.index (at (record { pc = input.first; moved = true; position = k }) (record { captures = replicate (code_groups code) None; begins = [] }))
 entry_is code tables text input for outs k =
@@ -110,7 +110,7 @@ entry_is code tables text input for outs k =
     ap (λ o. outs i (start setting text o s)) here
     ∙ ap₂ (λ j pc. outs j (record { pc = pc; moved = true; state = s; begins = [] })) (sym for.index) (sym for.is.first)
 
-solves_for : (code : Code) (tables : Tables) (text : List ℕ) (input : Input) → IsFor code tables text input → (outs : ℕ → Out) →
+pub solves_for : (code : Code) (tables : Tables) (text : List ℕ) (input : Input) → IsFor code tables text input → (outs : ℕ → Out) →
     IsSolution (setting_with code tables) text (code_routines code) outs → Solve input outs
 solves_for code tables text input for outs solution =
     subst (λ x. IsSolution (subject input.rules x).setting x (code_routines input.code.now) outs) (sym for.same_text)

@@ -1,4 +1,5 @@
 pub mod Backtracker
+pub mod Boundary
 pub mod Costs
 pub mod Lead
 pub mod Machine

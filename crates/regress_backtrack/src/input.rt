@@ -115,6 +115,18 @@ pub fn instruction_at(input: &Input<'_, '_>, pc: usize) -> Instruction
     input.instructions[pc]
 }
 
+/// Returns an instruction of the routine, or `None` if it has none with this index.
+pub(crate) fn instruction_in(input: &Input<'_, '_>, pc: usize) -> Option<Instruction>
+    ensures { IfSome result (λ instruction. (pc < length input.now.instructions.now)
+        × (slice_get input.now.instructions.now pc ≡ Some instruction)) }
+{
+    if pc < input.instructions.len() {
+        Some(instruction_at(input, pc))
+    } else {
+        None
+    }
+}
+
 /// Returns a leaf of the program, or `None` if it has none with this index.
 #[inline(always)]
 pub fn test_at<'c>(input: &Input<'c, '_>, leaf: usize) -> Option<&'c Test>

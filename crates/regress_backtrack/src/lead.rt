@@ -9,7 +9,7 @@ ghost use Rattle.regress_backtrack.specs.Sweep.{IsAsciiLeaf};
 ghost use Rattle.regress_backtrack.specs.Searched.{IsFor};
 
 use crate::alternatives::Looping;
-use crate::input::{Input, instruction_at, test_at};
+use crate::input::{Input, instruction_in, test_at};
 use crate::sweep::sole_leaf;
 use regress_base::bytesearch::ByteBitmap;
 use regress_leaves::ascii::count_of;
@@ -67,18 +67,6 @@ fn ascii_at<'c>(input: &Input<'c, '_>, leaf: usize) -> Option<&'c ByteBitmap>
     match &test_at(input, leaf)?.start {
         Start::Ascii(set) => Some(set),
         _ => None,
-    }
-}
-
-/// Returns an instruction of the routine, or `None` if it has none with this index.
-fn instruction_in(input: &Input<'_, '_>, pc: usize) -> Option<Instruction>
-    ensures { IfSome result (λ instruction. (pc < length input.now.instructions.now)
-        × (slice_get input.now.instructions.now pc ≡ Some instruction)) }
-{
-    if pc < input.instructions.len() {
-        Some(instruction_at(input, pc))
-    } else {
-        None
     }
 }
 

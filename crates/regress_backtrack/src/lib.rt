@@ -3,6 +3,7 @@
 
 mod alternatives;
 mod backtracker;
+mod boundary;
 mod cache;
 mod input;
 mod lead;

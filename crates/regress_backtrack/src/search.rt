@@ -1,5 +1,5 @@
 //! Searching a text from left to right.
-ghost use Rattle.std.specs.Prelude.{◌≡◌, ◌≤◌, ◌<◌, ◌+◌, ◌-◌, ◌*◌, [], ℕ, IfErr, IfOk, IfSome, MatchOption, Some, length, min};
+ghost use Rattle.std.specs.Prelude.{◌≡◌, ◌≤◌, ◌<◌, ◌+◌, ◌-◌, ◌*◌, [], ℕ, IfErr, IfOk, IfSome, MatchOption, Some, length, min, true};
 ghost use Rattle.regress_tree.specs.Tree.{Tree};
 ghost use Rattle.regress_unicode.specs.declared.Tables.{Tables};
 ghost use Rattle.regress_program.specs.Compiled.{IsPattern};
@@ -11,11 +11,13 @@ ghost use Rattle.regress_found.specs.Results.{IfMatched, IsSearchResult, IsMatch
 ghost use Rattle.regress_found.specs.Tried.{positions_tried};
 ghost use Rattle.regress_found.specs.declared.fault.MemoryFault.TheVariants.{TooMuchMemory};
 ghost use Rattle.regress_backtrack.specs.Memory.{IsWithin, entries_in};
-ghost use Rattle.regress_backtrack.specs.Searched.{IsFor};
+ghost use Rattle.regress_backtrack.specs.Boundary.{BeginsAtBoundary};
+ghost use Rattle.regress_backtrack.specs.Searched.{IsFor, Skipped};
 ghost use Rattle.regress_code.specs.declared.code.Code.{Code};
 ghost use Rattle.regress_found.specs.declared.outcome.Outcome.TheVariants.{OutOfSteps};
 
 use crate::backtracker::{Backtracker, input_of};
+use crate::boundary::{begins_at_boundary, outside_word};
 use crate::cache::Cache;
 use crate::input::{Input, next_bytes_at};
 use crate::lead::{lead_of, next_after};
@@ -155,13 +157,14 @@ impl Backtracker<'_, '_> {
         let input = input_of(self);
         cache.machine.unset_all(code.program.groups)?;
         let lead = lead_of(&input);
+        let at_boundary = begins_at_boundary(&input);
         let mut counted = from;
         let mut start = from;
         while start <= text.len() {
             if *remaining == 0 {
                 return Ok(Outcome::OutOfSteps);
             }
-            let Some(position) = next_start(code, &input, text, start) else {
+            let Some(position) = next_start(code, &input, text, start, at_boundary) else {
                 return Ok(Outcome::NoMatch);
             };
             // the bytes that are skipped, and the position that is tried
@@ -180,18 +183,46 @@ impl Backtracker<'_, '_> {
     }
 }
 
-/// Returns the least byte offset, `from` or later, at which a match is not known to fail, or `None`.
+/// Returns the least byte offset, `from` or later, at which a match is not known to fail, or `None`. If the pattern begins
+/// `at_boundary`, none begins between two word characters.
 ///
 /// # Preconditions
 /// `from` is inside the text.
 #[inline(always)]
-fn next_start(code: &Code, input: &Input<'_, '_>, text: &str, from: usize) -> Option<usize>
+fn next_start(
+    code: &Code,
+    input: &Input<'_, '_>,
+    text: &str,
+    from: usize,
+    at_boundary: bool,
+) -> Option<usize>
+    requires from { from ≤ length text.now }
+    requires boundary { at_boundary ≡ true → BeginsAtBoundary input.now }
+    ensures within { IfSome result (λ position. (from ≤ position) × (position ≤ length text.now)) }
+    ensures skipped { Skipped code.now text.now input.now from result }
+{
+    let Some(mut position) = next_by_bytes(code, input, text, from) else {
+        return None;
+    };
+    if at_boundary {
+        let mut outside = outside_word(text, position);
+        while position < outside {
+            match next_by_bytes(code, input, text, outside) {
+                Some(next) => position = next,
+                None => return None,
+            }
+            outside = outside_word(text, position);
+        }
+    }
+    Some(position)
+}
+
+/// Returns the same by the first bytes alone.
+#[inline(always)]
+fn next_by_bytes(code: &Code, input: &Input<'_, '_>, text: &str, from: usize) -> Option<usize>
     requires { from ≤ length text.now }
     ensures within { IfSome result (λ position. (from ≤ position) × (position ≤ length text.now)) }
-    ensures skipped { (tables : Tables) → IsFor code.now tables text.now input.now →
-        (outs : ℕ → Out) → IsSolution (setting_with code.now tables) text.now (code_routines code.now) outs →
-        (k : ℕ) → from ≤ k → k ≤ length text.now → MatchOption result Unit (λ position. k < position) →
-        outcomes_from code.now tables text.now outs k ≡ [] }
+    ensures skipped { Skipped code.now text.now input.now from result }
 {
     match next_candidate_from(&code.candidates, text, from) {
         Some(position) => Some(next_by_first_bytes(input, text, position)),

@@ -1,25 +1,31 @@
-use Rattle.std.proofs.Common.{subst, inl, inr}
-use Rattle.std.proofs.lemmas.Bool.{cases_lt}
-use Rattle.regress_found.specs.Found.{initial_state}
-use Rattle.regress_prefilter.specs.Candidates.{Skips}
-use Rattle.regress_code.specs.Code.{code_groups, setting_with}
-use Rattle.regress_backtrack.proofs.CandidateLemmas.{skips, skips_all}
+use Rattle.std.proofs.Common.{◌≤◌, Some, None, arith, subst}
+use Rattle.regress_backtrack.specs.Searched.{Skipped}
+use Rattle.regress_backtrack.proofs.BoundaryLemmas.{skipped_on}
 use Rattle.regress_backtrack.proofs.search.next_start.Goals as goal
 
-pub returns-in-Some-clause-skipped : goal.returns-in-Some-clause-skipped
-returns-in-Some-clause-skipped c = λ tables for outs solution k low le lt.
+pub loop-position-preserved : goal.loop-position-preserved
+loop-position-preserved c =
+    let here = c.loop-position in
     let code = c.args.code.now in
     let text = c.args.text.now in
-    let position = c.in-Some.position in
-    elim (cases_lt k position) [
-      | inl before ↦ code.begins (setting_with code tables) text outs solution (initial_state (code_groups code) k) le
-          (skips text c.args.from code.candidates position (subst (Skips code.candidates text c.args.from) c.in-Some.is c.next_candidate_from.ensures.skips) k low before)
-      | inr after ↦ c.next_by_first_bytes.ensures.skipped code tables for outs solution k after lt
-    ]
+    let input = c.args.input.now in
+    let next = c.in-Some-next_by_bytes in
+    record {
+      low = omega (arith, here.invariant.low, here.invariant.order, next.ensures.within.0);
+      order = c.outside_word-outside-in-loop-position.ensures.low;
+      high = c.outside_word-outside-in-loop-position.ensures.high;
+      inside = c.outside_word-outside-in-loop-position.ensures.inside;
+      skipped = skipped_on code text input c.args.from here.position here.outside (Some next.next)
+          (c.requires.boundary c.if-at_boundary.true) here.invariant.skipped here.invariant.inside
+          (subst (Skipped code text input here.outside) next.is c.next_by_bytes-in-loop-position.ensures.skipped);
+    }
 
 pub returns-in-None-clause-skipped : goal.returns-in-None-clause-skipped
-returns-in-None-clause-skipped c = λ tables for outs solution k low le any.
+returns-in-None-clause-skipped c =
+    let here = c.loop-position in
     let code = c.args.code.now in
     let text = c.args.text.now in
-    code.begins (setting_with code tables) text outs solution (initial_state (code_groups code) k) le
-    (skips_all text c.args.from code.candidates (subst (Skips code.candidates text c.args.from) c.in-None.is c.next_candidate_from.ensures.skips) k low)
+    let input = c.args.input.now in
+    skipped_on code text input c.args.from here.position here.outside None
+    (c.requires.boundary c.if-at_boundary.true) here.invariant.skipped here.invariant.inside
+    (subst (Skipped code text input here.outside) c.in-None.is c.next_by_bytes-in-loop-position.ensures.skipped)
