@@ -281,6 +281,13 @@ module _ (f : ℕ → ℕ) (from : ℕ) where
       let end = ap tried all in
       omega (arith, more, end)
 
+  -- the cost of a run is part of that of a search
+  pub one_tried : (k end : ℕ) → from ≤ k → k ≤ end → f k ≤ tried (end + 1 - from)
+  one_tried k end low high =
+      let on = tried_on k k low (omega arith) in
+      let all = tried_part ((k + 1) - from) (end + 1 - from) (omega (arith, high)) in
+      omega (arith, on, all)
+
   -- the cost of a search that ends with the run at k
   pub searched : (here k end remaining remaining1 remaining2 remaining3 : ℕ) → from ≤ here → here ≤ k → k ≤ end → remaining ≤ remaining1 + tried (here - from) →
       remaining2 ≡ remaining1 - ((k - here) + 1) → remaining2 ≤ remaining3 + f k → remaining ≤ remaining3 + tried (end + 1 - from)

@@ -2,6 +2,7 @@ pub mod CandidateLemmas
 pub mod CostLemmas
 pub mod NextBytesLemmas
 pub mod MachineLemmas
+pub mod MemoryLemmas
 pub mod SkipLemmas
 pub mod StepLemmas
 pub mod RunLemmas

@@ -1,5 +1,5 @@
 -- Runs and lookarounds.
-use Rattle.std.proofs.Common.{◌≡◌, ℕ, ◌+◌, sum_by, ◌<◌, ◌≤◌, ◌==◌, Bool, true, false, not, ◌||◌, List, [], ◌∷◌, ◌++◌, flat_map, length, take, Option, Some, All, slice_get, option_map, refl, sym, ap, ap₂, ◌∙◌, subst, append-nil, arith, reverse}
+use Rattle.std.proofs.Common.{◌≡◌, ℕ, ◌+◌, ◌*◌, sum_by, ◌<◌, ◌≤◌, ◌==◌, Bool, true, false, not, ◌||◌, List, [], ◌∷◌, ◌++◌, flat_map, length, take, Option, Some, All, slice_get, option_map, refl, sym, ap, ap₂, ◌∙◌, subst, append-nil, arith, reverse}
 use Rattle.std.proofs.lemmas.List.{length-map}
 use Rattle.std.proofs.lemmas.List.Elements.{All-nil, All-cons}
 use Rattle.std.proofs.lemmas.Option.{slice_get-map}
@@ -23,6 +23,7 @@ use Rattle.regress_backtrack.specs.declared.run.Response.TheVariants as response
 use Rattle.regress_backtrack.specs.declared.step.Next.{Next}
 use Rattle.regress_backtrack.specs.declared.step.Next.TheVariants as nexts
 use Rattle.regress_backtrack.specs.Machine.{Groups, at, groups_of, points}
+use Rattle.regress_backtrack.specs.Memory.{AreWithin}
 use Rattle.regress_backtrack.specs.Next.{CanStep, Fails, IsInput, Inside, Solve, ahead, Leads}
 use Rattle.regress_backtrack.specs.Run.{IsResponseOf, IsAfter}
 use Rattle.regress_program.specs.declared.instruction.Instruction.TheVariants as insts
@@ -156,6 +157,17 @@ pub same_cost : (remaining remaining' : ℕ) (outs : ℕ → Out) (costs : ℕ �
     (cs cs' : List (Option CaptureSpan)) → (IsCost s' b' p' outs costs → remaining ≤ remaining' + cost_of s' b' p' costs i' (state cs' k)) →
     s' ≡ s → b' ≡ b → p' ≡ p → i' ≡ i → cs' ≡ cs → IsCost s b p outs costs → remaining ≤ remaining' + cost_of s b p costs i (state cs k)
 same_cost remaining remaining' outs costs k = same_run (λ s b p i cs. IsCost s b p outs costs → remaining ≤ remaining' + cost_of s b p costs i (state cs k))
+
+-- entries that the cost of a run bounds
+pub same_entries : (entries : ℕ) (outs : ℕ → Out) (costs : ℕ → Cost) (k : ℕ) (s s' : Setting) (b b' : List ℕ) (p p' : List Routine) (i i' : ℕ)
+    (cs cs' : List (Option CaptureSpan)) → (IsCost s' b' p' outs costs → entries ≤ 64 * cost_of s' b' p' costs i' (state cs' k)) →
+    s' ≡ s → b' ≡ b → p' ≡ p → i' ≡ i → cs' ≡ cs → IsCost s b p outs costs → entries ≤ 64 * cost_of s b p costs i (state cs k)
+same_entries entries outs costs k = same_run (λ s b p i cs. IsCost s b p outs costs → entries ≤ 64 * cost_of s b p costs i (state cs k))
+
+-- stacks that stay within an equal room
+pub same_within : (room room' : ℕ) (m m' : Machine) → room' ≡ room → (AreWithin room' m → AreWithin room' m') → AreWithin room m → AreWithin room m'
+same_within room room' m m' same within =
+    subst (λ k. AreWithin k m → AreWithin k m') same within
 
 -- a run that fails where it starts has no outcome
 pub fails_response : (input : Input) → IsInput input → (m : Machine) (captures : List (Option CaptureSpan)) (k : ℕ) (outs : ℕ → Out) →

@@ -1,5 +1,5 @@
 -- Searches.
-use Rattle.std.proofs.Common.{◌≡◌, ℕ, ◌+◌, ◌≤◌, ◌-◌, Bool, true, false, List, [], ◌∷◌, length, replicate, Option, None, inl, inr, sym, ap, ◌∙◌, subst, arith}
+use Rattle.std.proofs.Common.{◌≡◌, ℕ, ◌+◌, ◌*◌, ◌≤◌, ◌-◌, Bool, true, false, List, [], ◌∷◌, length, replicate, Option, None, inl, inr, sym, ap, ◌∙◌, subst, arith}
 use Rattle.std.proofs.lemmas.Bool.{cases_eq}
 use Rattle.std.specs.Bool.{IsTrue}
 use Rattle.std.specs.Str.{IsCharBoundary}
@@ -26,7 +26,7 @@ use Rattle.regress_code.specs.Code.{code_groups, code_routines, outcomes_from, s
 use Rattle.regress_backtrack.specs.Run.{IsResponseOf}
 use Rattle.regress_found.specs.Results.{IsSearchResult, IsMatchResult}
 use Rattle.regress_backtrack.specs.Searched.{IsFor}
-use Rattle.regress_backtrack.proofs.RunLemmas.{same_response, same_cost}
+use Rattle.regress_backtrack.proofs.RunLemmas.{same_response, same_cost, same_entries}
 
 -- what is so for each solution is so for each tree of the program
 pub of_tree : (code : Code) (tables : Tables) (text : List ℕ) (k : ℕ) → k ≤ length text → (P : List MatchState → Type 0) →
@@ -95,6 +95,16 @@ pub run_cost : (b : Backtracker) (input : Input) (captures : List (Option Captur
 run_cost b input captures k remaining remaining' outs costs is unset taken =
     same_cost remaining remaining' outs costs k (setting_with (run_code b) (run_tables b)) _ (run_text b) _ (code_routines (run_code b)) _
     (length (code_routines (run_code b)) - 1) _ (replicate (code_groups (run_code b)) None) _ taken is.setting is.same_text (ap code_routines is.code) is.index unset
+
+-- the entries that the cost of a run bounds, from the input for the pattern, with every group unset
+pub run_entries : (b : Backtracker) (input : Input) (captures : List (Option CaptureSpan)) (k entries : ℕ) (outs : ℕ → Out) (costs : ℕ → Cost) →
+    IsFor (run_code b) (run_tables b) (run_text b) input → captures ≡ replicate (code_groups (run_code b)) None →
+    (IsCost (subject input.rules input.text.now).setting input.text.now (code_routines input.code.now) outs costs →
+    entries ≤ 64 * cost_of (subject input.rules input.text.now).setting input.text.now (code_routines input.code.now) costs input.index (state captures k)) →
+    AreCosts b outs costs → entries ≤ 64 * cost_at b costs k
+run_entries b input captures k entries outs costs is unset grown =
+    same_entries entries outs costs k (setting_with (run_code b) (run_tables b)) _ (run_text b) _ (code_routines (run_code b)) _
+    (length (code_routines (run_code b)) - 1) _ (replicate (code_groups (run_code b)) None) _ grown is.setting is.same_text (ap code_routines is.code) is.index unset
 
 -- the match that is found at a position, if no earlier position has an outcome
 pub found_leftmost : (text : List ℕ) (at : ℕ → List MatchState) (origin k : ℕ) (found : Match) → origin ≤ k → IsCharBoundary text k →

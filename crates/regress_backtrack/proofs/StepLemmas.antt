@@ -1,5 +1,5 @@
 -- What follows an instruction.
-use Rattle.std.proofs.Common.{◌≡◌, ℕ, ◌≤◌, ◌<◌, ◌==◌, Bool, false, not, ◌||◌, List, [], ◌++◌, flat_map, length, Option, Some, None, MatchOption, All, Result, Ok, Err, IfOk, refl, sym, ap, ap₂, ◌∙◌, subst, take, arith}
+use Rattle.std.proofs.Common.{◌≡◌, ℕ, ◌≤◌, ◌<◌, ◌==◌, Bool, false, not, ◌||◌, List, [], ◌++◌, flat_map, length, Option, Some, None, MatchOption, All, Result, Ok, Err, IfErr, IfOk, refl, sym, ap, ap₂, ◌∙◌, subst, take, arith}
 use Rattle.std.proofs.lemmas.List.Elements.{All-head, All-cons}
 use Rattle.regress_tree.specs.Matching.{steps}
 use Rattle.regress_tree.specs.Reading.{Direction}
@@ -114,3 +114,11 @@ not_look tests (insts.Look negate routine next) not = absurd (not negate routine
 pub ok_map : {X E : Type 0} (r : Result X E) (P Q : X → Type 0) → ((x : X) → P x → Q x) → IfOk r P → IfOk r Q
 ok_map (Ok x) P Q f is = f x is
 ok_map (Err e) P Q f is = tt
+
+pub ok_both : {X E : Type 0} (r : Result X E) (P Q : X → Type 0) → IfOk r P → IfOk r Q → IfOk r (λ x. P x × Q x)
+ok_both (Ok x) P Q p q = (p, q)
+ok_both (Err e) P Q p q = tt
+
+pub err_map : {X E : Type 0} (r : Result X E) (P Q : E → Type 0) → ((e : E) → P e → Q e) → IfErr r P → IfErr r Q
+err_map (Ok x) P Q f is = tt
+err_map (Err e) P Q f is = f e is

@@ -98,10 +98,30 @@ impl<'c, 'x> Backtracker<'c, 'x> {
         ensures too_much { IfErr result (λ fault. fault ≡ TooMuchMemory → (outs : ℕ → Out) (costs : ℕ → Cost) → AreCosts self.now outs costs →
             run_room self.now ≤ 64 * match_cost_at self.now costs position) }
     {
-        let input = input_of(self);
+        let input = self.input();
         *remaining = remaining.saturating_sub(self.captures_cost());
         cache.machine.unset_all(self.code.program.groups)?;
         self.match_in(alloc, &input, &mut cache.machine, position, remaining)
+    }
+
+    /// Returns the input for the pattern of the program.
+    #[inline(always)]
+    pub(crate) fn input(&self) -> Input<'c, 'x>
+        ensures input { IsFor (run_code self.now) (run_tables self.now) (run_text self.now) result }
+        ensures room { result.room ≡ run_room self.now }
+    {
+        let rules = MatchContext {
+            flags: self.code.program.flags,
+            known: self.known,
+            backwards: false,
+        };
+        input_for(
+            self.text,
+            rules,
+            self.code,
+            self.code.program.routines.len() - 1,
+            self.room,
+        )
     }
 
     /// Returns the number of steps for the captures of a match.
@@ -206,24 +226,4 @@ fn outcome_of(alloc: Global, machine: &mut Machine, response: Response, position
         Response::NoMatch => Outcome::NoMatch,
         Response::OutOfSteps => Outcome::OutOfSteps,
     }
-}
-
-/// Returns the input for the pattern of the program.
-#[inline(always)]
-pub(crate) fn input_of<'c, 'x>(backtracker: &Backtracker<'c, 'x>) -> Input<'c, 'x>
-    ensures input { IsFor (run_code backtracker.now) (run_tables backtracker.now) (run_text backtracker.now) result }
-    ensures room { result.room ≡ run_room backtracker.now }
-{
-    let rules = MatchContext {
-        flags: backtracker.code.program.flags,
-        known: backtracker.known,
-        backwards: false,
-    };
-    input_for(
-        backtracker.text,
-        rules,
-        backtracker.code,
-        backtracker.code.program.routines.len() - 1,
-        backtracker.room,
-    )
 }

@@ -51,7 +51,7 @@ pub enum Entry {
 /// The number of bytes of an entry.
 pub const ENTRY_BYTES: usize = 40;
 
-const _: () = prove!(size_of::<Entry>() == 40);
+const _: () = prove!(size_of::<Entry>() == ENTRY_BYTES);
 
 /// What belongs to one run of a routine.
 #[derive(Drop)]
@@ -142,6 +142,7 @@ impl Machine {
         ensures entries { IfOk result (λ _. self.new.stack.entries.items ≡ outer.entries.items ++ changes_of self.old.stack.entries.items) }
         ensures begins { IfOk result (λ _. self.new.stack.begins.items ≡ outer.begins.items) }
         ensures captures { IfOk result (λ _. self.new.captures.items ≡ self.old.captures.items) }
+        ensures grows { IfOk result (λ _. entry_count self.new ≤ length outer.entries.items + entry_count self.old) }
         ensures within { AreWithin room self.old → IsStackWithin room outer → AreWithin room self.new }
         ensures too_much { IfErr result (λ fault. fault ≡ TooMuchMemory → room ≤ length outer.entries.items + entry_count self.old) }
     {
@@ -401,6 +402,7 @@ impl Machine {
 /// Returns [`MemoryFault`] if an allocation fails, or if the stack would need room for more than `room` entries.
 fn append_changes(entries: &[Entry], to: &mut Vec<Entry>, room: usize) -> Result<(), MemoryFault>
     ensures items { IfOk result (λ _. to.new.items ≡ to.old.items ++ changes_of entries.now) }
+    ensures grows { IfOk result (λ _. length to.new.items ≤ length to.old.items + length entries.now) }
     ensures within { vec_capacity to.old ≤ room → vec_capacity to.new ≤ room }
     ensures too_much { IfErr result (λ fault. fault ≡ TooMuchMemory → room ≤ length to.old.items + length entries.now) }
 {

@@ -16,7 +16,7 @@ ghost use Rattle.regress_backtrack.specs.Searched.{IsFor, Skipped};
 ghost use Rattle.regress_code.specs.declared.code.Code.{Code};
 ghost use Rattle.regress_found.specs.declared.outcome.Outcome.TheVariants.{OutOfSteps};
 
-use crate::backtracker::{Backtracker, input_of};
+use crate::backtracker::Backtracker;
 use crate::boundary::{begins_at_boundary, outside_word};
 use crate::cache::Cache;
 use crate::input::{Input, next_bytes_at};
@@ -94,10 +94,12 @@ impl Backtracker<'_, '_> {
     /// [`Outcome::OutOfSteps`].
     ///
     /// So the limit bounds the time: it is at most `remaining` and the length of the text together, times a factor that depends
-    /// only on the program. Each backtrack stack takes at most the bytes that the backtracker was given, and the cache keeps
-    /// it: there is one for the pattern, and one for each level of nested lookarounds. A search whose stack would need more is
-    /// refused. Its cost is then at least 1 for each 64 entries that the stack has room for. Recursion is as deep as
-    /// lookarounds are nested.
+    /// only on the program. Recursion is as deep as lookarounds are nested.
+    ///
+    /// The memory is bounded too. No backtrack stack of the cache grows beyond the bytes that the backtracker was given, and
+    /// the cache keeps what they have: there is one for the pattern, and one for each level of nested lookarounds. A search
+    /// that needs a larger one is refused. Its cost is then at least 1 for each 64 entries for which there is room in those
+    /// bytes.
     ///
     /// # Errors
     /// - [`MemoryFault::TooMuchMemory`] if a backtrack stack needs more bytes than the backtracker allows.
@@ -154,7 +156,7 @@ impl Backtracker<'_, '_> {
     {
         let code = self.code;
         let text = self.text;
-        let input = input_of(self);
+        let input = self.input();
         cache.machine.unset_all(code.program.groups)?;
         let lead = lead_of(&input);
         let at_boundary = begins_at_boundary(&input);

@@ -26,4 +26,4 @@ returns-then-fails-clause-costs c = λ outs costs has.
 
 pub returns-clause-costs : goal.returns-clause-costs
 returns-clause-costs c = λ outs costs has.
-    chosen_cost (costs c.args.input.now.index) c.args.machine.now c.choose.new.self c.args.first c.args.second c.in_ok-choose.ensures
+    chosen_cost (costs c.args.input.now.index) c.args.machine.now c.choose.new.self c.args.first c.args.second c.in_ok-choose.ensures.chosen

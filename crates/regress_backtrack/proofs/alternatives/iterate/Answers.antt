@@ -1,9 +1,9 @@
-use Rattle.std.proofs.Common.{rules, arith, ◌≡◌, ◌+◌, ◌≤◌, ◌++◌, ◌∷◌, false, flat_map, subst, sym}
+use Rattle.std.proofs.Common.{rules, arith, ◌≡◌, ◌+◌, ◌≤◌, ◌++◌, ◌∷◌, All, IfOk, false, flat_map, subst, sym}
 use Rattle.regress_program.specs.Program.{either}
 use Rattle.regress_backtrack.specs.declared.machine.Place.{Place}
 use Rattle.regress_backtrack.specs.Costs.{cost_ahead, points_cost}
 use Rattle.regress_backtrack.specs.Machine.{at, groups_of, points}
-use Rattle.regress_backtrack.specs.Next.{Leads}
+use Rattle.regress_backtrack.specs.Next.{Inside, Leads, ahead}
 use Rattle.regress_backtrack.proofs.StepLemmas.{ok_map}
 use Rattle.regress_backtrack.proofs.alternatives.iterate.Goals as goal
 
@@ -84,3 +84,9 @@ pub returns-else-looping-clause-costs : goal.returns-else-looping-clause-costs
 returns-else-looping-clause-costs c =
     ok_map c.fork-else-looping.result _ _
     (λ to less. λ outs costs has. let all = less outs costs has in omega (arith, all)) c.fork-else-looping.ensures.costs
+
+pub returns-in-None-clause-inside : goal.returns-in-None-clause-inside
+returns-in-None-clause-inside c =
+    let input = c.args.input.now in
+    let same : c.sweep.new.machine ≡ c.args.machine.now = search rules in
+    subst (λ x. IfOk c.fork.result (λ to. All (Inside input) (points x) → All (Inside input) (ahead c.fork.new.machine to))) same c.fork.ensures.inside

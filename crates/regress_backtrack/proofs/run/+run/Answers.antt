@@ -1,22 +1,24 @@
-use Rattle.std.proofs.Common.{◌≡◌, ◌+◌, ◌≤◌, ◌++◌, ◌∷◌, [], All, IfSome, MatchOption, true, flat_map, length, reverse, refl, sym, ap, ◌∙◌, subst, arith}
+use Rattle.std.proofs.Common.{rules, ◌≡◌, ℕ, ◌+◌, ◌*◌, ◌≤◌, IfErr, ◌++◌, ◌∷◌, [], All, IfSome, MatchOption, true, flat_map, length, reverse, refl, sym, ap, ◌∙◌, subst, arith}
 use Rattle.std.proofs.lemmas.List.{length-take}
 use Rattle.std.proofs.lemmas.List.Elements.{All-head, All-tail}
 use Rattle.regress_leaves.specs.Subject.{subject}
 use Rattle.regress_found.specs.Found.{state}
-use Rattle.regress_program.specs.Cost.{Cost}
-use Rattle.regress_program.specs.Program.{matcher_of, outcomes_by}
+use Rattle.regress_found.specs.declared.fault.MemoryFault.TheVariants.{TooMuchMemory}
+use Rattle.regress_program.specs.Cost.{Cost, cost_of}
+use Rattle.regress_program.specs.Program.{Out, matcher_of, outcomes_by}
 use Rattle.regress_program.specs.Shape.{IsProgram}
 use Rattle.regress_code.specs.Code.{code_routines}
-use Rattle.regress_backtrack.specs.Costs.{cost_ahead, op_cost, points_cost}
+use Rattle.regress_backtrack.specs.Costs.{HasCost, cost_ahead, op_cost, points_cost}
 use Rattle.regress_program.specs.Views.{op_in}
 use Rattle.regress_backtrack.specs.Machine.{Groups, at, changes_of, groups_of, points, rewound}
 use Rattle.regress_backtrack.specs.declared.run.Response.TheVariants as responses
+use Rattle.regress_backtrack.specs.Memory.{IsStackWithin, entry_count}
 use Rattle.regress_backtrack.specs.Next.{Fails, Inside}
 use Rattle.regress_backtrack.specs.Run.{IsResponseOf}
 use Rattle.regress_backtrack.proofs.CostLemmas.{costed}
 use Rattle.regress_backtrack.proofs.MachineLemmas.{left-lookaround, rewound-none}
-use Rattle.regress_backtrack.proofs.StepLemmas.{Goes, not_look, ok_map}
-use Rattle.regress_backtrack.proofs.RunLemmas.{fails_response, can_step, advanced, look_fits, on_same, back_same, accept_same, on_all, back_all, begins-inside, begins-same, begins_cost, same_response, same_cost, look_cost, look_goes, look_inside}
+use Rattle.regress_backtrack.proofs.StepLemmas.{Goes, err_map, not_look, ok_map}
+use Rattle.regress_backtrack.proofs.RunLemmas.{fails_response, can_step, advanced, look_fits, on_same, back_same, accept_same, on_all, back_all, begins-inside, begins-same, begins_cost, same_response, same_cost, same_entries, same_within, look_cost, look_goes, look_inside}
 use Rattle.regress_backtrack.proofs.run.+run.Goals as goal
 
 -- ---- one instruction
@@ -92,6 +94,19 @@ advance-returns-in_default t c =
           omega (arith, here, all))
           c.step.ensures.costs;
       spent = ok_map c.step.result _ _ (λ next goes. λ out. absurd (goes out)) c.step.ensures.goes;
+      within = c.step.ensures.within;
+      grows = ok_map c.step.result _ _
+          (λ next grown. λ outs costs has.
+          let here = costed input c.requires.input outs costs has (groups_of m) c.args.here i c.requires.inside.pc read c.requires.inside.position in
+          let all = grown outs costs has in
+          omega (arith, here, all))
+          c.step.ensures.grows;
+      too_much = err_map c.step.result _ _
+          (λ fault full. λ is outs costs has.
+          let here = costed input c.requires.input outs costs has (groups_of m) c.args.here i c.requires.inside.pc read c.requires.inside.position in
+          let all = full is outs costs in
+          omega (arith, here, all))
+          c.step.ensures.too_much;
     }
 
 -- ---- lookarounds
@@ -200,6 +215,13 @@ run-loop-remaining-init t c =
           begins_cost c.args.input.now c.requires.input _ c.args.machine.now.captures.items c.args.start
           (subject c.args.input.now.rules c.args.input.now.text.now).setting c.args.input.now.text.now costs c.args.remaining.now c.clear.ensures.entries
           c.clear.ensures.begins refl;
+      within = λ are. record { stack = c.clear.ensures.within c.args.input.now.room are.stack; idle = are.idle };
+      grows = λ outs costs has.
+          let begins = begins_cost c.args.input.now c.requires.input
+          (record { captures = c.args.machine.now.captures; stack = c.clear.new.self; idle = c.args.machine.now.idle }) c.args.machine.now.captures.items c.args.start
+          (subject c.args.input.now.rules c.args.input.now.text.now).setting c.args.input.now.text.now costs 0 c.clear.ensures.entries
+          c.clear.ensures.begins refl in
+          omega (arith, begins, ap length c.clear.ensures.entries);
     }
 
 pub run-advance-requires : goal.run-advance-requires
@@ -234,6 +256,12 @@ run-loop-remaining-preserved-in-On t c =
           let taken = c.in_ok-to.ensures.costs outs costs has in
           let on = ap (cost_ahead (costs input.index) m') c.in-On.is in
           omega (arith, before, taken, on);
+      within = λ are. c.advance.ensures.within (so_far.within are);
+      grows = λ outs costs has.
+          let before = so_far.grows outs costs has in
+          let grown = c.in_ok-to.ensures.grows outs costs has in
+          let on = ap (cost_ahead (costs input.index) m') c.in-On.is in
+          omega (arith, before, grown, on);
     }
 
 pub run-loop-remaining-smaller-in-On : goal.run-loop-remaining-smaller-in-On
@@ -271,6 +299,15 @@ run-loop-remaining-preserved t c =
           let less = subst (λ o. IfSome o (λ p. (cost : Cost) → cost (at p (groups_of m'')) + points_cost cost m'' ≤ points_cost cost m')) c.in-Some.is
           c.in_ok-to-in-Back.ensures.costs cost in
           omega (arith, before, taken, back, less);
+      within = λ are. c.resume.ensures.within input.room (c.advance.ensures.within (so_far.within are));
+      grows = λ outs costs has.
+          let cost = costs input.index in
+          let before = so_far.grows outs costs has in
+          let grown = c.in_ok-to.ensures.grows outs costs has in
+          let back = ap (cost_ahead cost m') c.in-Back.is in
+          let less = subst (λ o. IfSome o (λ p. (cost : Cost) → cost (at p (groups_of m'')) + points_cost cost m'' ≤ points_cost cost m')) c.in-Some.is
+          c.in_ok-to-in-Back.ensures.costs cost in
+          omega (arith, before, grown, back, less, c.resume.ensures.shrinks);
     }
 
 pub run-returns-in-None-clause-responds : goal.run-returns-in-None-clause-responds
@@ -401,4 +438,155 @@ run-returns-in-OutOfSteps-clause-costs t c = λ outs costs has.
 pub run-returns-clause-costs : goal.run-returns-clause-costs
 run-returns-clause-costs t c = λ outs costs has.
     let before = c.loop-remaining.invariant.costs outs costs has in
+    omega (arith, before)
+
+-- ---- the entries
+
+pub advance-returns-in-Look-clause-grows : goal.advance-returns-in-Look-clause-grows
+advance-returns-in-Look-clause-grows t c =
+    let input = c.args.input.now in
+    let m = c.args.machine.now in
+    let p = c.args.here in
+    let i = c.instruction_at-instruction.result in
+    let read = c.instruction_at-instruction.ensures in
+    ok_map c.look.result _ _
+    (λ next grown. λ outs costs has.
+    let here = costed input c.requires.input outs costs has (groups_of m) p i c.requires.inside.pc read c.requires.inside.position in
+    let is = ap (λ x. op_cost input outs costs (op_in input.code.now.program.leaves.items x) (at p (groups_of m))) c.in-Look.is in
+    let all = grown outs costs has in
+    omega (arith, here, is, all))
+    c.look.ensures.grows
+
+pub advance-returns-in-Look-clause-too_much : goal.advance-returns-in-Look-clause-too_much
+advance-returns-in-Look-clause-too_much t c =
+    let input = c.args.input.now in
+    let m = c.args.machine.now in
+    let p = c.args.here in
+    let i = c.instruction_at-instruction.result in
+    let read = c.instruction_at-instruction.ensures in
+    err_map c.look.result _ _
+    (λ fault full. λ much outs costs has.
+    let here = costed input c.requires.input outs costs has (groups_of m) p i c.requires.inside.pc read c.requires.inside.position in
+    let is = ap (λ x. op_cost input outs costs (op_in input.code.now.program.leaves.items x) (at p (groups_of m))) c.in-Look.is in
+    let all = full much outs costs has in
+    omega (arith, here, is, all))
+    c.look.ensures.too_much
+
+pub look-returns-then-fails-clause-grows : goal.look-returns-then-fails-clause-grows
+look-returns-then-fails-clause-grows t c = λ outs costs has.
+    let taken = look-returns-then-fails-clause-costs t c outs costs has in
+    omega (arith, taken)
+
+pub look-returns-in_err-response-clause-within : goal.look-returns-in_err-response-clause-within
+look-returns-in_err-response-clause-within t c = λ are.
+    same_within c.args.input.now.room c.input_for-inside.result.room c.enter-outer.new.self c.run.new.machine c.input_for-inside.ensures.room
+    c.run.ensures.within (c.enter-outer.ensures.within c.args.input.now.room are)
+
+pub look-returns-in_err-leave-clause-within : goal.look-returns-in_err-leave-clause-within
+look-returns-in_err-leave-clause-within t c = λ are.
+    let room = c.args.input.now.room in
+    c.leave.ensures.within
+    (same_within room c.input_for-inside.result.room c.enter-outer.new.self c.run.new.machine c.input_for-inside.ensures.room
+    c.run.ensures.within (c.enter-outer.ensures.within room are))
+    (subst (IsStackWithin room) (sym c.enter-outer.ensures.stack) are.stack)
+
+pub look-returns-clause-within : goal.look-returns-clause-within
+look-returns-clause-within t c = λ are.
+    let room = c.args.input.now.room in
+    c.leave.ensures.within
+    (same_within room c.input_for-inside.result.room c.enter-outer.new.self c.run.new.machine c.input_for-inside.ensures.room
+    c.run.ensures.within (c.enter-outer.ensures.within room are))
+    (subst (IsStackWithin room) (sym c.enter-outer.ensures.stack) are.stack)
+
+pub look-returns-clause-grows : goal.look-returns-clause-grows
+look-returns-clause-grows t c = λ outs costs has.
+    let input = c.args.input.now in
+    let u = subject input.rules input.text.now in
+    let m = c.args.machine.now in
+    let inner = c.run.new.machine in
+    let m' = c.leave.new.self in
+    let inside = c.input_for-inside.ensures in
+    let body = matcher_of u.setting u.bytes (code_routines input.code.now) outs c.args.looking.routine in
+    let kept = left-lookaround m inner m' (c.in_ok-response.ensures.undo ∙ c.enter-outer.ensures.captures)
+    (c.in_ok-leave.ensures.entries ∙ ap (λ s. s.entries.items ++ changes_of inner.stack.entries.items) c.enter-outer.ensures.stack)
+    (c.in_ok-leave.ensures.begins ∙ ap (λ s. s.begins.items) c.enter-outer.ensures.stack) c.in_ok-leave.ensures.captures in
+    let responds : IsResponseOf (body (state m.captures.items c.args.here.position)) inner c.in_ok-response.response =
+    same_response inner c.in_ok-response.response outs c.args.here.position _ _ _ _ _ _ _ _ _ _ (c.in_ok-response.ensures.responds outs) inside.setting
+    inside.text
+    (ap code_routines inside.code) inside.index c.enter-outer.ensures.captures has.outcomes in
+    let ahead = look_cost (outs input.index) m m' kept.points (ap reverse (c.in_ok-leave.ensures.begins ∙ ap (λ s. s.begins.items) c.enter-outer.ensures.stack))
+    c.args.here c.args.looking.next (costs input.index) c.args.looking.negate body inner c.in_ok-response.response
+    c.next_after.result responds c.in_ok-leave.ensures.captures (λ none. c.in_ok-response.ensures.none none ∙ c.enter-outer.ensures.captures)
+    c.next_after.ensures in
+    let grown = same_entries (entry_count inner) outs costs c.args.here.position _ _ _ _ _ _ _ _ _ _ (c.in_ok-response.ensures.grows outs costs)
+    inside.setting inside.text (ap code_routines inside.code) inside.index c.enter-outer.ensures.captures has in
+    let outer = ap (λ s. length s.entries.items) c.enter-outer.ensures.stack in
+    omega (arith, ahead, grown, c.in_ok-leave.ensures.grows, outer)
+
+pub look-returns-in_err-response-clause-too_much : goal.look-returns-in_err-response-clause-too_much
+look-returns-in_err-response-clause-too_much t c =
+    let inside = c.input_for-inside.result in
+    let same = c.input_for-inside.ensures in
+    let the_fault : IfErr c.from_residual.result (λ fault. fault ≡ c.in_err-response.field-0.0) = search rules in
+    err_map c.from_residual.result _ _
+    (λ fault is. λ much outs costs has.
+    let le = same_entries inside.room outs costs c.args.here.position _ _ _ _ _ _ _ _ _ _ (c.in_err-response.ensures.too_much (sym is ∙ much) outs costs)
+    same.setting same.text (ap code_routines same.code) same.index c.enter-outer.ensures.captures has in
+    omega (arith, le, same.room))
+    the_fault
+
+pub look-returns-in_err-leave-clause-too_much : goal.look-returns-in_err-leave-clause-too_much
+look-returns-in_err-leave-clause-too_much t c =
+    let inner = c.run.new.machine in
+    let same = c.input_for-inside.ensures in
+    let full : IfErr c.from_residual-in_err-leave.result (λ fault. fault ≡ TooMuchMemory →
+    c.args.input.now.room ≤ length c.enter-outer.result.entries.items + entry_count inner) = search rules in
+    err_map c.from_residual-in_err-leave.result _ _
+    (λ fault much. λ is outs costs has.
+    let le = much is in
+    let grown = same_entries (entry_count inner) outs costs c.args.here.position _ _ _ _ _ _ _ _ _ _ (c.in_ok-response.ensures.grows outs costs)
+    same.setting same.text (ap code_routines same.code) same.index c.enter-outer.ensures.captures has in
+    let outer = ap (λ s. length s.entries.items) c.enter-outer.ensures.stack in
+    omega (arith, le, grown, outer))
+    full
+
+pub run-returns-in_err-to-clause-too_much : goal.run-returns-in_err-to-clause-too_much
+run-returns-in_err-to-clause-too_much t c =
+    let the_fault : IfErr c.from_residual.result (λ fault. fault ≡ c.in_err-to.field-0.0) = search rules in
+    err_map c.from_residual.result _ _
+    (λ fault is. λ much outs costs has.
+    let le = c.in_err-to.ensures.too_much (sym is ∙ much) outs costs has in
+    let before = c.loop-remaining.invariant.grows outs costs has in
+    omega (arith, le, before))
+    the_fault
+
+pub run-returns-in_err-to-in-Back-clause-within : goal.run-returns-in_err-to-in-Back-clause-within
+run-returns-in_err-to-in-Back-clause-within t c = λ are.
+    c.resume.ensures.within c.args.input.now.room (c.advance.ensures.within (c.loop-remaining.invariant.within are))
+
+pub run-returns-in-None-clause-within : goal.run-returns-in-None-clause-within
+run-returns-in-None-clause-within t c = λ are.
+    c.resume.ensures.within c.args.input.now.room (c.advance.ensures.within (c.loop-remaining.invariant.within are))
+
+pub run-returns-in-None-clause-grows : goal.run-returns-in-None-clause-grows
+run-returns-in-None-clause-grows t c = λ outs costs has.
+    let before = c.loop-remaining.invariant.grows outs costs has in
+    let grown = c.in_ok-to.ensures.grows outs costs has in
+    omega (arith, before, grown, c.resume.ensures.shrinks)
+
+pub run-returns-in-Accept-clause-grows : goal.run-returns-in-Accept-clause-grows
+run-returns-in-Accept-clause-grows t c = λ outs costs has.
+    let before = c.loop-remaining.invariant.grows outs costs has in
+    let grown = c.in_ok-to.ensures.grows outs costs has in
+    omega (arith, before, grown)
+
+pub run-returns-in-OutOfSteps-clause-grows : goal.run-returns-in-OutOfSteps-clause-grows
+run-returns-in-OutOfSteps-clause-grows t c = λ outs costs has.
+    let before = c.loop-remaining.invariant.grows outs costs has in
+    let grown = c.in_ok-to.ensures.grows outs costs has in
+    omega (arith, before, grown)
+
+pub run-returns-clause-grows : goal.run-returns-clause-grows
+run-returns-clause-grows t c = λ outs costs has.
+    let before = c.loop-remaining.invariant.grows outs costs has in
     omega (arith, before)

@@ -8,6 +8,7 @@ use Rattle.regress_program.specs.Program.{IsSolution, Out, matcher_of}
 use Rattle.regress_code.specs.Code.{code_routines}
 use Rattle.regress_backtrack.specs.Costs.{HasCost, points_cost}
 use Rattle.regress_backtrack.specs.Machine.{at, groups_of, points, rewound}
+use Rattle.regress_backtrack.specs.Memory.{AreWithin, entry_count}
 use Rattle.regress_backtrack.specs.Next.{Inside}
 use Rattle.regress_backtrack.proofs.run.+run.Given as goal
 
@@ -32,6 +33,11 @@ invariant-run-loop-remaining l = record {
   costs : (outs : ℕ → Out) (costs : ℕ → Cost) → HasCost l.input outs costs →
       l.fn.remaining + (costs l.input.index (at l.here (groups_of l.machine)) + points_cost (costs l.input.index) l.machine)
       ≤ l.remaining + cost_of (subject l.input.rules l.input.text.now).setting l.input.text.now (code_routines l.input.code.now) costs l.input.index
+      (state l.fn.machine.captures.items l.start);
+  within : AreWithin l.input.room l.fn.machine → AreWithin l.input.room l.machine;
+  grows : (outs : ℕ → Out) (costs : ℕ → Cost) → HasCost l.input outs costs →
+      entry_count l.machine + 64 * (costs l.input.index (at l.here (groups_of l.machine)) + points_cost (costs l.input.index) l.machine)
+      ≤ 64 * cost_of (subject l.input.rules l.input.text.now).setting l.input.text.now (code_routines l.input.code.now) costs l.input.index
       (state l.fn.machine.captures.items l.start);
 }
 

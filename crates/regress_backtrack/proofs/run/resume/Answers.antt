@@ -42,4 +42,24 @@ loop-to-preserved c =
           let one = back_cost cost c.loop-to.machine m' c.in-Some.to back in
           let fewer = left.costs cost in
           omega (arith, so_far, one, fewer);
+      shrinks = omega (arith, c.loop-to.invariant.shrinks, c.backtrack.ensures.shrinks, left.shrinks);
+      within = λ room are. left.within room (c.backtrack.ensures.within room (c.loop-to.invariant.within room are));
     }
+
+pub returns-in_err-to-clause-shrinks : goal.returns-in_err-to-clause-shrinks
+returns-in_err-to-clause-shrinks c = omega (arith, c.loop-to.invariant.shrinks, c.backtrack.ensures.shrinks)
+
+pub returns-in_err-to-clause-within : goal.returns-in_err-to-clause-within
+returns-in_err-to-clause-within c = λ room are. c.backtrack.ensures.within room (c.loop-to.invariant.within room are)
+
+pub returns-then-not-fails-clause-shrinks : goal.returns-then-not-fails-clause-shrinks
+returns-then-not-fails-clause-shrinks c = omega (arith, c.loop-to.invariant.shrinks, c.backtrack.ensures.shrinks)
+
+pub returns-then-not-fails-clause-within : goal.returns-then-not-fails-clause-within
+returns-then-not-fails-clause-within c = λ room are. c.backtrack.ensures.within room (c.loop-to.invariant.within room are)
+
+pub returns-clause-shrinks : goal.returns-clause-shrinks
+returns-clause-shrinks c = omega (arith, c.loop-to.invariant.shrinks, c.backtrack.ensures.shrinks)
+
+pub returns-clause-within : goal.returns-clause-within
+returns-clause-within c = λ room are. c.backtrack.ensures.within room (c.loop-to.invariant.within room are)

@@ -25,7 +25,7 @@ returns-clause-leads c = λ outs solve.
     let all : more ≡ kept + (more - kept) = omega (arith, c.points_kept-more.ensures.within) in
     swept_leads out m c.choose_range.new.self first to kept
     (out (at (record { pc = c.args.looping.body; moved = false; position = here.position }) g) ++ out (at first g))
-    c.in_ok-choose_range.ensures
+    c.in_ok-choose_range.ensures.ranged
     (iterations input c.requires.input c.args.looping set repeat_pc c.in-Some.ensures c.requires.body outs solve g here more are
     ∙ ap (λ n. out (at (record { pc = repeat_pc; moved = true; position = here.position + n }) g) ++ flat_map out (range_points first more g)) (sym same)
     ∙ ap (λ xs. xs ++ flat_map out (range_points first more g)) (sym (c.leave-to.ensures.same outs g solve))
@@ -40,7 +40,7 @@ returns-clause-inside c =
     let first : Place = record { pc = c.args.looping.next; moved = here.moved; position = here.position } in
     let to = c.leave-to.result in
     let within : here.position + count ≤ length c.args.input.now.text.now = c.count_of-count.ensures.within in
-    swept_inside c.args.input.now c.args.machine.now c.choose_range.new.self first to c.points_kept-more.result c.in_ok-choose_range.ensures c.requires.next
+    swept_inside c.args.input.now c.args.machine.now c.choose_range.new.self first to c.points_kept-more.result c.in_ok-choose_range.ensures.ranged c.requires.next
     (omega (arith, within, c.points_kept-more.ensures.within, c.if-count-eq0.false)) c.leave-to.ensures.pc (omega (arith, within, c.leave-to.ensures.position))
 
 pub returns-clause-costs : goal.returns-clause-costs
@@ -66,5 +66,5 @@ returns-clause-costs c = λ outs costs has.
     let split : more ≡ kept + (more - kept) = omega (arith, c.points_kept-more.ensures.within) in
     let fewer = fewer_cost cost g first kept (more - kept) in
     let grown = ap (λ n. sum_by cost (range_points first n g)) split in
-    let ahead = swept_ahead cost m c.choose_range.new.self first to kept count before c.in_ok-choose_range.ensures (omega (arith, all, end, less, same, fewer, grown)) in
+    let ahead = swept_ahead cost m c.choose_range.new.self first to kept count before c.in_ok-choose_range.ensures.ranged (omega (arith, all, end, less, same, fewer, grown)) in
     omega (arith, ahead, same, c.saturating_sub.ensures)

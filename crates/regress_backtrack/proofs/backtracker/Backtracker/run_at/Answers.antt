@@ -1,10 +1,10 @@
-use Rattle.std.proofs.Common.{◌≤◌, length, sym, subst}
+use Rattle.std.proofs.Common.{◌≤◌, length, sym, subst, arith}
 use Rattle.regress_program.specs.Shape.{IsProgram}
 use Rattle.regress_backtrack.specs.Backtracker.{run_code, run_tables, run_text}
 use Rattle.regress_code.specs.Code.{code_routines}
 use Rattle.regress_backtrack.specs.Run.{IsResponseOf}
-use Rattle.regress_backtrack.proofs.SearchLemmas.{of_tree, run_cost, run_solved}
-use Rattle.regress_backtrack.proofs.StepLemmas.{ok_map}
+use Rattle.regress_backtrack.proofs.SearchLemmas.{of_tree, run_cost, run_entries, run_solved}
+use Rattle.regress_backtrack.proofs.StepLemmas.{err_map, ok_map}
 use Rattle.regress_backtrack.proofs.backtracker.Backtracker.run_at.Goals as goal
 
 pub run-requires : goal.run-requires
@@ -37,3 +37,12 @@ returns-clause-costs c =
     (λ r taken. λ outs costs. (run_cost c.args.self.now c.args.input.now c.args.machine.now.captures.items c.args.position c.args.remaining.now
     c.run.new.remaining outs costs c.requires.input c.requires.unset (taken outs costs)))
     c.run.ensures.costs
+
+pub returns-clause-too_much : goal.returns-clause-too_much
+returns-clause-too_much c =
+    err_map c.run.result _ _
+    (λ fault full. λ is outs costs are.
+    let le = run_entries c.args.self.now c.args.input.now c.args.machine.now.captures.items c.args.position c.args.input.now.room outs costs
+    c.requires.input c.requires.unset (full is outs costs) are in
+    omega (arith, le, c.requires.room))
+    c.run.ensures.too_much

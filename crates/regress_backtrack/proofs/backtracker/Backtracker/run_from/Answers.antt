@@ -1,23 +1,38 @@
-use Rattle.std.proofs.Common.{rules, arith, ◌≡◌, ◌≤◌, ◌<◌, ◌+◌, ℕ, [], length, sym, ◌∙◌, subst, IfSome, MatchOption}
+use Rattle.std.proofs.Common.{rules, arith, ◌≡◌, ◌≤◌, ◌<◌, ◌+◌, ℕ, [], length, sym, ◌∙◌, subst, IfErr, IfSome, MatchOption}
 use Rattle.std.specs.Str.{IsCharBoundary}
 use Rattle.regress_found.specs.Found.{NoneBefore}
 use Rattle.regress_program.specs.Program.{Out}
 use Rattle.regress_program.proofs.lemmas.Solutions.{solution}
 use Rattle.regress_code.specs.Code.{code_routines, setting_with}
-use Rattle.regress_backtrack.specs.Backtracker.{AreOutcomes, cost_at, outcomes_at, run_code, run_tables, run_text}
+use Rattle.regress_backtrack.specs.Backtracker.{AreOutcomes, cost_at, outcomes_at, run_code, run_room, run_tables, run_text}
 use Rattle.regress_found.specs.Results.{IsMatchResult}
 use Rattle.regress_found.specs.declared.outcome.Outcome.TheVariants as outcomes
 use Rattle.regress_backtrack.proofs.CandidateLemmas.{none_after, none_before}
-use Rattle.regress_backtrack.proofs.CostLemmas.{searched, tried_on}
+use Rattle.regress_backtrack.proofs.CostLemmas.{one_tried, searched, tried_on}
 use Rattle.regress_backtrack.proofs.SearchLemmas.{found_leftmost, none_more, not_true, tree_finds}
+use Rattle.regress_backtrack.proofs.StepLemmas.{err_map}
 use Rattle.regress_backtrack.proofs.backtracker.Backtracker.run_from.Goals as goal
+
+pub loop-start-init : goal.loop-start-init
+loop-start-init c = record {
+  unset = c.in_ok-unset_all.ensures.captures;
+  from = omega arith;
+  on = omega arith;
+  remaining = omega arith;
+  counted = omega arith;
+  solved = search rules;
+  costs = λ outs costs are. omega arith;
+  within = c.unset_all.ensures.within (run_room c.args.self.now);
+  enough = λ outs costs are. omega arith;
+}
 
 pub match_in-requires : goal.match_in-requires
 match_in-requires c =
     let on : IsCharBoundary (run_text c.args.self.now) c.in-Some.position = search rules in
     record {
-      input = c.input_of-input.ensures;
+      input = c.input-input.ensures.input;
       unset = c.loop-start.invariant.unset;
+      room = c.input-input.ensures.room;
       position = on.0;
     }
 
@@ -31,7 +46,7 @@ pub returns-in_default-clause-solved : goal.returns-in_default-clause-solved
 returns-in_default-clause-solved c = λ outs are.
     let a = c.args.self.now in
     none_after (run_text a) (outcomes_at a outs) c.args.from c.loop-start.start (c.loop-start.invariant.solved outs are)
-    (λ k low le. c.next_start.ensures.skipped (run_tables a) c.input_of-input.ensures outs are k low le (subst (λ r. MatchOption r Unit (λ p. k < p)) (sym c.in_default.is) tt))
+    (λ k low le. c.next_start.ensures.skipped (run_tables a) c.input-input.ensures.input outs are k low le (subst (λ r. MatchOption r Unit (λ p. k < p)) (sym c.in_default.is) tt))
 
 pub returns-in_default-clause-finds : goal.returns-in_default-clause-finds
 returns-in_default-clause-finds c = tree_finds c.args.self.now c.args.from outcomes.NoMatch (returns-in_default-clause-solved c)
@@ -46,7 +61,7 @@ returns-in-Matched-clause-solved c = λ outs are.
     (subst (IsMatchResult k (outcomes_at a outs k)) c.in-Matched.is
     (c.in_ok-found.ensures.solved outs are))
     (none_before (run_text a) (outcomes_at a outs) c.args.from c.loop-start.start (c.loop-start.invariant.solved outs are) k
-    (λ p low le lt. c.next_start.ensures.skipped (run_tables a) c.input_of-input.ensures outs are p low le (subst (λ r. MatchOption r Unit (λ q. p < q)) (sym c.in-Some.is) lt)))
+    (λ p low le lt. c.next_start.ensures.skipped (run_tables a) c.input-input.ensures.input outs are p low le (subst (λ r. MatchOption r Unit (λ q. p < q)) (sym c.in-Some.is) lt)))
 
 pub returns-in-Matched-clause-finds : goal.returns-in-Matched-clause-finds
 returns-in-Matched-clause-finds c =
@@ -61,7 +76,7 @@ loop-start-preserved-in-NoMatch c =
     let within = subst (λ r. IfSome r (λ (p : ℕ). (c.loop-start.start ≤ p) × (p ≤ length text))) c.in-Some.is c.next_start.ensures.within in
     let before : (outs : ℕ → Out) → AreOutcomes a outs → NoneBefore text (outcomes_at a outs) c.args.from k = λ outs are.
     none_before text (outcomes_at a outs) c.args.from c.loop-start.start (so_far.solved outs are) k
-    (λ p low le lt. c.next_start.ensures.skipped (run_tables a) c.input_of-input.ensures outs are p low le (subst (λ r. MatchOption r Unit (λ q. p < q)) (sym c.in-Some.is) lt)) in
+    (λ p low le lt. c.next_start.ensures.skipped (run_tables a) c.input-input.ensures.input outs are p low le (subst (λ r. MatchOption r Unit (λ q. p < q)) (sym c.in-Some.is) lt)) in
     let here : (outs : ℕ → Out) → AreOutcomes a outs → outcomes_at a outs k ≡ [] = λ outs are.
     subst (IsMatchResult k (outcomes_at a outs k)) c.in-NoMatch.is (c.in_ok-found.ensures.solved outs are) in
     record {
@@ -73,12 +88,13 @@ loop-start-preserved-in-NoMatch c =
       solved = λ outs are.
           none_before text (outcomes_at a outs) c.args.from (k + 1) (none_more text (outcomes_at a outs) c.args.from k (before outs are) (λ on. here outs are))
           c.next_after-start.result
-          (λ p low le lt. c.next_after-start.ensures.skipped (run_code a) (run_tables a) c.input_of-input.ensures outs are (here outs are) p (omega (arith, low)) lt);
+          (λ p low le lt. c.next_after-start.ensures.skipped (run_code a) (run_tables a) c.input-input.ensures.input outs are (here outs are) p (omega (arith, low)) lt);
       costs = λ outs costs are.
           let so = so_far.costs outs costs are in
           let taken = c.in_ok-found.ensures.costs outs costs are in
           let on = tried_on (cost_at a costs) c.args.from c.loop-start.counted k so_far.from (omega (arith, so_far.on, within.0)) in
           omega (arith, so, taken, on, c.saturating_sub.ensures);
+      within = λ are. c.match_in.ensures.within (so_far.within are);
       enough = λ outs costs are.
           searched (cost_at a costs) c.args.from c.loop-start.counted k (length text) c.args.remaining.now c.loop-start.remaining c.saturating_sub.result
           c.match_in.new.remaining so_far.from (omega (arith, so_far.on, within.0)) within.1 (so_far.costs outs costs are) (omega (arith, c.saturating_sub.ensures))
@@ -101,12 +117,13 @@ loop-start-preserved c =
       solved = λ outs are.
           none_more text (outcomes_at a outs) c.args.from k
           (none_before text (outcomes_at a outs) c.args.from c.loop-start.start (so_far.solved outs are) k
-          (λ p low le lt. c.next_start.ensures.skipped (run_tables a) c.input_of-input.ensures outs are p low le (subst (λ r. MatchOption r Unit (λ q. p < q)) (sym c.in-Some.is) lt)))
+          (λ p low le lt. c.next_start.ensures.skipped (run_tables a) c.input-input.ensures.input outs are p low le (subst (λ r. MatchOption r Unit (λ q. p < q)) (sym c.in-Some.is) lt)))
           (λ on. absurd (not_true c.is_char_boundary.result c.if-is_char_boundary.false (c.is_char_boundary.ensures.test.1 on)));
       costs = λ outs costs are.
           let so = so_far.costs outs costs are in
           let on = tried_on (cost_at a costs) c.args.from c.loop-start.counted k so_far.from (omega (arith, so_far.on, within.0)) in
           omega (arith, so, on, c.saturating_sub.ensures);
+      within = so_far.within;
       enough = λ outs costs are.
           searched (cost_at a costs) c.args.from c.loop-start.counted k (length text) c.args.remaining.now c.loop-start.remaining c.saturating_sub.result
           c.saturating_sub.result so_far.from (omega (arith, so_far.on, within.0)) within.1 (so_far.costs outs costs are) (omega (arith, c.saturating_sub.ensures)) (omega arith);
@@ -144,3 +161,22 @@ returns-in-OutOfSteps-clause-costs c = λ outs costs are.
     searched (cost_at a costs) c.args.from c.loop-start.counted k (length (run_text a)) c.args.remaining.now c.loop-start.remaining c.saturating_sub.result
     c.match_in.new.remaining so_far.from (omega (arith, so_far.on, within.0)) within.1 (so_far.costs outs costs are) (omega (arith, c.saturating_sub.ensures))
     (c.in_ok-found.ensures.costs outs costs are)
+
+-- ---- the memory
+
+pub returns-in_err-unset_all-clause-within : goal.returns-in_err-unset_all-clause-within
+returns-in_err-unset_all-clause-within c = c.unset_all.ensures.within (run_room c.args.self.now)
+
+pub returns-in_err-found-clause-too_much : goal.returns-in_err-found-clause-too_much
+returns-in_err-found-clause-too_much c =
+    let a = c.args.self.now in
+    let k = c.in-Some.position in
+    let within = subst (λ r. IfSome r (λ (p : ℕ). (c.loop-start.start ≤ p) × (p ≤ length (run_text a)))) c.in-Some.is c.next_start.ensures.within in
+    let so_far = c.loop-start.invariant in
+    let the_fault : IfErr c.from_residual-in_err-found.result (λ fault. fault ≡ c.in_err-found.field-0.0) = search rules in
+    err_map c.from_residual-in_err-found.result _ _
+    (λ fault is. λ much outs costs are.
+    let le = c.in_err-found.ensures.too_much (sym is ∙ much) outs costs are in
+    let part = one_tried (cost_at a costs) c.args.from k (length (run_text a)) (omega (arith, so_far.from, so_far.on, within.0)) within.1 in
+    omega (arith, le, part))
+    the_fault

@@ -5,7 +5,8 @@ use Rattle.regress_found.specs.Found.{NoneBefore}
 use Rattle.regress_program.specs.Cost.{Cost}
 use Rattle.regress_program.specs.Program.{Out}
 use Rattle.regress_code.specs.Code.{code_groups}
-use Rattle.regress_backtrack.specs.Backtracker.{AreCosts, AreOutcomes, cost_at, outcomes_at, run_code, run_text, runs_cost_at}
+use Rattle.regress_backtrack.specs.Backtracker.{AreCosts, AreOutcomes, cost_at, outcomes_at, run_code, run_room, run_text, runs_cost_at}
+use Rattle.regress_backtrack.specs.Memory.{IsWithin}
 use Rattle.regress_backtrack.proofs.CostLemmas.{tried}
 use Rattle.regress_backtrack.proofs.backtracker.Backtracker.run_from.Given as goal
 
@@ -19,6 +20,7 @@ invariant-loop-start l = record {
   solved : (outs : ℕ → Out) → AreOutcomes l.self outs → NoneBefore (run_text l.self) (outcomes_at l.self outs) l.fn.from l.start;
   costs : (outs : ℕ → Out) (costs : ℕ → Cost) → AreCosts l.self outs costs →
       l.fn.remaining ≤ l.remaining + tried (cost_at l.self costs) l.fn.from (l.counted - l.fn.from);
+  within : IsWithin (run_room l.self) l.fn.cache → IsWithin (run_room l.self) l.cache;
   enough : (outs : ℕ → Out) (costs : ℕ → Cost) → AreCosts l.self outs costs → l.fn.remaining ≤ l.remaining + runs_cost_at l.self costs l.fn.from;
 }
 

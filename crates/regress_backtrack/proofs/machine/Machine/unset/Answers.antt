@@ -1,4 +1,7 @@
-use Rattle.std.proofs.Common.{rules, arith, ℕ, List, Option, ◌≡◌, ◌+◌, length, min, None, get_or, set, refl, sym, ap, ◌∙◌}
+use Rattle.std.proofs.Common.{rules, arith, ℕ, List, Option, ◌≡◌, ◌+◌, ◌≤◌, IfErr, length, min, None, get_or, set, refl, sym, ap, ◌∙◌}
+use Rattle.regress_found.specs.declared.fault.MemoryFault.TheVariants.{TooMuchMemory}
+use Rattle.regress_backtrack.specs.Memory.{entry_count}
+use Rattle.regress_backtrack.proofs.StepLemmas.{err_map}
 use Rattle.std.proofs.lemmas.List.{length-set, set-get_or}
 use Rattle.regress_tree.specs.Repetition.{unset_from}
 use Rattle.regress_tree.specs.Steps.{CaptureSpan}
@@ -13,6 +16,8 @@ loop-group-init c = record {
   begins = refl;
   count = refl;
   kept = Kept-refl c.args.self.now c.args.self.now refl refl;
+  grows = omega arith;
+  within = λ are. are;
 }
 
 pub index-requires : goal.index-requires
@@ -36,6 +41,8 @@ loop-group-preserved c =
         begins = ap (λ v. v.stack.begins.items) w.self-is ∙ w.set.ensures.begins ∙ so_far.begins;
         count = ap (λ v. length v.captures.items) w.self-is ∙ ap length w.in_ok-set.ensures.captures ∙ length-set _ group None ∙ so_far.count;
         kept = rw w.self-is (Kept-trans c.args.self.now c.loop-group.self w.set.new.self so_far.kept w.in_ok-set.ensures.kept);
+        grows = omega (arith, ap entry_count w.self-is, w.in_ok-set.ensures.grows, so_far.grows, now, then', c.loop-group.auto.group);
+        within = λ are. rw w.self-is (w.set.ensures.within (so_far.within are));
       }
       | else-is_some w ↦ record {
         captures = ap (λ v. v.captures.items) w.self-is
@@ -44,6 +51,8 @@ loop-group-preserved c =
         begins = ap (λ v. v.stack.begins.items) w.self-is ∙ so_far.begins;
         count = ap (λ v. length v.captures.items) w.self-is ∙ so_far.count;
         kept = rw w.self-is so_far.kept;
+        grows = omega (arith, ap entry_count w.self-is, so_far.grows, now, then');
+        within = λ are. rw w.self-is (so_far.within are);
       }
     ]
   where
@@ -57,3 +66,19 @@ returns-clause-captures c =
     let after = c.min-after.result in
     let now : min c.loop-group.group after ≡ after = omega arith in
     c.loop-group.invariant.captures ∙ ap (λ k. unset_from 0 start k captures) now ∙ unset-clipped start c.args.end after captures (search rules)
+
+pub returns-in_err-set-clause-within : goal.returns-in_err-set-clause-within
+returns-in_err-set-clause-within c = λ are. c.set.ensures.within (c.loop-group.invariant.within are)
+
+pub returns-in_err-set-clause-too_much : goal.returns-in_err-set-clause-too_much
+returns-in_err-set-clause-too_much c =
+    let so_far = c.loop-group.invariant in
+    let full : IfErr c.from_residual.result (λ fault. fault ≡ TooMuchMemory → c.args.room ≤ entry_count c.loop-group.self) = search rules in
+    err_map c.from_residual.result _ _ (λ fault is. λ much. let le = is much in
+    omega (arith, le, so_far.grows, c.loop-group-test.true, c.min-after.ensures, c.len.ensures)) full
+
+pub returns-clause-grows : goal.returns-clause-grows
+returns-clause-grows c = omega (arith, c.loop-group.invariant.grows, c.min-after.ensures, c.len.ensures)
+
+pub returns-clause-within : goal.returns-clause-within
+returns-clause-within c = c.loop-group.invariant.within

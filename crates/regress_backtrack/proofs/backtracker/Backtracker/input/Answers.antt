@@ -1,15 +1,15 @@
 use Rattle.std.proofs.Common.{arith}
 use Rattle.std.proofs.lemmas.List.{length-map}
 use Rattle.regress_program.specs.Views.{routine_in}
-use Rattle.regress_backtrack.proofs.backtracker.input_of.Goals as goal
+use Rattle.regress_backtrack.proofs.backtracker.Backtracker.input.Goals as goal
 
 pub input_for-requires : goal.input_for-requires
-input_for-requires c = omega (arith, length-map c.args.code.now.program.routines.items (routine_in c.args.code.now.program.leaves.items), c.args.code.now.program.some)
+input_for-requires c = omega (arith, length-map c.args.self.now.code.now.program.routines.items (routine_in c.args.self.now.code.now.program.leaves.items), c.args.self.now.code.now.program.some)
 
-pub returns : goal.returns
-returns c =
+pub returns-clause-input : goal.returns-clause-input
+returns-clause-input c =
     let made = c.input_for.ensures in
-    let code = c.args.code.now in
+    let code = c.args.self.now.code.now in
     record {
       is = made.input;
       same_text = made.text;
