@@ -1,14 +1,14 @@
-use Rattle.std.proofs.Common.{rules, ◌≡◌, ℕ, ◌+◌, ◌*◌, ◌≤◌, IfErr, ◌++◌, ◌∷◌, [], All, IfSome, MatchOption, true, flat_map, length, reverse, refl, sym, ap, ◌∙◌, subst, arith}
+use Rattle.std.proofs.Common.{rules, ◌≡◌, ◌+◌, ◌≤◌, IfErr, ◌++◌, ◌∷◌, [], All, IfSome, MatchOption, true, flat_map, length, reverse, refl, sym, ap, ◌∙◌, subst, arith}
 use Rattle.std.proofs.lemmas.List.{length-take}
 use Rattle.std.proofs.lemmas.List.Elements.{All-head, All-tail}
 use Rattle.regress_leaves.specs.Subject.{subject}
 use Rattle.regress_found.specs.Found.{state}
 use Rattle.regress_found.specs.declared.fault.MemoryFault.TheVariants.{TooMuchMemory}
-use Rattle.regress_program.specs.Cost.{Cost, cost_of}
-use Rattle.regress_program.specs.Program.{Out, matcher_of, outcomes_by}
+use Rattle.regress_program.specs.Cost.{Cost}
+use Rattle.regress_program.specs.Program.{matcher_of, outcomes_by}
 use Rattle.regress_program.specs.Shape.{IsProgram}
 use Rattle.regress_code.specs.Code.{code_routines}
-use Rattle.regress_backtrack.specs.Costs.{HasCost, cost_ahead, op_cost, points_cost}
+use Rattle.regress_backtrack.specs.Costs.{cost_ahead, op_cost, points_cost}
 use Rattle.regress_program.specs.Views.{op_in}
 use Rattle.regress_backtrack.specs.Machine.{Groups, at, changes_of, groups_of, points, rewound}
 use Rattle.regress_backtrack.specs.declared.run.Response.TheVariants as responses

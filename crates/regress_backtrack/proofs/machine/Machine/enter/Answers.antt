@@ -1,4 +1,4 @@
-use Rattle.std.proofs.Common.{All, ◌≡◌, IfSome, sym, subst, ap, ◌∙◌}
+use Rattle.std.proofs.Common.{IfSome, sym, subst}
 use Rattle.std.proofs.lemmas.List.Elements.{All-pop}
 use Rattle.regress_backtrack.specs.Memory.{IsStackWithin}
 use Rattle.regress_backtrack.proofs.machine.Machine.enter.Goals as goal
