@@ -1,22 +1,27 @@
 -- Next bytes: where instructions have no outcome.
-use Rattle.std.proofs.Common.{◌≡◌, ℕ, zero, suc, ◌+◌, ◌-◌, ◌≤◌, ◌<◌, ◌==◌, ◌||◌, Bool, true, false, List, [], ◌∷◌, flat_map, length, get_or, Some, option_map, slice_get, if◌then◌else◌, refl, sym, ap, ◌∙◌, subst, append-nil, arith}
+use Rattle.std.proofs.Common.{◌≡◌, ◌⊎◌, ⊎_elim, ℕ, zero, suc, ◌+◌, ◌-◌, ◌≤◌, ◌<◌, ◌==◌, ◌&&◌, ◌||◌, Bool, true, false, List, [], ◌∷◌, ◌++◌, flat_map, length, get_or, Option, Some, None, option_map, slice_get, encode_utf8, if◌then◌else◌, refl, sym, ap, ap₂, ◌∙◌, subst, append-nil, arith}
 use Rattle.std.proofs.lemmas.Option.{slice_get-map, slice_get_within}
+use lib.Utf8.{encode}
 use Rattle.regress_base.specs.ByteBitmap.{contains}
+use Rattle.regress_base.specs.ByteSets.{SameMembers, bytes_of}
+use Rattle.regress_base.specs.Intervals.{is_member, is_within}
 use Rattle.regress_base.specs.declared.bytesearch.bitmap.ByteBitmap.{ByteBitmap}
 use Rattle.regress_base.specs.declared.types.AnchorType.{AnchorType}
 use Rattle.regress_base.specs.declared.types.AnchorType.TheVariants.{StartOfLine, EndOfLine}
-use Rattle.regress_tree.specs.Assertions.{at_anchor}
+use Rattle.regress_tree.specs.Assertions.{at_anchor, is_line_terminator, passes}
 use Rattle.regress_tree.specs.Lookaround.{looked, lookaround_matcher}
 use Rattle.regress_tree.specs.Matching.{steps}
-use Rattle.regress_tree.specs.Reading.{Direction, forwards, backwards, of_bytes, read_before}
+use Rattle.regress_tree.specs.Reading.{Direction, Read, character_at, forwards, backwards, of_bytes, read_after, read_before}
 use Rattle.regress_tree.specs.Repetition.{iterations}
 use Rattle.regress_tree.specs.Steps.{MatchState, Matcher, hold_at, ◌then_◌, Setting}
 use Rattle.regress_tree.specs.Tree.{Tree, leaf, anchor}
+use Rattle.regress_tree.proofs.lemmas.Characters.{character_at_parts}
 use Rattle.regress_tree.proofs.lemmas.Outcomes.{flat_map-then}
 use Rattle.regress_prefilter.specs.FirstSets.{BeginsWithByteOf}
 use Rattle.regress_prefilter.specs.OneCharacter.{takes_one, test_of}
+use Rattle.regress_prefilter.proofs.lemmas.OneCharacter.{after_parts}
 use Rattle.regress_leaves.specs.Leaves.{exactly}
-use Rattle.regress_leaves.proofs.ReadingLemmas.{ascii_after, ascii_before}
+use Rattle.regress_leaves.proofs.ReadingLemmas.{ascii_after, ascii_before, first_of_drop}
 use Rattle.regress_leaves.proofs.lemmas.Leaves.{exactly-steps}
 use Rattle.regress_program.specs.Program.{At, Out, Solves, ended, outcomes_at, outcomes_by, reach}
 use Rattle.regress_program.specs.declared.instruction.Instruction.{Instruction}
@@ -24,7 +29,7 @@ use Rattle.regress_leaves.specs.declared.test.Test.{Test}
 use Rattle.regress_program.specs.Views.{op_in, ops_in}
 use Rattle.regress_code.specs.declared.next_bytes.NextBytes.{NextBytes}
 use Rattle.regress_code.specs.declared.next_bytes.NextBytes.TheVariants as kinds
-use Rattle.regress_code.specs.NextBytes.{Bounds, AreNextBytesAt, IsOutside}
+use Rattle.regress_code.specs.NextBytes.{AreNextBytesAt, Bounds, IsOutside, next_to}
 use Rattle.regress_leaves.specs.Starts.{IsNextOutside}
 use Rattle.regress_leaves.proofs.lemmas.Starts.{ascii_fails, bytes_fail, no_member}
 
@@ -37,6 +42,32 @@ pub cond_bounds : (next_byte : NextBytes) (d : Direction) (text : List ℕ) (k :
     Bounds next_byte d text k (if b then states else [])
 cond_bounds next_byte d text k true states is = is
 cond_bounds next_byte d text k false states is = none_bounds next_byte d text k
+
+-- a position outside the common bytes is outside one of the sets
+pub common_outside : (one two both : ByteBitmap) → ((b : ℕ) → b < 256 → contains both b ≡ (contains one b && contains two b)) → (d : Direction) (text : List ℕ)
+    (k : ℕ) (states : List MatchState) → Bounds (kinds.Bytes one) d text k states → Bounds (kinds.Bytes two) d text k states →
+    Bounds (kinds.Bytes both) d text k states
+common_outside one two both common d text k states first second out = by (contains one b) refl
+  where
+    b : ℕ
+    b = get_or text (next_to d k) 0
+
+    by : (is_in : Bool) → contains one b ≡ is_in → states ≡ []
+    by false is = first (record { after = out.after; before = out.before; byte = out.byte; out = is })
+    by true is =
+        second
+        (record {
+          after = out.after;
+          before = out.before;
+          byte = out.byte;
+          out = ap (λ x. x && contains two b) (sym is) ∙ sym (common b out.byte) ∙ out.out;
+        })
+
+-- what bounds some outcomes bounds what follows them
+pub mapped_bounds : (next_byte : NextBytes) (d : Direction) (text : List ℕ) (k : ℕ) (states : List MatchState) (g : Matcher) → Bounds next_byte d text k states →
+    Bounds next_byte d text k (flat_map g states)
+mapped_bounds kinds.Any d text k states g is = tt
+mapped_bounds (kinds.Bytes set) d text k states g is = λ out. ap (flat_map g) (is out)
 
 -- the outcomes inside the text alone matter
 pub inside_bounds : (next_byte : NextBytes) (d : Direction) (text : List ℕ) (k : ℕ) (states : List MatchState) → (k ≤ length text → Bounds next_byte d text k states) →
@@ -109,6 +140,46 @@ anchor_outside StartOfLine setting d set text s out =
     held_not (at_anchor (of_bytes text) StartOfLine false) s (ap (λ b. b || false) (is_inside s.position (length text) out.after out.before).0)
 anchor_outside EndOfLine setting d set text s out =
     held_not (at_anchor (of_bytes text) EndOfLine false) s (ap (λ b. b || false) (is_inside s.position (length text) out.after out.before).1)
+
+-- the bytes with which line terminators begin
+abbrev pub terminator_bytes : List ℕ
+terminator_bytes = 0xA ∷ 0xD ∷ 0xE2 ∷ []
+
+terminator_cases : (c : ℕ) → is_line_terminator c ≡ true → (c ≡ 0xA) ⊎ ((c ≡ 0xD) ⊎ ((c ≡ 0x2028) ⊎ (c ≡ 0x2029)))
+unfolding is_member is_within
+terminator_cases c is = grind arith
+
+terminator_first : (c : ℕ) (rest : List ℕ) → is_line_terminator c ≡ true → bytes_of terminator_bytes (get_or (encode_utf8 c ++ rest) 0 0) ≡ true
+unfolding bytes_of encode
+terminator_first c rest is =
+    let begins : ℕ → Type 0 = λ x. bytes_of terminator_bytes (get_or (encode_utf8 x ++ rest) 0 0) ≡ true in
+    ⊎_elim (λ (e : c ≡ 0xA). subst begins (sym e) refl)
+    (λ (more : (c ≡ 0xD) ⊎ ((c ≡ 0x2028) ⊎ (c ≡ 0x2029))). ⊎_elim (λ (e : c ≡ 0xD). subst begins (sym e) refl)
+    (λ (last : (c ≡ 0x2028) ⊎ (c ≡ 0x2029)). ⊎_elim (λ (e : c ≡ 0x2028). subst begins (sym e) refl) (λ (e : c ≡ 0x2029). subst begins (sym e) refl) last) more)
+    (terminator_cases c is)
+
+-- No line terminator is at a byte with which none begins.
+no_terminator : (set : ByteBitmap) → SameMembers (contains set) (bytes_of terminator_bytes) → (text : List ℕ) (k : ℕ) →
+    contains set (get_or text k 0) ≡ false → passes is_line_terminator (read_after text k) ≡ false
+no_terminator set ends text k out = by (read_after text k) refl
+  where
+    not_one : (c : ℕ) → character_at text k ≡ Some c → (is : Bool) → is_line_terminator c ≡ is → is ≡ false
+    not_one c here false is = refl
+    not_one c here true is =
+        let parts = character_at_parts text k c here in
+        let first : get_or text k 0 ≡ get_or (encode_utf8 c ++ parts.1.0) 0 0 = sym (first_of_drop text k) ∙ ap (λ bs. get_or bs 0 0) parts.1.1 in
+        sym (terminator_first c parts.1.0 is) ∙ ap (bytes_of terminator_bytes) (sym first) ∙ sym (ends (get_or text k 0)) ∙ out
+
+    by : (o : Option Read) → read_after text k ≡ o → passes is_line_terminator o ≡ false
+    by None is = refl
+    by (Some read) is = not_one read.character (after_parts text k read is).0 (is_line_terminator read.character) refl
+
+-- a multiline `$` holds only before a line terminator, or at the end of the text
+pub line_end_outside : (set : ByteBitmap) → SameMembers (contains set) (bytes_of terminator_bytes) → (setting : Setting) (d : Direction) (text : List ℕ)
+    (s : MatchState) → IsOutside forwards set text s.position → steps setting text d (leaf (anchor EndOfLine true)) s ≡ []
+line_end_outside set ends setting d text s out =
+    held_not (at_anchor (of_bytes text) EndOfLine true) s
+    (ap₂ ◌||◌ (is_inside s.position (length text) out.after out.before).1 (no_terminator set ends text s.position out.out))
 
 -- a leaf that matches one character
 pub ascii_outside : (set all : ByteBitmap) (t : Tree) → takes_one t ≡ true → ((b : ℕ) → b < 128 → contains set b ≡ test_of t b) →

@@ -1,15 +1,16 @@
 //! The bytes next to a position at which instructions have outcomes.
-ghost use Rattle.std.specs.Prelude.{◌≡◌, ◌<◌, ◌≤◌, ◌++◌, ℕ, [], Bool, IfOk, List, false, flat_map, length, true};
+ghost use Rattle.std.specs.Prelude.{◌≡◌, ◌<◌, ◌≤◌, ◌++◌, ◌&&◌, ℕ, [], Bool, IfOk, List, false, flat_map, length, true};
 ghost use Rattle.regress_base.specs.ByteBitmap.{contains};
 ghost use Rattle.regress_tree.specs.Matching.{steps};
 ghost use Rattle.regress_tree.specs.Reading.{Direction, direction_if, forwards};
 ghost use Rattle.regress_tree.specs.Steps.{MatchState, Matcher, Setting};
-ghost use Rattle.regress_tree.specs.Tree.{tree};
+ghost use Rattle.regress_tree.specs.Tree.{anchor, leaf, tree};
 ghost use Rattle.regress_program.specs.Program.{At, Out, outcomes_by};
 ghost use Rattle.regress_code.specs.NextBytes.{AreNextBytes, AreNextBytesOf, Bounds, FoldsIf, AreNextBytesAt};
 ghost use Rattle.regress_program.specs.Views.{op_in, ops_in};
 
 use regress_base::bytesearch::ByteBitmap;
+use regress_base::types::AnchorType;
 use regress_leaves::start::{Start, with_others};
 use regress_leaves::test::Test;
 use regress_program::instruction::Instruction;
@@ -125,20 +126,23 @@ fn leaf_next_bytes(test: &Test, after: NextBytes, backwards: bool, folds: bool) 
                 NextBytes::Any
             }
         }
-        Start::Any => assertion_next_bytes(&test.node, after),
+        Start::Any => assertion_next_bytes(&test.node, after, backwards),
     }
 }
 
 /// Returns the next bytes of a leaf that may match the empty text, by those of the instruction after it.
-fn assertion_next_bytes(node: &Node, after: NextBytes) -> NextBytes
-    ensures { (setting : Setting) (d : Direction) (text : List ℕ) (s : MatchState) (g : Matcher) →
-        ((t : MatchState) → t.position ≡ s.position → Bounds after d text s.position (g t)) →
-        Bounds result d text s.position (flat_map g (steps setting text d (tree node.now) s)) }
+fn assertion_next_bytes(node: &Node, after: NextBytes, backwards: bool) -> NextBytes
+    ensures { (setting : Setting) (text : List ℕ) (s : MatchState) (g : Matcher) →
+        ((t : MatchState) → t.position ≡ s.position → Bounds after (direction_if backwards) text s.position (g t)) →
+        Bounds result (direction_if backwards) text s.position (flat_map g (steps setting text (direction_if backwards) (tree node.now) s)) }
 {
     match node {
-        Node::Anchor { multiline, .. } => {
+        Node::Anchor {
+            anchor_type,
+            multiline,
+        } => {
             if *multiline {
-                after
+                line_next_bytes(*anchor_type, backwards).and(after)
             } else {
                 NextBytes::Bytes(ByteBitmap::default())
             }
@@ -147,6 +151,37 @@ fn assertion_next_bytes(node: &Node, after: NextBytes) -> NextBytes
         Node::Empty | Node::Goal => after,
         _ => NextBytes::Any,
     }
+}
+
+/// Returns the next bytes of a multiline anchor. At the end of a line the next byte forwards is the first one of a line
+/// terminator.
+fn line_next_bytes(anchor_type: AnchorType, backwards: bool) -> NextBytes
+    ensures { (setting : Setting) (text : List ℕ) (s : MatchState) →
+        Bounds result (direction_if backwards) text s.position (steps setting text (direction_if backwards) (leaf (anchor anchor_type true)) s) }
+{
+    match anchor_type {
+        AnchorType::EndOfLine => {
+            if backwards {
+                NextBytes::Any
+            } else {
+                NextBytes::Bytes(ByteBitmap::new(&[b'\n', b'\r', 0xE2]))
+            }
+        }
+        AnchorType::StartOfLine => NextBytes::Any,
+    }
+}
+
+/// Returns the bytes that are in both sets.
+fn common(one: ByteBitmap, two: ByteBitmap) -> ByteBitmap
+    ensures { (b : ℕ) → b < 256 → contains result b ≡ (contains one b && contains two b) }
+{
+    let mut outside = one;
+    outside.bitnot();
+    let mut other = two;
+    other.bitnot();
+    outside.bitor(&other);
+    outside.bitnot();
+    outside
 }
 
 impl NextBytes {
@@ -164,6 +199,18 @@ impl NextBytes {
                 NextBytes::Bytes(either)
             }
             _ => NextBytes::Any,
+        }
+    }
+
+    /// Returns what is known where both are known of the same outcomes.
+    pub fn and(self, other: NextBytes) -> NextBytes
+        ensures { (d : Direction) (text : List ℕ) (position : ℕ) (states : List MatchState) →
+            Bounds self d text position states → Bounds other d text position states → Bounds result d text position states }
+    {
+        match (self, other) {
+            (NextBytes::Bytes(one), NextBytes::Bytes(two)) => NextBytes::Bytes(common(one, two)),
+            (NextBytes::Any, _) => other,
+            _ => self,
         }
     }
 
