@@ -110,6 +110,7 @@ entry_is code tables text input for outs k =
     ap (λ o. outs i (start setting text o s)) here
     ∙ ap₂ (λ j pc. outs j (record { pc = pc; moved = true; state = s; begins = [] })) (sym for.index) (sym for.is.first)
 
+-- a solution of the program is one for its input
 pub solves_for : (code : Code) (tables : Tables) (text : List ℕ) (input : Input) → IsFor code tables text input → (outs : ℕ → Out) →
     IsSolution (setting_with code tables) text (code_routines code) outs → Solve input outs
 solves_for code tables text input for outs solution =

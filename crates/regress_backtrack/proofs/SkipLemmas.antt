@@ -5,10 +5,9 @@ use Rattle.regress_base.specs.ByteBitmap.{contains}
 use Rattle.regress_base.specs.declared.bytesearch.bitmap.ByteBitmap.{ByteBitmap}
 use Rattle.regress_leaves.specs.Subject.{subject}
 use Rattle.regress_program.specs.Cost.{Cost}
-use Rattle.regress_program.specs.Program.{Out, goto, matcher_of}
+use Rattle.regress_program.specs.Program.{Out, goto}
 use Rattle.regress_tree.specs.Reading.{direction_if}
 use Rattle.regress_tree.specs.Steps.{MatchState}
-use Rattle.regress_code.specs.Code.{code_routines}
 use Rattle.regress_backtrack.specs.Costs.{HasCost}
 use Rattle.regress_code.specs.declared.next_bytes.NextBytes.{NextBytes}
 use Rattle.regress_code.specs.declared.next_bytes.NextBytes.TheVariants as kinds
@@ -110,8 +109,7 @@ module _ (input : Input) (is : IsInput input) (p : Place) (b : ℕ)
       let u = subject input.rules input.text.now in
       let here : Place = record p { pc = pc } in
       let i = insts.Split skipped.first (pc - 1) in
-      let fails = is.next_bytes input.text.now (matcher_of u.setting input.text.now (code_routines input.code.now) outs) (outs input.index)
-      (solve input.index is.routine is.is) skipped.first (kinds.Bytes skipped.set) skipped.next_byte (goto skipped.first (at here g)) refl
+      let fails = is.next_bytes outs solve skipped.first (kinds.Bytes skipped.set) skipped.next_byte (goto skipped.first (at here g)) refl
       (outside skipped.set skipped.out) in
       let before : p.position < length input.text.now = beside.before in
       sym

@@ -7,7 +7,7 @@ use Rattle.regress_program.specs.Program.{At, IsSolution, Op, look, Out, Routine
 use Rattle.regress_program.specs.Shape.{Fits}
 use Rattle.regress_leaves.specs.Subject.{subject}
 use Rattle.regress_code.specs.Code.{code_routines}
-use Rattle.regress_code.specs.NextBytes.{AreNextBytesIn}
+use Rattle.regress_code.specs.NextBytes.{AreNextBytes}
 use Rattle.regress_code.specs.Skips.{AreSkips}
 use Rattle.regress_program.specs.Views.{ops_in}
 use Rattle.regress_backtrack.specs.declared.input.Input.{Input}
@@ -46,7 +46,7 @@ pub record IsInput (input : Input) : Type 0 where
   pub ops : ops_in input.code.now.program.leaves.items input.instructions.now ≡ routine.ops
   pub direction : direction_if input.rules.backwards ≡ routine.direction
   pub first : input.first ≡ routine.entry
-  pub next_bytes : AreNextBytesIn (subject input.rules input.text.now).setting input.next_bytes.now routine.direction routine.ops
+  pub next_bytes : (outs : ℕ → Out) → Solve input outs → AreNextBytes input.next_bytes.now routine.direction input.text.now (outs input.index)
   pub skips : AreSkips input.skips.now input.next_bytes.now input.instructions.now
 
 -- A run is at this instruction.

@@ -23,13 +23,14 @@ use Rattle.regress_prefilter.proofs.lemmas.OneCharacter.{after_parts}
 use Rattle.regress_leaves.specs.Leaves.{exactly}
 use Rattle.regress_leaves.proofs.ReadingLemmas.{ascii_after, ascii_before, first_of_drop}
 use Rattle.regress_leaves.proofs.lemmas.Leaves.{exactly-steps}
-use Rattle.regress_program.specs.Program.{At, Out, Solves, ended, outcomes_at, outcomes_by, reach}
+use Rattle.regress_program.specs.Program.{At, IsSolution, Out, Routine, Solves, ended, matcher_of, outcomes_at, outcomes_by, reach, start}
 use Rattle.regress_program.specs.declared.instruction.Instruction.{Instruction}
 use Rattle.regress_leaves.specs.declared.test.Test.{Test}
 use Rattle.regress_program.specs.Views.{op_in, ops_in}
+use Rattle.regress_code.specs.declared.next_bytes.Body.{Body}
 use Rattle.regress_code.specs.declared.next_bytes.NextBytes.{NextBytes}
 use Rattle.regress_code.specs.declared.next_bytes.NextBytes.TheVariants as kinds
-use Rattle.regress_code.specs.NextBytes.{AreNextBytesAt, Bounds, IsOutside, next_to}
+use Rattle.regress_code.specs.NextBytes.{AreBodies, AreNextBytes, AreNextBytesAt, AreNextBytesOf, Bounds, FoldsIf, IsOutside, next_to}
 use Rattle.regress_leaves.specs.Starts.{IsNextOutside}
 use Rattle.regress_leaves.proofs.lemmas.Starts.{ascii_fails, bytes_fail, no_member}
 
@@ -68,6 +69,13 @@ pub mapped_bounds : (next_byte : NextBytes) (d : Direction) (text : List ℕ) (k
     Bounds next_byte d text k (flat_map g states)
 mapped_bounds kinds.Any d text k states g is = tt
 mapped_bounds (kinds.Bytes set) d text k states g is = λ out. ap (flat_map g) (is out)
+
+-- a lookaround that is not negated fails where its body does
+pub body_bounds : (next_byte : NextBytes) (d : Direction) (text : List ℕ) (s : MatchState) (f g : Matcher) → Bounds next_byte d text s.position (f s) →
+    Bounds next_byte d text s.position (flat_map g (lookaround_matcher false f s))
+unfolding lookaround_matcher
+body_bounds kinds.Any d text s f g is = tt
+body_bounds (kinds.Bytes set) d text s f g is = λ out. ap (λ states. flat_map g (looked false s states)) (is out)
 
 -- the outcomes inside the text alone matter
 pub inside_bounds : (next_byte : NextBytes) (d : Direction) (text : List ℕ) (k : ℕ) (states : List MatchState) → (k ≤ length text → Bounds next_byte d text k states) →
@@ -218,3 +226,25 @@ module _ (next_byte : NextBytes) (setting : Setting) (d : Direction) (text : Lis
       subst (Bounds next_byte d text s.position)
       (flat_map-then (iterations n f) g (f s) ∙ ap (flat_map g) (sym (exactly-steps setting text d (suc n) t s)))
       (first (iterations n f then_ g))
+
+-- ---- the bodies of lookarounds
+
+-- They bound the outcomes of the first routines of a program.
+abbrev pub HaveBodies : (folds : Bool) → List Routine → List Body → Type 0
+HaveBodies folds program bodies = (setting : Setting) → FoldsIf folds setting → (text : List ℕ) (outs : ℕ → Out) →
+    IsSolution setting text program outs → AreBodies bodies text (matcher_of setting text program outs)
+
+module _ (folds : Bool) (program : List Routine) (bodies : List Body) (so_far : HaveBodies folds program bodies) (i : ℕ) (r : Routine)
+    (here : slice_get program i ≡ Some r) (next_bytes : List NextBytes) (are : AreNextBytesOf folds bodies next_bytes r.direction r.ops) (setting : Setting)
+    (has : FoldsIf folds setting) (text : List ℕ) (outs : ℕ → Out) (solution : IsSolution setting text program outs) where
+  -- the next bytes of the next routine
+  pub routine_bounds : AreNextBytes next_bytes r.direction text (outs i)
+  routine_bounds =
+      are setting has text (matcher_of setting text program outs) (outs i) (so_far setting has text outs solution) (solution i r here)
+
+  -- its first ones bound its matches
+  pub entry_bounds : (next_byte : NextBytes) → ((d : Direction) (out : Out) → AreNextBytes next_bytes d text out → AreNextBytesAt next_byte d text out r.entry) →
+      (s : MatchState) → Bounds next_byte r.direction text s.position (matcher_of setting text program outs i s)
+  entry_bounds next_byte at s =
+      subst (λ o. Bounds next_byte r.direction text s.position (outs i (start setting text o s))) (sym here)
+      (at r.direction (outs i) routine_bounds (start setting text (Some r) s) refl)

@@ -7,13 +7,11 @@ use Rattle.regress_base.specs.declared.bytesearch.bitmap.ByteBitmap.{ByteBitmap}
 use Rattle.regress_tree.specs.Reading.{Direction, direction_if, forwards, backwards}
 use Rattle.regress_tree.specs.Steps.{MatchState, Matcher, Setting}
 use Rattle.regress_leaves.specs.Known.{HasAsciiCase}
-use Rattle.regress_program.specs.Program.{At, Op, Out, Solves}
+use Rattle.regress_program.specs.Program.{At, IsSolution, Op, Out, Routine, Solves}
 use Rattle.regress_code.specs.declared.analysis.Analysis.{Analysis}
+use Rattle.regress_code.specs.declared.next_bytes.Body.{Body}
 use Rattle.regress_code.specs.declared.next_bytes.NextBytes.{NextBytes}
 use Rattle.regress_code.specs.declared.next_bytes.NextBytes.TheVariants as kinds
-use Rattle.regress_program.specs.declared.instruction.Routine as declared
-use Rattle.regress_leaves.specs.declared.test.Test.{Test}
-use Rattle.regress_program.specs.Views.{ops_in}
 
 -- the offset of the byte next to a position
 abbrev pub next_to : Direction → (position : ℕ) → ℕ
@@ -40,28 +38,31 @@ AreNextBytesAt next_byte d text out pc = (a : At) → a.pc ≡ pc → Bounds nex
 abbrev pub AreNextBytes : List NextBytes → Direction → (text : List ℕ) → Out → Type 0
 AreNextBytes next_bytes d text out = (pc : ℕ) (next_byte : NextBytes) → slice_get next_bytes pc ≡ Some next_byte → AreNextBytesAt next_byte d text out pc
 
--- They are the next bytes of the instructions of a routine under these flags and case mappings.
-abbrev pub AreNextBytesIn : Setting → List NextBytes → Direction → List Op → Type 0
-AreNextBytesIn setting next_bytes d ops = (text : List ℕ) (body_of : ℕ → Matcher) (out : Out) →
-    Solves setting text d body_of out ops 0 (length ops) → AreNextBytes next_bytes d text out
+-- They bound the outcomes of the bodies of lookarounds, each in its direction.
+abbrev pub AreBodies : List Body → (text : List ℕ) → (body_of : ℕ → Matcher) → Type 0
+AreBodies bodies text body_of = (i : ℕ) (body : Body) → slice_get bodies i ≡ Some body →
+    (s : MatchState) → Bounds body.next_byte (direction_if body.backwards) text s.position (body_of i s)
 
 -- With `folds`, canonical forms of ASCII characters are those of ASCII.
 abbrev pub FoldsIf : (folds : Bool) → Setting → Type 0
 FoldsIf folds setting = folds ≡ true → HasAsciiCase setting
 
--- They are its next bytes in each such setting.
-abbrev pub AreNextBytesOf : (folds : Bool) → List NextBytes → Direction → List Op → Type 0
-AreNextBytesOf folds next_bytes d ops = (setting : Setting) → FoldsIf folds setting → AreNextBytesIn setting next_bytes d ops
+-- They are the next bytes of the instructions of a routine, where these are the bodies of its lookarounds.
+abbrev pub AreNextBytesOf : (folds : Bool) → List Body → List NextBytes → Direction → List Op → Type 0
+AreNextBytesOf folds bodies next_bytes d ops = (setting : Setting) → FoldsIf folds setting →
+    (text : List ℕ) (body_of : ℕ → Matcher) (out : Out) → AreBodies bodies text body_of →
+    Solves setting text d body_of out ops 0 (length ops) → AreNextBytes next_bytes d text out
 
--- Each routine has its next bytes.
-abbrev pub HaveNextBytes : (folds : Bool) → List Test → List declared.Routine → List Analysis → Type 0
-HaveNextBytes folds leaves routines analyses = (i : ℕ) (a : Analysis) → slice_get analyses i ≡ Some a → (r : declared.Routine) → slice_get routines i ≡ Some r →
-    AreNextBytesOf folds a.next_bytes.items (direction_if r.backwards) (ops_in leaves r.instructions.items)
+-- Each routine of a program has its next bytes.
+abbrev pub HaveNextBytes : (folds : Bool) → List Routine → List Analysis → Type 0
+HaveNextBytes folds program analyses = (setting : Setting) → FoldsIf folds setting → (text : List ℕ) (outs : ℕ → Out) →
+    IsSolution setting text program outs → (i : ℕ) (a : Analysis) → slice_get analyses i ≡ Some a → (r : Routine) → slice_get program i ≡ Some r →
+    AreNextBytes a.next_bytes.items r.direction text (outs i)
 
 Bounds-prop : (next_byte : NextBytes) (d : Direction) (text : List ℕ) (position : ℕ) (states : List MatchState) → IsProp (Bounds next_byte d text position states)
 Bounds-prop kinds.Any d text position states = Unit-prop
 Bounds-prop (kinds.Bytes set) d text position states = hlevel props
 
 -- The property has at most one proof.
-pub HaveNextBytes-prop : (folds : Bool) (leaves : List Test) (routines : List declared.Routine) (analyses : List Analysis) → IsProp (HaveNextBytes folds leaves routines analyses)
-HaveNextBytes-prop folds leaves routines analyses = hlevel (props, Bounds-prop)
+pub HaveNextBytes-prop : (folds : Bool) (program : List Routine) (analyses : List Analysis) → IsProp (HaveNextBytes folds program analyses)
+HaveNextBytes-prop folds program analyses = hlevel (props, Bounds-prop)

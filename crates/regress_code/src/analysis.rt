@@ -1,11 +1,13 @@
 //! What is known of what follows the instructions of a routine.
-ghost use Rattle.std.specs.Prelude.{IfOk};
+ghost use Rattle.std.specs.Prelude.{◌≡◌, ℕ, IfOk, List};
+ghost use Rattle.regress_program.specs.Program.{Out};
+ghost use Rattle.regress_program.specs.Search.{routines_of};
 ghost use Rattle.regress_program.specs.Views.{ops_in};
-ghost use Rattle.regress_tree.specs.Reading.{direction_if};
-ghost use Rattle.regress_code.specs.NextBytes.{AreNextBytesOf, HaveNextBytes};
+ghost use Rattle.regress_tree.specs.Reading.{Direction, direction_if};
+ghost use Rattle.regress_code.specs.NextBytes.{AreNextBytes, AreNextBytesAt, AreNextBytesOf, HaveNextBytes};
 ghost use Rattle.regress_code.specs.Skips.{AreSkips, HaveSkips};
 
-use crate::next_bytes::{NextBytes, next_bytes_of};
+use crate::next_bytes::{Body, NextBytes, next_bytes_at, next_bytes_of};
 use crate::skips::{Skip, skips_of};
 use regress_leaves::test::Test;
 use regress_program::Program;
@@ -30,33 +32,49 @@ pub(crate) fn analyze(
     program: &Program,
     folds: bool,
 ) -> Result<Vec<Analysis>, AllocError>
-    ensures next_bytes { IfOk result (λ analyses. HaveNextBytes folds program.now.leaves.items program.now.routines.items analyses.items) }
+    ensures next_bytes { IfOk result (λ analyses. HaveNextBytes folds (routines_of program.now) analyses.items) }
     ensures skips { IfOk result (λ analyses. HaveSkips program.now.routines.items analyses.items) }
 {
     let mut analyses = Vec::with_capacity(alloc, program.routines.len())?;
+    let mut bodies = Vec::with_capacity(alloc, program.routines.len())?;
     for routine in &program.routines {
-        let analysis = analyze_routine(alloc, &program.leaves, routine, folds)?;
+        let analysis = analyze_routine(alloc, &program.leaves, &bodies, routine, folds)?;
+        bodies.push(body_of(routine, &analysis))?;
         analyses.push(analysis)?;
     }
     Ok(analyses)
 }
 
-/// Returns the analysis of a routine.
+/// Returns what is known of a routine as the body of a lookaround.
+fn body_of(routine: &Routine, analysis: &Analysis) -> Body
+    ensures direction { result.backwards ≡ routine.now.backwards }
+    ensures next_byte { (d : Direction) (text : List ℕ) (out : Out) → AreNextBytes analysis.now.next_bytes.items d text out →
+        AreNextBytesAt result.next_byte d text out routine.now.entry }
+{
+    Body {
+        backwards: routine.backwards,
+        next_byte: next_bytes_at(&analysis.next_bytes, routine.entry),
+    }
+}
+
+/// Returns the analysis of a routine, by what is known of the bodies of its lookarounds.
 ///
 /// # Errors
 /// Returns [`AllocError`] if an allocation fails.
 fn analyze_routine(
     alloc: Global,
     leaves: &[Test],
+    bodies: &[Body],
     routine: &Routine,
     folds: bool,
 ) -> Result<Analysis, AllocError>
-    ensures next_bytes { IfOk result (λ a. AreNextBytesOf folds a.next_bytes.items (direction_if routine.now.backwards) (ops_in leaves.now routine.now.instructions.items)) }
+    ensures next_bytes { IfOk result (λ a. AreNextBytesOf folds bodies.now a.next_bytes.items (direction_if routine.now.backwards) (ops_in leaves.now routine.now.instructions.items)) }
     ensures skips { IfOk result (λ a. AreSkips a.skips.items a.next_bytes.items routine.now.instructions.items) }
 {
     let next_bytes = next_bytes_of(
         alloc,
         leaves,
+        bodies,
         &routine.instructions,
         routine.backwards,
         folds,

@@ -30,7 +30,7 @@ pub struct Code {
     /// Whether the next bytes hold only where canonical forms of ASCII characters are those of ASCII.
     pub folds: bool,
     ghost begins: { BeginsAt candidates (routines_of program) } by { BeginsAt-prop candidates (routines_of program) },
-    ghost bounded: { HaveNextBytes folds program.leaves.items program.routines.items analyses.items } by { HaveNextBytes-prop folds program.leaves.items program.routines.items analyses.items },
+    ghost bounded: { HaveNextBytes folds (routines_of program) analyses.items } by { HaveNextBytes-prop folds (routines_of program) analyses.items },
     ghost counted: { HaveSkips program.routines.items analyses.items } by { HaveSkips-prop program.routines.items analyses.items },
 }
 

@@ -6,7 +6,7 @@ ghost use Rattle.regress_tree.specs.Reading.{Direction, direction_if, forwards};
 ghost use Rattle.regress_tree.specs.Steps.{MatchState, Matcher, Setting};
 ghost use Rattle.regress_tree.specs.Tree.{anchor, leaf, tree};
 ghost use Rattle.regress_program.specs.Program.{At, Out, outcomes_by};
-ghost use Rattle.regress_code.specs.NextBytes.{AreNextBytes, AreNextBytesOf, Bounds, FoldsIf, AreNextBytesAt};
+ghost use Rattle.regress_code.specs.NextBytes.{AreBodies, AreNextBytes, AreNextBytesOf, Bounds, FoldsIf, AreNextBytesAt};
 ghost use Rattle.regress_program.specs.Views.{op_in, ops_in};
 
 use regress_base::bytesearch::ByteBitmap;
@@ -27,38 +27,58 @@ pub enum NextBytes {
     Bytes(ByteBitmap),
 }
 
-/// Returns the next bytes of the instructions of a routine. With `folds` they hold where canonical forms of ASCII characters
-/// are those of ASCII.
+/// What is known of the byte next to a position at which the body of a lookaround has an outcome.
+#[derive(Clone, Copy)]
+pub struct Body {
+    /// Whether the body matches backwards.
+    pub backwards: bool,
+    /// The byte after the position, or before it if the body matches backwards.
+    pub next_byte: NextBytes,
+}
+
+/// Returns the next bytes of the instructions of a routine, by those of the bodies of its lookarounds. With `folds` they
+/// hold where canonical forms of ASCII characters are those of ASCII.
 ///
 /// # Errors
 /// Returns [`AllocError`] if an allocation fails.
 pub fn next_bytes_of(
     alloc: Global,
     tests: &[Test],
+    bodies: &[Body],
     instructions: &[Instruction],
     backwards: bool,
     folds: bool,
 ) -> Result<Vec<NextBytes>, AllocError>
-    ensures { IfOk result (λ next_bytes. AreNextBytesOf folds next_bytes.items (direction_if backwards) (ops_in tests.now instructions.now)) }
+    ensures { IfOk result (λ next_bytes. AreNextBytesOf folds bodies.now next_bytes.items (direction_if backwards) (ops_in tests.now instructions.now)) }
 {
     let mut next_bytes = Vec::with_capacity(alloc, instructions.len())?;
     for instruction in instructions {
-        let next_byte = instruction_next_bytes(tests, &next_bytes, *instruction, backwards, folds);
+        let next_byte = instruction_next_bytes(
+            tests,
+            bodies,
+            &next_bytes,
+            *instruction,
+            backwards,
+            folds,
+        );
         next_bytes.push(next_byte)?;
     }
     Ok(next_bytes)
 }
 
-/// Returns the next bytes of an instruction, by those of the instructions before it that are known.
+/// Returns the next bytes of an instruction, by those of the instructions before it that are known, and of the bodies of
+/// lookarounds.
 pub fn instruction_next_bytes(
     tests: &[Test],
+    bodies: &[Body],
     known: &[NextBytes],
     instruction: Instruction,
     backwards: bool,
     folds: bool,
 ) -> NextBytes
     ensures { (setting : Setting) → FoldsIf folds setting →
-        (text : List ℕ) (body_of : ℕ → Matcher) (out : Out) (a : At) → AreNextBytes known.now (direction_if backwards) text out →
+        (text : List ℕ) (body_of : ℕ → Matcher) (out : Out) (a : At) → AreBodies bodies.now text body_of →
+        AreNextBytes known.now (direction_if backwards) text out →
         Bounds result (direction_if backwards) text a.state.position
         (outcomes_by setting text (direction_if backwards) body_of out (op_in tests.now instruction) a) }
 {
@@ -89,12 +109,39 @@ pub fn instruction_next_bytes(
         Instruction::Unset { next, .. } => next_bytes_at(known, next),
         Instruction::BeginGroup { next } => next_bytes_at(known, next),
         Instruction::EndGroup { next, .. } => next_bytes_at(known, next),
-        Instruction::Look { next, .. } => next_bytes_at(known, next),
+        Instruction::Look {
+            negate,
+            routine,
+            next,
+        } => {
+            let after = next_bytes_at(known, next);
+            if negate {
+                after
+            } else {
+                body_next_bytes(bodies, routine, backwards).and(after)
+            }
+        }
+    }
+}
+
+/// Returns the next bytes of the body of a lookaround that is in this direction.
+fn body_next_bytes(bodies: &[Body], routine: usize, backwards: bool) -> NextBytes
+    ensures { (text : List ℕ) (body_of : ℕ → Matcher) → AreBodies bodies.now text body_of → (s : MatchState) →
+        Bounds result (direction_if backwards) text s.position (body_of routine s) }
+{
+    if routine >= bodies.len() {
+        return NextBytes::Any;
+    }
+    let body = bodies[routine];
+    if body.backwards == backwards {
+        body.next_byte
+    } else {
+        NextBytes::Any
     }
 }
 
 /// Returns the next bytes with this index, or [`NextBytes::Any`] if there is none.
-fn next_bytes_at(known: &[NextBytes], pc: usize) -> NextBytes
+pub fn next_bytes_at(known: &[NextBytes], pc: usize) -> NextBytes
     ensures { (d : Direction) (text : List ℕ) (out : Out) → AreNextBytes known.now d text out → AreNextBytesAt result d text out pc }
 {
     if pc < known.len() {

@@ -4,7 +4,7 @@ use Rattle.std.proofs.lemmas.Option.{slice_get-map, slice_get_read}
 use Rattle.regress_tree.specs.Reading.{direction_if}
 use Rattle.regress_tree.specs.Steps.{Setting}
 use Rattle.regress_unicode.specs.TableOf.{table_of}
-use Rattle.regress_code.specs.NextBytes.{AreNextBytesIn}
+use Rattle.regress_code.specs.NextBytes.{AreNextBytes}
 use Rattle.regress_code.specs.Skips.{AreSkips}
 use Rattle.regress_program.specs.Views.{ops_in, routine_in}
 use Rattle.regress_backtrack.proofs.input.input_for.Goals as goal
@@ -23,16 +23,18 @@ returns-in-Some-clause-input c =
     let a = c.in-Some.analysis.now in
     let lt : i < length routines = omega (arith, length-map routines (routine_in leaves), c.requires) in
     let here : slice_get routines i ≡ Some r = slice_get_read routines _ i _ refl lt c.index-routine.ensures in
+    let in_program = slice_get-map (routine_in leaves) routines i ∙ ap (option_map (routine_in leaves)) here in
     let known : slice_get code.analyses.items i ≡ Some a = c.in-Some.ensures.analysis in
     let setting : Setting = record { flags = c.args.rules.flags; table = table_of c.args.rules.known.tables.now } in
     record {
       routine = routine_in leaves r;
-      is = slice_get-map (routine_in leaves) routines i ∙ ap (option_map (routine_in leaves)) here;
+      is = in_program;
       ops = ap (ops_in leaves) c.deref.ensures.value;
       direction = refl;
       first = refl;
-      next_bytes = subst (λ fs. AreNextBytesIn setting fs (direction_if r.backwards) (ops_in leaves r.instructions.items)) (sym c.deref-in-Some.ensures.value)
-          (code.bounded i a known r here setting c.in-Some.ensures.folds);
+      next_bytes = λ outs solve.
+          subst (λ fs. AreNextBytes fs (direction_if r.backwards) c.args.text.now (outs i)) (sym c.deref-in-Some.ensures.value)
+          (code.bounded setting c.in-Some.ensures.folds c.args.text.now outs solve i a known (routine_in leaves r) in_program);
       skips = subst (λ ps. AreSkips ps c.deref-in-Some.result.now c.deref.result.now) (sym c.deref-in-Some-2.ensures.value)
           (subst (λ fs. AreSkips a.skips.items fs c.deref.result.now) (sym c.deref-in-Some.ensures.value)
           (subst (AreSkips a.skips.items a.next_bytes.items) (sym c.deref.ensures.value) (code.counted i a known r here)));
@@ -53,6 +55,6 @@ returns-in-None-clause-input c =
       ops = ap (ops_in leaves) c.deref.ensures.value;
       direction = refl;
       first = refl;
-      next_bytes = λ text body_of out solves pc next_byte is. let bad : ⊥ = cc in absurd bad;
+      next_bytes = λ outs solve pc next_byte is. let bad : ⊥ = cc in absurd bad;
       skips = λ pc p is. let bad : ⊥ = cc in absurd bad;
     }

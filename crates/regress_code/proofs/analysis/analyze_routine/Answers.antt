@@ -7,7 +7,7 @@ use Rattle.regress_code.proofs.analysis.analyze_routine.Goals as goal
 
 pub returns-clause-next_bytes : goal.returns-clause-next_bytes
 returns-clause-next_bytes c =
-    subst (λ xs. AreNextBytesOf c.args.folds c.in_ok-next_bytes.next_bytes.items (direction_if c.args.routine.now.backwards) (ops_in c.args.leaves.now xs))
+    subst (λ xs. AreNextBytesOf c.args.folds c.args.bodies.now c.in_ok-next_bytes.next_bytes.items (direction_if c.args.routine.now.backwards) (ops_in c.args.leaves.now xs))
     c.deref.ensures.value c.in_ok-next_bytes.ensures
 
 pub returns-clause-skips : goal.returns-clause-skips

@@ -18,11 +18,11 @@ loop-instruction-preserved c =
     let so_far = c.loop-instruction.invariant in
     record {
       count = omega (arith, ap length c.in_ok-push.ensures.items, length_push known next_byte, so_far.count);
-      are = λ setting folds text body_of out solves.
+      are = λ setting folds text body_of out bodies solves.
           subst (λ fs. AreNextBytes fs d text out) (sym c.in_ok-push.ensures.items)
-          (pushed (λ pc f. AreNextBytesAt f d text out pc) known next_byte (so_far.are setting folds text body_of out solves)
+          (pushed (λ pc f. AreNextBytesAt f d text out pc) known next_byte (so_far.are setting folds text body_of out bodies solves)
           (subst (AreNextBytesAt next_byte d text out) (sym so_far.count)
           (instruction_bounds tests xs i _ (slice_get-get_or xs i _ c.loop-instruction-test.true) setting text d body_of out solves next_byte
-          (λ a. c.instruction_next_bytes-next_byte.ensures setting folds text body_of out a
-          (subst (λ fs. AreNextBytes fs d text out) (sym c.deref.ensures.value) (so_far.are setting folds text body_of out solves))))));
+          (λ a. c.instruction_next_bytes-next_byte.ensures setting folds text body_of out a bodies
+          (subst (λ fs. AreNextBytes fs d text out) (sym c.deref.ensures.value) (so_far.are setting folds text body_of out bodies solves))))));
     }
