@@ -210,6 +210,7 @@ fn bytes_at(input: Input<'_, '_>, routine: &Routine, pc: usize) -> NextBytes
     instruction_next_bytes(
         &input.code.program.leaves,
         &[],
+        &[],
         routine.instructions[pc],
         input.rules.backwards,
         folds,
