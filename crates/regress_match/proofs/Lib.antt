@@ -5,6 +5,7 @@ pub mod CostLemmas
 pub mod LinearLemmas
 pub mod SpentLemmas
 pub mod PaidLemmas
+pub mod FitLemmas
 pub mod MatcherLemmas
 pub mod OneMatchLemmas
 pub mod RequiredLemmas

@@ -42,10 +42,11 @@ use Rattle.regress_found.specs.declared.outcome.Outcome.TheVariants as outcomes
 use Rattle.regress_match.specs.Compiled.{IsCodeOf, all_outcomes}
 use Rattle.regress_match.specs.Kept.{IfKept, IsKept}
 use Rattle.regress_found.specs.Results.{IsSearchResult, IfMatched, IsMatchResult}
-use Rattle.regress_match.specs.Matcher.{factor, factor_of, factor_with, nonlinear_by, nonlinear_with, outcome_if}
+use Rattle.regress_match.specs.Matcher.{factor, factor_in, factor_of, factor_with, linear_steps_of, nonlinear_by, nonlinear_with, outcome_if}
 use Rattle.regress_match.specs.Pattern.{matcher_outcomes, matcher_setting, matcher_tree}
 use Rattle.regress_found.specs.Repeated.{offset_after}
 use Rattle.regress_match.specs.declared.matcher.Matcher.{Matcher}
+use Rattle.regress_match.proofs.FitLemmas.{some_fits}
 use Rattle.regress_match.proofs.lemmas.Inside.{first_inside}
 
 -- The program of a tree has its outcomes.
@@ -199,8 +200,9 @@ all_steps instructions walks n limit remaining searched from steps budget kept s
     omega (arith, most, budget, kept, sum)
 
 -- A bound for the steps for each byte is that of some number of instructions.
-factor_form : (m : Matcher) (n : ℕ) → factor_of m ≡ Some n → (i : ℕ) × (n ≡ factor i (code_groups m.code))
-factor_form m n is = by (m.within && is_linear (code_routines m.code)) is
+factor_form : (m : Matcher) (text : List ℕ) (n : ℕ) → factor_in m text ≡ Some n → (i : ℕ) × (n ≡ factor i (code_groups m.code))
+factor_form m text n is =
+    by (m.within && is_linear (code_routines m.code)) (sym (some_fits (linear_steps_of m) (factor_of m) text (ap is_some is)).1 ∙ is)
   where
     by : (b : Bool) → (if b then Some (factor (total (code_routines m.code)) (code_groups m.code)) else None) ≡ Some n →
         (j : ℕ) × (n ≡ factor j (code_groups m.code))
@@ -243,21 +245,21 @@ linear-unless groups routines within =
 
 -- the steps of a matcher
 module _ (m : Matcher) (text : List ℕ) (limit remaining from taken : ℕ) (search : Option TextSearch) (kept : IfKept m text from taken search) where
-  pub linear_steps : (steps : ℕ) → IfSome (factor_of m) (λ _. limit ≤ 64 * (length text + 1)) → steps ≤ (limit - remaining) + taken →
-      IfSome (factor_of m) (λ n. steps ≤ n * (length text + 1))
-  linear_steps steps short sum = by (factor_of m) refl short
+  pub linear_steps : (steps : ℕ) → IfSome (factor_in m text) (λ _. limit ≤ 64 * (length text + 1)) → steps ≤ (limit - remaining) + taken →
+      IfSome (factor_in m text) (λ n. steps ≤ n * (length text + 1))
+  linear_steps steps short sum = by (factor_in m text) refl short
     where
-      in_tables : (n : ℕ) (s : Option TextSearch) → IfKept m text from taken s → factor_of m ≡ Some n → limit ≤ 64 * (length text + 1) →
+      in_tables : (n : ℕ) (s : Option TextSearch) → IfKept m text from taken s → factor_in m text ≡ Some n → limit ≤ 64 * (length text + 1) →
           steps ≤ n * (length text + 1)
       in_tables n None none is small =
-          let form = factor_form m n is in
+          let form = factor_form m text n is in
           subst (λ k. steps ≤ k * (length text + 1)) (sym form.1) (let h : steps ≤ factor form.0 (code_groups m.code) * (length text + 1) = omega (arith, none, small, sum) in h)
       in_tables n (Some s) k is small =
           let same : factor (searched_size s) (searched_groups s) ≡ n = let e : Some (factor (searched_size s) (searched_groups s)) ≡ Some n = sym k.size ∙ is in cc in
           let all = all_steps (searched_size s) (walk_weight (searched_groups s) * (2 * searched_size s + 1)) (length text) limit remaining taken from steps small k.steps sum in
           subst (λ k. steps ≤ k * (length text + 1)) same all
 
-      by : (o : Option ℕ) → factor_of m ≡ o → IfSome o (λ _. limit ≤ 64 * (length text + 1)) → IfSome o (λ n. steps ≤ n * (length text + 1))
+      by : (o : Option ℕ) → factor_in m text ≡ o → IfSome o (λ _. limit ≤ 64 * (length text + 1)) → IfSome o (λ n. steps ≤ n * (length text + 1))
       by None is few = tt
       by (Some n) is few = in_tables n search kept is few
 
@@ -335,15 +337,16 @@ run_matches m text b from outcome code tables same solved =
 
 -- ---- the tables of a text, before the first search
 
-pub tables_kept : (m : Matcher) (text : List ℕ) (from steps : ℕ) (s : TextSearch) → is_some (factor_of m) ≡ true →
+pub tables_kept : (m : Matcher) (text : List ℕ) (from steps : ℕ) (s : TextSearch) → is_some (factor_in m text) ≡ true →
     IsCodeOf (matcher_setting m) (matcher_tree m) (arc_value m.tables) m.code → searched_code s ≡ m.code → searched_tables s ≡ arc_value m.tables →
     searched_text s ≡ text → steps ≤ 2 * searched_size s * (length (searched_text s) + 1) → IsKept m text from steps s
 tables_kept m text from steps s is_fast compiled code tables same_text counted =
-    let bound = bound_linear (code_groups m.code) (code_routines m.code) m.within is_fast in
+    let fits = some_fits (linear_steps_of m) (factor_of m) text is_fast in
+    let bound = bound_linear (code_groups m.code) (code_routines m.code) m.within fits.0 in
     record {
       code = code_of m (searched_tables s) (searched_code s) tables code compiled;
       linear = subst (λ (c : Code). is_linear (code_routines c) ≡ true) (sym code) bound.0;
-      size = bound.1 ∙ ap (λ (c : Code). Some (factor (total (code_routines c)) (code_groups c))) (sym code);
+      size = fits.1 ∙ bound.1 ∙ ap (λ (c : Code). Some (factor (total (code_routines c)) (code_groups c))) (sym code);
       captures = ap captures_cost code;
       same_text = same_text;
       steps = let same = ap length same_text in

@@ -15,7 +15,7 @@ use Rattle.regress_code.specs.Code.{code_groups, code_routines, code_tidy, outco
 use Rattle.regress_code.specs.declared.code.Code.{Code}
 use Rattle.regress_match.specs.Compiled.{IsCodeOf}
 use Rattle.regress_found.specs.Results.{IsSearchResult, IfOutOfSteps}
-use Rattle.regress_match.specs.Matcher.{factor, factor_of, factor_with, find_factor, find_factor_of, find_factor_with, outcome_if}
+use Rattle.regress_match.specs.Matcher.{bound_in, factor, factor_in, factor_of, factor_with, find_factor, find_factor_in, find_factor_of, find_factor_with, linear_steps_of, outcome_if}
 use Rattle.regress_match.specs.Pattern.{matcher_outcomes, matcher_setting, matcher_tree}
 use Rattle.regress_match.specs.declared.matcher.Matcher.{Matcher}
 use Rattle.regress_match.proofs.MatcherLemmas.{bound_linear, code_of, table_finds}
@@ -36,12 +36,12 @@ same_bound groups tidy routines true some =
 same_bound groups tidy routines false some = refl
 
 -- What holds of the bound for one match holds of that for all matches.
-pub all_by_one : (m : Matcher) (P : ℕ → Type 0) → IfSome (find_factor_of m) P → IfSome (factor_of m) P
-all_by_one m P one = by (factor_of m) (same_bound (code_groups m.code) (code_tidy m.code) (code_routines m.code) m.within)
+pub all_by_one : (m : Matcher) (text : List ℕ) (P : ℕ → Type 0) → IfSome (find_factor_in m text) P → IfSome (factor_in m text) P
+all_by_one m text P one = by (factor_of m) (same_bound (code_groups m.code) (code_tidy m.code) (code_routines m.code) m.within)
   where
-    by : (all : Option ℕ) → (is_some all ≡ true → find_factor_of m ≡ all) → IfSome all P
+    by : (all : Option ℕ) → (is_some all ≡ true → find_factor_of m ≡ all) → IfSome (bound_in (linear_steps_of m) all text) P
     by None same = tt
-    by (Some n) same = subst (λ o. IfSome o P) (same refl) one
+    by (Some n) same = subst (λ o. IfSome (bound_in (linear_steps_of m) o text) P) (same refl) one
 
 pub if_none : (o : Option ℕ) (P : ℕ → Type 0) → is_some o ≡ false → IfSome o P
 if_none None P none = tt

@@ -1,12 +1,12 @@
 -- The steps of a search for all matches are at most what its searches cost.
-use Rattle.std.proofs.Common.{◌≡◌, ℕ, ◌+◌, ◌-◌, ◌≤◌, List, [], ◌∷◌, ◌++◌, Option, Some, None, IfNone, IfSome, subst, arith}
+use Rattle.std.proofs.Common.{◌≡◌, ℕ, ◌+◌, ◌-◌, ◌≤◌, List, [], ◌∷◌, ◌++◌, Option, Some, None, IfNone, IfSome, ap₂, subst, arith}
 use Rattle.regress_program.specs.Cost.{Cost}
 use Rattle.regress_program.specs.Program.{Out}
 use Rattle.regress_found.specs.declared.found.Match.{Match}
 use Rattle.regress_match.specs.AllCosts.{CostsOfMatches, matches_cost}
 use Rattle.regress_match.specs.Costs.{AreCosts, IsWithinFindCost}
 use Rattle.regress_match.specs.Iterated.{IsSameIteration, iterated_from, iterated_matcher, iterated_text, step_limit, steps_remaining}
-use Rattle.regress_match.specs.Matcher.{factor_of}
+use Rattle.regress_match.specs.Matcher.{factor_in}
 use Rattle.regress_match.specs.Pattern.{matcher_outcomes}
 use Rattle.regress_match.specs.declared.matcher.Matcher.{Matcher}
 use Rattle.regress_match.specs.declared.matcher_matches.MatcherMatches.{MatcherMatches}
@@ -40,12 +40,14 @@ module _ (m : Matcher) (text : List ℕ) (now new : MatcherMatches) (ms : List M
   }
 
   -- a search that is out of steps
-  pub costs_of_matches : (steps : ℕ) → IfNone (factor_of m) (step_limit now ≡ steps) → IfSome (factor_of (iterated_matcher now)) (λ _. ⊥) →
-      IfNone (factor_of (iterated_matcher now)) (steps_remaining new ≡ 0) → CostsOfMatches m text 0 steps
+  pub costs_of_matches : (steps : ℕ) → IfNone (factor_in m text) (step_limit now ≡ steps) → IfSome (factor_in (iterated_matcher now) (iterated_text now)) (λ _. ⊥) →
+      IfNone (factor_in (iterated_matcher now) (iterated_text now)) (steps_remaining new ≡ 0) → CostsOfMatches m text 0 steps
   costs_of_matches steps limit never all =
-      by (factor_of m) limit (subst (λ m. IfSome (factor_of m) (λ _. ⊥)) so_far.found.same_matcher never)
-      (subst (λ m. IfNone (factor_of m) (steps_remaining new ≡ 0)) so_far.found.same_matcher all)
+      by (factor_in m text) limit (subst (λ o. IfSome o (λ _. ⊥)) same never) (subst (λ o. IfNone o (steps_remaining new ≡ 0)) same all)
     where
+      same : factor_in (iterated_matcher now) (iterated_text now) ≡ factor_in m text
+      same = ap₂ factor_in so_far.found.same_matcher so_far.found.same_text
+
       by : (o : Option ℕ) → IfNone o (step_limit now ≡ steps) → IfSome o (λ _. ⊥) → IfNone o (steps_remaining new ≡ 0) → CostsOfMatches m text 0 steps
       by (Some n) limit never all = absurd never
       by None limit never all = record {

@@ -1,5 +1,5 @@
 -- The costs of searches with a matcher.
-use Rattle.std.specs.Prelude.{◌≡◌, if◌then◌else◌, ℕ, ◌+◌, ◌*◌, ◌≤◌, Bool, true, not, ◌&&◌, is_some, nat_le, List, length, Option, Some, None, option_map}
+use Rattle.std.specs.Prelude.{◌≡◌, if◌then◌else◌, ℕ, ◌+◌, ◌*◌, ◌≤◌, Bool, true, not, ◌&&◌, is_some, nat_le, ◌-◌, ◌^◌, List, length, min, Option, Some, None, option_map, unwrap_or}
 use Rattle.regress_tree.specs.Tree.{Tree}
 use Rattle.regress_tree.specs.WellFormed.{IsWellFormed, captures}
 use Rattle.regress_program.specs.Compiled.{IsPattern, total}
@@ -84,6 +84,42 @@ factor_of m = factor_with (code_groups m.code) (code_routines m.code) m.within
 -- the same for a search for one match
 abbrev pub find_factor_of : Matcher → Option ℕ
 find_factor_of m = find_factor_with (code_groups m.code) (code_tidy m.code) (code_routines m.code) m.within
+
+-- the number of steps that a search may take that takes linear time; none if there is no limit
+abbrev pub linear_steps_of : Matcher → Option ℕ
+linear_steps_of m = m.linear_steps
+
+-- whether that many steps for each byte, and once more, are within a limit; they are counted up to 2^64 - 1
+abbrev pub fits : (limit : Option ℕ) → (factor : ℕ) → (text : List ℕ) → Bool
+fits None factor text = true
+fits (Some limit) factor text = nat_le (min (factor * (length text + 1)) (2 ^ 64 - 1)) limit
+
+-- the bound, if it is within the limit in a text
+abbrev pub bound_in : (limit bound : Option ℕ) → (text : List ℕ) → Option ℕ
+bound_in limit None text = None
+bound_in limit (Some n) text = if fits limit n text then Some n else None
+
+-- the bound for the steps of a search for all matches in a text, for each byte; none if it only backtracks there
+abbrev pub factor_in : Matcher → (text : List ℕ) → Option ℕ
+factor_in m text = bound_in (linear_steps_of m) (factor_of m) text
+
+-- the same for a search for one match
+abbrev pub find_factor_in : Matcher → (text : List ℕ) → Option ℕ
+find_factor_in m text = bound_in (linear_steps_of m) (find_factor_of m) text
+
+-- the step limit of a search that only backtracks: that of the caller, but if searches of short texts take linear time, that
+-- of such searches
+abbrev pub backtracking_limit : (limit bound : Option ℕ) (steps : ℕ) → ℕ
+backtracking_limit limit None steps = steps
+backtracking_limit limit (Some n) steps = unwrap_or limit steps
+
+-- that of a search for all matches
+abbrev pub limit_in : Matcher → (steps : ℕ) → ℕ
+limit_in m = backtracking_limit (linear_steps_of m) (factor_of m)
+
+-- that of a search for one match
+abbrev pub find_limit_in : Matcher → (steps : ℕ) → ℕ
+find_limit_in m = backtracking_limit (linear_steps_of m) (find_factor_of m)
 
 -- why its searches are not known to take linear time
 abbrev pub nonlinear_of : Matcher → Option Nonlinear

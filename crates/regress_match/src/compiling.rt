@@ -14,7 +14,7 @@ ghost use Rattle.regress_tables.specs.Search.{walk_weight};
 ghost use Rattle.regress_code.specs.Code.{code_counts, code_groups, code_routines, code_tidy};
 ghost use Rattle.regress_match.specs.Compiled.{IsCodeOf};
 ghost use Rattle.regress_match.specs.Costs.{HasCosts};
-ghost use Rattle.regress_match.specs.Matcher.{IsFactorOf, IsFindFactorOf, IsNonlinearOf, factor, factor_of, find_factor, find_factor_of, nonlinear_of};
+ghost use Rattle.regress_match.specs.Matcher.{IsFactorOf, IsFindFactorOf, IsNonlinearOf, factor, factor_of, find_factor, find_factor_of, linear_steps_of, nonlinear_of};
 ghost use Rattle.regress_match.specs.Memory.{instructions_of, memory_of};
 ghost use Rattle.regress_match.specs.Pattern.{matcher_setting, matcher_tree};
 
@@ -57,6 +57,7 @@ impl Matcher {
         ensures find_linear { IfOk result (λ m. IsFindFactorOf (min limits.linear_instructions limits.instructions) (tree regex.node) (find_factor_of m)) }
         ensures nonlinear { IfOk result (λ m. IsNonlinearOf (min limits.linear_instructions limits.instructions) (tree regex.node) (nonlinear_of m)) }
         ensures costs { IfOk result (λ m. (text : List ℕ) → HasCosts m text) }
+        ensures linear_steps { IfOk result (λ m. linear_steps_of m ≡ limits.linear_steps) }
         ensures memory { IfOk result (λ m. memory_of m ≡ limits.memory) }
         ensures instructions { IfOk result (λ m. instructions_of m ≡ compiled_size limits.instructions (tree regex.node)) }
         ensures within { IfOk result (λ m. instructions_of m ≤ limits.instructions) }
@@ -73,6 +74,7 @@ impl Matcher {
             facts,
             code,
             within,
+            linear_steps: limits.linear_steps,
             memory: limits.memory,
             required_byte,
         })

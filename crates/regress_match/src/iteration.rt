@@ -8,7 +8,7 @@ ghost use Rattle.regress_match.specs.Costs.{AreCosts, IsWithinFindCost, find_cos
 ghost use Rattle.regress_match.specs.Iterated.{HasCounted, IsSameIteration, Spends, iterated_from, iterated_matcher, iterated_text, step_limit, steps_remaining, steps_taken};
 ghost use Rattle.regress_found.specs.Results.{IsSearchResult, IfMatched, IfOutOfSteps};
 ghost use Rattle.regress_found.specs.Found.{IsInside, start_of};
-ghost use Rattle.regress_match.specs.Matcher.{factor_of, outcome_if};
+ghost use Rattle.regress_match.specs.Matcher.{factor_in, outcome_if};
 ghost use Rattle.regress_match.specs.Pattern.{matcher_outcomes, matcher_tree};
 ghost use Rattle.regress_found.specs.declared.fault.MemoryFault.TheVariants.{TooMuchMemory};
 ghost use Rattle.regress_match.specs.Memory.{TablesNeedMore};
@@ -62,8 +62,8 @@ impl<'m> MatcherMatches<'m> {
         ensures goes_on { IfOk result (λ outcome. iterated_from self.new ≡ offset_after (iterated_text self.old) (iterated_from self.old) outcome) }
         ensures stays { OnErr result (iterated_from self.new ≡ iterated_from self.old) }
         ensures same { IsSameIteration self.old self.new }
-        ensures linear { IfOk result (λ outcome. IfSome (factor_of (iterated_matcher self.old)) (λ _. IfOutOfSteps outcome ⊥)) }
-        ensures limited { IfOk result (λ outcome. IfNone (factor_of (iterated_matcher self.old)) (IfOutOfSteps outcome (steps_remaining self.new ≡ 0))) }
+        ensures linear { IfOk result (λ outcome. IfSome (factor_in (iterated_matcher self.old) (iterated_text self.old)) (λ _. IfOutOfSteps outcome ⊥)) }
+        ensures limited { IfOk result (λ outcome. IfNone (factor_in (iterated_matcher self.old) (iterated_text self.old)) (IfOutOfSteps outcome (steps_remaining self.new ≡ 0))) }
         ensures costs { IfOk result (λ _. IsWithinFindCost (iterated_matcher self.old) (iterated_text self.old) (iterated_from self.old) (steps_remaining self.old - steps_remaining self.new)) }
         ensures spent { Spends self.old self.new }
         ensures counted { IfOk result (λ outcome. IfMatched outcome (HasCounted self.old self.new)) }
@@ -95,8 +95,8 @@ impl<'m> MatcherMatches<'m> {
     /// error some are not counted.
     pub fn steps(&self) -> u64
         ensures taken { result ≡ min (steps_taken self.now) u64.MAX }
-        ensures linear { IfSome (factor_of (iterated_matcher self.now)) (λ n. result ≤ n * (length (iterated_text self.now) + 1)) }
-        ensures limited { IfNone (factor_of (iterated_matcher self.now)) (result + steps_remaining self.now ≡ step_limit self.now) }
+        ensures linear { IfSome (factor_in (iterated_matcher self.now) (iterated_text self.now)) (λ n. result ≤ n * (length (iterated_text self.now) + 1)) }
+        ensures limited { IfNone (factor_in (iterated_matcher self.now) (iterated_text self.now)) (result + steps_remaining self.now ≡ step_limit self.now) }
     {
         (self.limit - self.remaining).saturating_add(self.searched)
     }
@@ -169,12 +169,12 @@ impl<'m> MatcherMatches<'m> {
         ensures from { iterated_from self.new ≡ iterated_from self.old }
         ensures same { IsSameIteration self.old self.new }
         ensures remaining { steps_remaining self.new ≡ steps_remaining self.old }
-        ensures made { IfOk result (λ _. IfSome (factor_of (iterated_matcher self.old)) (λ _. IsSome self.new.search)) }
+        ensures made { IfOk result (λ _. IfSome (factor_in (iterated_matcher self.old) (iterated_text self.old)) (λ _. IsSome self.new.search)) }
         ensures spent { Spends self.old self.new }
         ensures too_much { IfErr result (λ fault. fault ≡ TooMuchMemory → TablesNeedMore (iterated_matcher self.old) (iterated_text self.old)) }
     {
         let matcher = self.matcher;
-        if matcher.is_linear() {
+        if matcher.is_linear_in(self.text) {
             if let Some(linear) = Linear::new(&matcher.code, matcher.known()) {
                 let search = linear.search(alloc, self.text, matcher.memory)?;
                 self.searched = search.steps();

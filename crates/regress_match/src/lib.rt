@@ -5,6 +5,7 @@
 mod compiling;
 mod iteration;
 mod limits;
+mod linear_time;
 mod matcher;
 mod matcher_matches;
 pub mod names;

@@ -11,6 +11,11 @@ pub struct Limits {
     /// always counts about m / 64 times. The tables take up to two
     /// bits for each instruction and byte of a text. A thousand by default, so at most 250 times the length of the text.
     pub linear_instructions: usize,
+    /// The number of steps that a search may take that takes linear time; `None` by default: no limit. A text is searched in
+    /// linear time only if the bound for it, [`Matcher::steps_per_byte`](crate::Matcher::steps_per_byte) for each byte and once
+    /// more, is within this limit; for one match [`Matcher::find_steps_per_byte`](crate::Matcher::find_steps_per_byte). Any
+    /// other text is searched by backtracking only, within this number of steps.
+    pub linear_steps: Option<u64>,
     /// The memory in bytes that the tables of a search may take: a quarter of a byte for each instruction, and 8 bytes, for
     /// each byte of the text, and once more. A search that needs larger tables is not made. 256 MiB by default. A lookaround
     /// takes up to 4 bytes more for each byte of the text, which do not count.
@@ -27,6 +32,7 @@ impl Default for Limits {
         Limits {
             instructions: 250_000,
             linear_instructions: 1_000,
+            linear_steps: None,
             memory: 256 << 20,
         }
     }

@@ -25,6 +25,8 @@ pub struct Matcher {
     pub(crate) code: Code,
     /// Whether the program is within the limit on tables, with at most 64 characters for each instruction.
     pub(crate) within: bool,
+    /// The number of steps that a search may take that takes linear time.
+    pub(crate) linear_steps: Option<u64>,
     /// The number of bytes that the tables of a search may take.
     pub(crate) memory: usize,
     /// A byte that each match contains, if one is known.

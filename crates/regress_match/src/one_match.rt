@@ -6,7 +6,7 @@ ghost use Rattle.regress_found.specs.Found.{IsInside};
 ghost use Rattle.regress_found.specs.declared.fault.MemoryFault.TheVariants.{TooMuchMemory};
 ghost use Rattle.regress_match.specs.Memory.{TablesNeedMore};
 ghost use Rattle.regress_match.specs.Costs.{IsWithinFindCost};
-ghost use Rattle.regress_match.specs.Matcher.{IsLimited, IsLinear, find_factor_of};
+ghost use Rattle.regress_match.specs.Matcher.{IsLimited, IsLinear, find_factor_in};
 ghost use Rattle.regress_match.specs.Pattern.{matcher_outcomes, matcher_tree};
 
 use crate::iteration::outcome_of;
@@ -31,7 +31,7 @@ impl Matcher {
     ) -> Result<Found, MemoryFault>
         ensures finds { IfOk result (λ found. IsSearchResult text.now (matcher_outcomes self.now text.now) from found.outcome) }
         ensures inside { IfOk result (λ found. IsWellFormed (matcher_tree self.now) → IfMatched found.outcome (IsInside text.now)) }
-        ensures bounded { IfOk result (λ found. IfSome (find_factor_of self.now) (λ n. IsLinear n text.now found.outcome found.steps)) }
+        ensures bounded { IfOk result (λ found. IfSome (find_factor_in self.now text.now) (λ n. IsLinear n text.now found.outcome found.steps)) }
         ensures too_much { IfErr result (λ fault. fault ≡ TooMuchMemory → TablesNeedMore self.now text.now) }
     {
         let first = self.find_within(alloc, cache, text, from, self.steps_before_tables(text))?;
@@ -87,7 +87,7 @@ impl Matcher {
     fn find_by_tables(&self, alloc: Global, text: &str, from: usize) -> Result<Found, MemoryFault>
         ensures finds { IfOk result (λ found. IsSearchResult text.now (matcher_outcomes self.now text.now) from found.outcome) }
         ensures inside { IfOk result (λ found. IsWellFormed (matcher_tree self.now) → IfMatched found.outcome (IsInside text.now)) }
-        ensures bounded { IfOk result (λ found. IfSome (find_factor_of self.now) (λ n.
+        ensures bounded { IfOk result (λ found. IfSome (find_factor_in self.now text.now) (λ n.
             (found.steps + 64 * (length text.now + 1) ≤ n * (length text.now + 1)) × IfOutOfSteps found.outcome ⊥)) }
         ensures too_much { IfErr result (λ fault. fault ≡ TooMuchMemory → TablesNeedMore self.now text.now) }
     {

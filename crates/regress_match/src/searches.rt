@@ -8,7 +8,7 @@ ghost use Rattle.regress_found.specs.Results.{IsSearchResult, IfMatched, IsMatch
 ghost use Rattle.regress_found.specs.Found.{IsInside};
 ghost use Rattle.regress_found.specs.declared.fault.MemoryFault.TheVariants.{TooMuchMemory};
 ghost use Rattle.regress_match.specs.Memory.{TablesNeedMore};
-ghost use Rattle.regress_match.specs.Matcher.{IsLimited, IsLinear, factor_of, find_factor_of};
+ghost use Rattle.regress_match.specs.Matcher.{IsLimited, IsLinear, factor_in, find_factor_in, find_limit_in, limit_in};
 ghost use Rattle.regress_match.specs.Pattern.{matcher_outcomes, matcher_tree};
 ghost use Rattle.regress_found.specs.Repeated.{AreAllMatches};
 
@@ -75,10 +75,10 @@ impl Matcher {
     ) -> Result<Found, MemoryFault>
         ensures finds { IfOk result (λ found. IsSearchResult text.now (matcher_outcomes self.now text.now) from found.outcome) }
         ensures inside { IfOk result (λ found. IsWellFormed (matcher_tree self.now) → IfMatched found.outcome (IsInside text.now)) }
-        ensures linear { IfOk result (λ found. IfSome (factor_of self.now) (λ n. IsLinear n text.now found.outcome found.steps)) }
-        ensures bounded { IfOk result (λ found. IfSome (find_factor_of self.now) (λ n. IsLinear n text.now found.outcome found.steps)) }
-        ensures limited { IfOk result (λ found. IfNone (find_factor_of self.now) (IsLimited steps found.outcome found.steps)) }
-        ensures costs { IfOk result (λ found. IfNone (find_factor_of self.now) (IsWithinFindCost self.now text.now from found.steps)) }
+        ensures linear { IfOk result (λ found. IfSome (factor_in self.now text.now) (λ n. IsLinear n text.now found.outcome found.steps)) }
+        ensures bounded { IfOk result (λ found. IfSome (find_factor_in self.now text.now) (λ n. IsLinear n text.now found.outcome found.steps)) }
+        ensures limited { IfOk result (λ found. IfNone (find_factor_in self.now text.now) (IsLimited (find_limit_in self.now steps) found.outcome found.steps)) }
+        ensures costs { IfOk result (λ found. IfNone (find_factor_in self.now text.now) (IsWithinFindCost self.now text.now from found.steps)) }
         ensures too_much { IfErr result (λ fault. fault ≡ TooMuchMemory → TablesNeedMore self.now text.now) }
     {
         let mut cache = Cache::new(alloc);
@@ -120,16 +120,16 @@ impl Matcher {
     ) -> Result<Found, MemoryFault>
         ensures finds { IfOk result (λ found. IsSearchResult text.now (matcher_outcomes self.now text.now) from found.outcome) }
         ensures inside { IfOk result (λ found. IsWellFormed (matcher_tree self.now) → IfMatched found.outcome (IsInside text.now)) }
-        ensures linear { IfOk result (λ found. IfSome (factor_of self.now) (λ n. IsLinear n text.now found.outcome found.steps)) }
-        ensures bounded { IfOk result (λ found. IfSome (find_factor_of self.now) (λ n. IsLinear n text.now found.outcome found.steps)) }
-        ensures limited { IfOk result (λ found. IfNone (find_factor_of self.now) (IsLimited steps found.outcome found.steps)) }
-        ensures costs { IfOk result (λ found. IfNone (find_factor_of self.now) (IsWithinFindCost self.now text.now from found.steps)) }
+        ensures linear { IfOk result (λ found. IfSome (factor_in self.now text.now) (λ n. IsLinear n text.now found.outcome found.steps)) }
+        ensures bounded { IfOk result (λ found. IfSome (find_factor_in self.now text.now) (λ n. IsLinear n text.now found.outcome found.steps)) }
+        ensures limited { IfOk result (λ found. IfNone (find_factor_in self.now text.now) (IsLimited (find_limit_in self.now steps) found.outcome found.steps)) }
+        ensures costs { IfOk result (λ found. IfNone (find_factor_in self.now text.now) (IsWithinFindCost self.now text.now from found.steps)) }
         ensures too_much { IfErr result (λ fault. fault ≡ TooMuchMemory → TablesNeedMore self.now text.now) }
     {
-        if self.is_find_linear() {
+        if self.is_find_linear_in(text) {
             self.find_in_linear_time(alloc, cache, text, from)
         } else {
-            Ok(self.find_within(alloc, cache, text, from, steps)?)
+            Ok(self.find_within(alloc, cache, text, from, self.find_step_limit(steps))?)
         }
     }
 
@@ -181,7 +181,7 @@ impl Matcher {
         ensures matcher { iterated_matcher result ≡ self.now }
         ensures text { iterated_text result ≡ text.now }
         ensures from { iterated_from result ≡ from }
-        ensures limit { IfNone (factor_of self.now) (step_limit result ≡ steps) }
+        ensures limit { IfNone (factor_in self.now text.now) (step_limit result ≡ limit_in self.now steps) }
         ensures remaining { steps_remaining result ≡ step_limit result }
         ensures taken { steps_taken result ≡ 0 }
     {
@@ -230,8 +230,8 @@ impl Matcher {
         steps: u64,
     ) -> Result<Option<Vec<Match>>, MemoryFault>
         ensures all { IfOk result (λ found. IfSome found (λ all. AreAllMatches text.now (matcher_outcomes self.now text.now) all.items)) }
-        ensures linear { IfOk result (λ found. IfSome (factor_of self.now) (λ _. IsSome found)) }
-        ensures costs { IfOk result (λ found. IsNone found → CostsOfMatches self.now text.now 0 steps) }
+        ensures linear { IfOk result (λ found. IfSome (factor_in self.now text.now) (λ _. IsSome found)) }
+        ensures costs { IfOk result (λ found. IsNone found → CostsOfMatches self.now text.now 0 (limit_in self.now steps)) }
         ensures too_much { IfErr result (λ fault. fault ≡ TooMuchMemory → TablesNeedMore self.now text.now) }
     {
         let mut all = Vec::new(alloc);
@@ -247,13 +247,13 @@ impl Matcher {
 
     /// Returns the step limit of backtracking: that of the caller, or if searches are linear some steps for each byte.
     fn backtracking_steps(&self, text: &str, steps: u64) -> u64
-        ensures linear { IfSome (factor_of self.now) (λ _. result ≤ 64 * (length text.now + 1)) }
-        ensures limited { IfNone (factor_of self.now) (result ≡ steps) }
+        ensures linear { IfSome (factor_in self.now text.now) (λ _. result ≤ 64 * (length text.now + 1)) }
+        ensures limited { IfNone (factor_in self.now text.now) (result ≡ limit_in self.now steps) }
     {
-        if self.is_linear() {
+        if self.is_linear_in(text) {
             self.steps_before_tables(text)
         } else {
-            steps
+            self.step_limit(steps)
         }
     }
 

@@ -1,5 +1,5 @@
-use Rattle.std.proofs.Common.{◌≡◌, ℕ, Some, None, IfNone, IfSome, IsSome, arith, refl, subst, sym}
-use Rattle.regress_match.specs.Matcher.{factor_of}
+use Rattle.std.proofs.Common.{◌≡◌, ℕ, Some, None, IfNone, IfSome, IsSome, ap₂, arith, refl, subst, sym}
+use Rattle.regress_match.specs.Matcher.{factor_in, limit_in}
 use Rattle.regress_match.proofs.IterationLemmas.{all_found, one_more}
 use Rattle.regress_match.proofs.PaidLemmas.{costs_of_matches, one_more_paid}
 use Rattle.regress_match.proofs.lemmas.Iterated.{remaining-falls}
@@ -34,13 +34,13 @@ loop-matches-preserved c =
           (one_more_paid _ _ now c.next.new.self c.loop-matches.all.items so_far.has next.costs c.in-Matched.found
           (one_more _ _ now c.loop-matches.all.items so_far.has.found c.next.new.self c.in-Matched.found
           (rw c.in-Matched.is at next.finds) (rw c.in-Matched.is at next.goes_on) next.same) next.same);
-      limit = subst (λ k. IfNone (factor_of c.args.self.now) (k ≡ c.args.steps)) (sym next.same.limit) so_far.limit;
+      limit = subst (λ k. IfNone (factor_in c.args.self.now c.args.text.now) (k ≡ limit_in c.args.self.now c.args.steps)) (sym next.same.limit) so_far.limit;
     }
 
 pub returns-in-NoMatch : goal.returns-in-NoMatch
 returns-in-NoMatch c = record {
   all = all_found _ _ c.loop-matches.matches c.loop-matches.all.items c.loop-matches.invariant.has.found (rw c.in-NoMatch.is at c.in_ok-found.ensures.finds);
-  linear = if_some (factor_of c.args.self.now) (IsSome (Some c.loop-matches.all)) refl;
+  linear = if_some (factor_in c.args.self.now c.args.text.now) (IsSome (Some c.loop-matches.all)) refl;
   costs = λ none. absurd (cc);
   too_much = tt;
 }
@@ -48,12 +48,12 @@ returns-in-NoMatch c = record {
 pub returns-in-OutOfSteps-clause-linear : goal.returns-in-OutOfSteps-clause-linear
 returns-in-OutOfSteps-clause-linear c =
     let spent = rw c.in-OutOfSteps.is at c.in_ok-found.ensures.linear in
-    map_some (factor_of c.args.self.now) ⊥ (IsSome {T = ℕ} None) (λ h. absurd h)
-    (subst (λ m. IfSome (factor_of m) (λ _. ⊥)) c.loop-matches.invariant.has.found.same_matcher spent)
+    map_some (factor_in c.args.self.now c.args.text.now) ⊥ (IsSome {T = ℕ} None) (λ h. absurd h)
+    (subst (λ o. IfSome o (λ _. ⊥)) (ap₂ factor_in c.loop-matches.invariant.has.found.same_matcher c.loop-matches.invariant.has.found.same_text) spent)
 
 pub returns-in-OutOfSteps-clause-costs : goal.returns-in-OutOfSteps-clause-costs
 returns-in-OutOfSteps-clause-costs c = λ _.
     let so_far = c.loop-matches.invariant in
     let next = c.in_ok-found.ensures in
-    costs_of_matches c.args.self.now c.args.text.now c.loop-matches.matches c.next.new.self c.loop-matches.all.items so_far.has next.costs c.args.steps
+    costs_of_matches c.args.self.now c.args.text.now c.loop-matches.matches c.next.new.self c.loop-matches.all.items so_far.has next.costs (limit_in c.args.self.now c.args.steps)
     so_far.limit (rw c.in-OutOfSteps.is at next.linear) (rw c.in-OutOfSteps.is at next.limited)
