@@ -6,7 +6,7 @@ use Rattle.regress_front.specs.declared.types.Flags.{Flags}
 use Rattle.regress_match.specs.Matcher.{IsFactorOf, IsFindFactorOf, IsNonlinearOf, is_find_linear_tree}
 use Rattle.regress_program.specs.Size.{compiled_size}
 use Rattle.regress.specs.Compiled.{tree_of}
-use Rattle.regress.specs.Costs.{factor_of, find_factor_of, limit_of, nonlinear_of}
+use Rattle.regress.specs.Costs.{factor_of, find_factor_of, limit_of, linear_steps_of, nonlinear_of}
 use Rattle.regress.specs.Limits.{linear_limit}
 use Rattle.regress.specs.Memory.{instructions_of, memory_of}
 use Rattle.regress.specs.declared.limits.Options.{Options}
@@ -18,6 +18,7 @@ pub record Keeps (options : Options) (flags : Flags) (source : Source) (r : Rege
   pub small : options.nodes < 2 ^ 64 - 1 → HasAtMost flags source options.nodes
   pub within : instructions_of r ≤ options.instructions
   pub limit : limit_of r ≡ options.steps
+  pub linear_steps : linear_steps_of r ≡ options.linear_steps
   pub memory : memory_of r ≡ options.memory
   pub instructions : instructions_of r ≡ compiled_size options.instructions (tree_of r)
   pub linear : IsFactorOf (linear_limit options) (tree_of r) (factor_of r)

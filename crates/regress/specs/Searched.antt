@@ -8,7 +8,7 @@ use Rattle.regress_found.specs.Found as one
 use Rattle.regress_match.specs.Pattern.{capture_of}
 use Rattle.regress_match.specs.Costs.{IsWithinFindCost}
 use Rattle.regress_match.specs.Iterated.{HasCounted, iterated_from, iterated_matcher, iterated_outcomes, iterated_text, step_limit, steps_remaining, steps_taken}
-use Rattle.regress_match.specs.Matcher.{factor_of}
+use Rattle.regress_match.specs.Matcher.{factor_in}
 use Rattle.regress_match.specs.Memory.{TablesNeedMore}
 use Rattle.regress_match.specs.declared.matcher.Matcher.{Matcher}
 use Rattle.regress_found.specs.Repeated.{next_offset}
@@ -38,11 +38,11 @@ next_from m = iterated_from m.matches
 abbrev pub searched_groups : Matches → List Capture
 searched_groups m = map capture_of m.groups.now
 
--- the bound for the steps for each byte, if searches are linear
+-- the bound for the steps for each byte; none if the search only backtracks
 abbrev pub searched_factor : Matches → Option ℕ
-searched_factor m = factor_of (iterated_matcher m.matches)
+searched_factor m = factor_in (iterated_matcher m.matches) (iterated_text m.matches)
 
--- the step limit if they are not, and the number of steps of it that remain
+-- the step limit if it does, and the number of steps of it that remain
 abbrev pub search_limit : Matches → ℕ
 search_limit m = step_limit m.matches
 
@@ -86,8 +86,7 @@ pub record IsNext (old : Matches) (m : Match) (new : Matches) : Type 0 where
 abbrev pub IsOver : Matches → Type 0
 IsOver m = one.Finds (searched_text m) (searched_outcomes m) (next_from m) None
 
--- The search for the next match may be out of steps: it is not known to take linear time, and costs at least the steps that
--- remain.
+-- The search for the next match may be out of steps: it only backtracks, and costs at least the steps that remain.
 pub record IsTooCostly (m : Matches) : Type 0 where
   pub linear : searched_factor m ≡ None
   pub costs : IsWithinFindCost (searched_matcher m) (searched_text m) (next_from m) (search_remaining m)

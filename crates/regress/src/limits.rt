@@ -23,6 +23,12 @@ pub struct Options {
     /// always counts about m / 64 times here. The tables that this needs take up to two bits for each instruction and byte
     /// of the text. A thousand by default, so at most 250 times the length of the text.
     pub linear_instructions: usize,
+    /// The number of steps that a search may take that takes linear time; `None` by default: no limit. `steps` does not apply
+    /// to such searches. A text is searched in linear time only if the bound for it,
+    /// [`Regex::steps_per_byte`](crate::Regex::steps_per_byte) for each byte and once more, is within this limit; for one match
+    /// [`Regex::find_steps_per_byte`](crate::Regex::find_steps_per_byte). Any other text is searched by backtracking only,
+    /// within this number of steps.
+    pub linear_steps: Option<u64>,
     /// The memory in bytes that the tables of one search may take: a quarter of a byte for each instruction, and 8 bytes,
     /// for each byte of the text, and once more. A search that needs larger tables ends with
     /// [`SearchError::TooMuchMemory`](crate::SearchError::TooMuchMemory). 256 MiB by default. A lookaround takes up to 4 bytes
@@ -43,6 +49,7 @@ impl Default for Options {
             nodes: 1_000_000,
             instructions: 250_000,
             linear_instructions: 1_000,
+            linear_steps: None,
             memory: Limits::default().memory,
         }
     }

@@ -27,8 +27,8 @@ use std::sync::Arc;
 ///
 /// It keeps its source, its tree in normal form, its program, and its share of the tables. If [`Regex::is_linear`], a
 /// search for all matches takes time linear in the length of the text, and if [`Regex::is_find_linear`], a search for one
-/// match does. Any other search backtracks within a step limit. So searches end also for untrusted patterns and texts
-/// ([`Options`]).
+/// match does, where that is within `linear_steps` of [`Options`]. Any other search backtracks within a step limit. So
+/// searches end also for untrusted patterns and texts.
 ///
 /// # Examples
 /// ```
@@ -75,7 +75,7 @@ impl Regex {
     ghost use Rattle.regress_prefilter.specs.Literals.{bytes_in, literals, longest};
     ghost use Rattle.regress_program.specs.Size.{compiled_size};
     ghost use Rattle.regress_replace.specs.Order.{AreInOrder};
-    ghost use Rattle.regress.specs.Costs.{AllCostLimit, CostsLimit, factor_of, find_factor_of, limit_of, matcher_of, nonlinear_of};
+    ghost use Rattle.regress.specs.Costs.{AllCostLimit, CostsLimit, factor_in, factor_of, find_factor_in, find_factor_of, limit_of, linear_steps_of, matcher_of, nonlinear_of, step_limit_of};
     ghost use Rattle.regress.specs.Kept.{Keeps};
     ghost use Rattle.regress.specs.Memory.{TablesNeedMore, instructions_of, memory_of};
     ghost use Rattle.regress.specs.Compiled.{IsCompiledFromIn, IsCompiledIn, groups_of, outcomes_of, setting_of, source_of, tree_of, groups_in, match_of};
@@ -158,6 +158,7 @@ impl Regex {
         ensures small { IfOk result (λ _. options.nodes < usize.MAX → HasAtMost (flags_in_force options.dialect flags) (chars pattern.now) options.nodes) }
         ensures within { IfOk result (λ regex. instructions_of regex ≤ options.instructions) }
         ensures limit { IfOk result (λ regex. limit_of regex ≡ options.steps) }
+        ensures linear_steps { IfOk result (λ regex. linear_steps_of regex ≡ options.linear_steps) }
         ensures memory { IfOk result (λ regex. memory_of regex ≡ options.memory) }
         ensures instructions { IfOk result (λ regex. instructions_of regex ≡ compiled_size options.instructions (tree_of regex)) }
         ensures linear { IfOk result (λ regex. IsFactorOf (linear_limit options) (tree_of regex) (factor_of regex)) }
@@ -196,6 +197,7 @@ impl Regex {
         ensures small { IfOk result (λ _. options.nodes < usize.MAX → HasAtMost (flags_in_force options.dialect flags) pattern.now options.nodes) }
         ensures within { IfOk result (λ regex. instructions_of regex ≤ options.instructions) }
         ensures limit { IfOk result (λ regex. limit_of regex ≡ options.steps) }
+        ensures linear_steps { IfOk result (λ regex. linear_steps_of regex ≡ options.linear_steps) }
         ensures memory { IfOk result (λ regex. memory_of regex ≡ options.memory) }
         ensures instructions { IfOk result (λ regex. instructions_of regex ≡ compiled_size options.instructions (tree_of regex)) }
         ensures linear { IfOk result (λ regex. IsFactorOf (linear_limit options) (tree_of regex) (factor_of regex)) }
@@ -232,6 +234,7 @@ impl Regex {
         ensures small { IfOk result (λ _. options.nodes < usize.MAX → HasAtMost (flags_in_force options.dialect flags) pattern.now options.nodes) }
         ensures within { IfOk result (λ regex. instructions_of regex ≤ options.instructions) }
         ensures limit { IfOk result (λ regex. limit_of regex ≡ options.steps) }
+        ensures linear_steps { IfOk result (λ regex. linear_steps_of regex ≡ options.linear_steps) }
         ensures memory { IfOk result (λ regex. memory_of regex ≡ options.memory) }
         ensures instructions { IfOk result (λ regex. instructions_of regex ≡ compiled_size options.instructions (tree_of regex)) }
         ensures linear { IfOk result (λ regex. IsFactorOf (linear_limit options) (tree_of regex) (factor_of regex)) }
@@ -249,6 +252,7 @@ impl Regex {
         let limits = Limits {
             instructions: options.instructions,
             linear_instructions: options.linear_instructions,
+            linear_steps: options.linear_steps,
             memory: options.memory,
         };
         let outside_pairs = compiled.1;
@@ -300,8 +304,8 @@ impl Regex {
     /// As for [`Regex::find_at`].
     pub fn is_match(&self, alloc: Global, text: &str) -> Result<bool, SearchError>
         ensures is { IfOk result (λ is. IsTrue is ↔ MatchesSomewhere text.now (outcomes_of self.now text.now)) }
-        ensures linear { IfErr result (λ error. error ≡ OutOfSteps → factor_of self.now ≡ None) }
-        ensures bounded { IfErr result (λ error. error ≡ OutOfSteps → find_factor_of self.now ≡ None) }
+        ensures linear { IfErr result (λ error. error ≡ OutOfSteps → factor_in self.now text.now ≡ None) }
+        ensures bounded { IfErr result (λ error. error ≡ OutOfSteps → find_factor_in self.now text.now ≡ None) }
         ensures costs { IfErr result (λ error. error ≡ OutOfSteps → CostsLimit self.now text.now 0) }
         ensures too_much { IfErr result (λ error. error ≡ TooMuchMemory → TablesNeedMore self.now text.now) }
     {
@@ -317,8 +321,8 @@ impl Regex {
         ensures finds { IfOk result (λ found. Finds text.now (outcomes_of self.now text.now) 0 (option_map match_of found)) }
         ensures inside { IfOk result (λ found. IfSome found (λ m. IsInside text.now (match_of m))) }
         ensures groups { IfOk result (λ found. IfSome found (λ m. groups_in m ≡ groups_of self.now)) }
-        ensures linear { IfErr result (λ error. error ≡ OutOfSteps → factor_of self.now ≡ None) }
-        ensures bounded { IfErr result (λ error. error ≡ OutOfSteps → find_factor_of self.now ≡ None) }
+        ensures linear { IfErr result (λ error. error ≡ OutOfSteps → factor_in self.now text.now ≡ None) }
+        ensures bounded { IfErr result (λ error. error ≡ OutOfSteps → find_factor_in self.now text.now ≡ None) }
         ensures costs { IfErr result (λ error. error ≡ OutOfSteps → CostsLimit self.now text.now 0) }
         ensures too_much { IfErr result (λ error. error ≡ TooMuchMemory → TablesNeedMore self.now text.now) }
     {
@@ -333,15 +337,16 @@ impl Regex {
     /// inside `text`, on character boundaries.
     ///
     /// # Errors
-    /// - [`SearchError::OutOfSteps`] if the search takes more than `steps` of [`Options`], and never if
-    ///   [`Regex::is_find_linear`].
+    /// - [`SearchError::OutOfSteps`] if the search takes more than `steps` of [`Options`], or if
+    ///   [`Regex::is_find_linear`], more than `linear_steps`; then never if [`Regex::find_steps_per_byte`] for each byte of
+    ///   the text, and once more, is within them.
     /// - [`SearchError::TooMuchMemory`] if the search needs tables that take more bytes than `memory` of [`Options`]:
     ///   (n / 4 + 8) (length + 1) for a program of n instructions, with n / 4 rounded up. They are not made then.
     /// - [`SearchError::Memory`] if an allocation fails.
     ///
     /// # Complexity
     /// If [`Regex::is_find_linear`], the steps are at most [`Regex::find_steps_per_byte`] for each byte of the text,
-    /// and once more; a step takes constant time, but for literals, sets, the groups that an iteration unsets or a
+    /// and once more, where that is within `linear_steps` of [`Options`]; a step takes constant time, but for literals, sets, the groups that an iteration unsets or a
     /// lookaround sets, and the alternatives that it passes over because the next byte excludes them. Else the time is at
     /// most the step limit and the length of `text` together, times a factor that depends only on the pattern and the
     /// tables.
@@ -354,8 +359,8 @@ impl Regex {
         ensures finds { IfOk result (λ found. Finds text.now (outcomes_of self.now text.now) start (option_map match_of found)) }
         ensures inside { IfOk result (λ found. IfSome found (λ m. IsInside text.now (match_of m))) }
         ensures groups { IfOk result (λ found. IfSome found (λ m. groups_in m ≡ groups_of self.now)) }
-        ensures linear { IfErr result (λ error. error ≡ OutOfSteps → factor_of self.now ≡ None) }
-        ensures bounded { IfErr result (λ error. error ≡ OutOfSteps → find_factor_of self.now ≡ None) }
+        ensures linear { IfErr result (λ error. error ≡ OutOfSteps → factor_in self.now text.now ≡ None) }
+        ensures bounded { IfErr result (λ error. error ≡ OutOfSteps → find_factor_in self.now text.now ≡ None) }
         ensures costs { IfErr result (λ error. error ≡ OutOfSteps → CostsLimit self.now text.now start) }
         ensures too_much { IfErr result (λ error. error ≡ TooMuchMemory → TablesNeedMore self.now text.now) }
     {
@@ -380,9 +385,9 @@ impl Regex {
         ensures text { searched_text result ≡ text.now }
         ensures outcomes { searched_outcomes result ≡ outcomes_of self.now text.now }
         ensures groups { searched_groups result ≡ groups_of self.now }
-        ensures linear { searched_factor result ≡ factor_of self.now }
+        ensures linear { searched_factor result ≡ factor_in self.now text.now }
         ensures matcher { searched_matcher result ≡ matcher_of self.now }
-        ensures limit { IfNone (factor_of self.now) (search_limit result ≡ limit_of self.now) }
+        ensures limit { IfNone (factor_in self.now text.now) (search_limit result ≡ step_limit_of self.now) }
         ensures remaining { search_remaining result ≡ search_limit result }
         ensures taken { search_taken result ≡ 0 }
         ensures failed { has_failed result ≡ false }
@@ -397,9 +402,9 @@ impl Regex {
         ensures text { searched_text result ≡ text.now }
         ensures outcomes { searched_outcomes result ≡ outcomes_of self.now text.now }
         ensures groups { searched_groups result ≡ groups_of self.now }
-        ensures linear { searched_factor result ≡ factor_of self.now }
+        ensures linear { searched_factor result ≡ factor_in self.now text.now }
         ensures matcher { searched_matcher result ≡ matcher_of self.now }
-        ensures limit { IfNone (factor_of self.now) (search_limit result ≡ limit_of self.now) }
+        ensures limit { IfNone (factor_in self.now text.now) (search_limit result ≡ step_limit_of self.now) }
         ensures remaining { search_remaining result ≡ search_limit result }
         ensures taken { search_taken result ≡ 0 }
         ensures failed { has_failed result ≡ false }
@@ -410,8 +415,9 @@ impl Regex {
     /// Returns all non-overlapping matches in `text`, from left to right, as [`Regex::find_iter`] finds them.
     ///
     /// # Errors
-    /// - [`SearchError::OutOfSteps`] if the matches together take more than `steps` of [`Options`], and never if
-    ///   [`Regex::is_linear`].
+    /// - [`SearchError::OutOfSteps`] if the matches together take more than `steps` of [`Options`], or if
+    ///   [`Regex::is_linear`], more than `linear_steps`; then never if [`Regex::steps_per_byte`] for each byte of the text, and
+    ///   once more, is within them.
     /// - [`SearchError::TooMuchMemory`] and [`SearchError::Memory`] as for [`Regex::find_at`].
     pub fn find_all<'r>(
         &'r self,
@@ -421,7 +427,7 @@ impl Regex {
         ensures all { IfOk result (λ all. AreAllMatches text.now (outcomes_of self.now text.now) (map match_of all.items)) }
         ensures inside { IfOk result (λ all. All (λ m. IsInside text.now (match_of m)) all.items) }
         ensures groups { IfOk result (λ all. All (λ m. groups_in m ≡ groups_of self.now) all.items) }
-        ensures linear { IfErr result (λ error. error ≡ OutOfSteps → factor_of self.now ≡ None) }
+        ensures linear { IfErr result (λ error. error ≡ OutOfSteps → factor_in self.now text.now ≡ None) }
         ensures costs { IfErr result (λ error. error ≡ OutOfSteps → AllCostLimit self.now text.now 0) }
         ensures too_much { IfErr result (λ error. error ≡ TooMuchMemory → TablesNeedMore self.now text.now) }
     {
@@ -438,7 +444,7 @@ impl Regex {
         ensures all { IfOk result (λ all. AreAllMatches text.now (outcomes_of self.now text.now) all.items) }
         ensures inside { IfOk result (λ all. All (IsInside text.now) all.items) }
         ensures order { IfOk result (λ all. AreInOrder 0 all.items) }
-        ensures linear { IfErr result (λ error. error ≡ OutOfSteps → factor_of self.now ≡ None) }
+        ensures linear { IfErr result (λ error. error ≡ OutOfSteps → factor_in self.now text.now ≡ None) }
         ensures costs { IfErr result (λ error. error ≡ OutOfSteps → AllCostLimit self.now text.now 0) }
         ensures too_much { IfErr result (λ error. error ≡ TooMuchMemory → TablesNeedMore self.now text.now) }
     {

@@ -4,7 +4,7 @@ ghost use Rattle.regress_found.specs.Found.{IsInside};
 ghost use Rattle.regress_replace.specs.Expansion.{expansion};
 ghost use Rattle.regress_replace.specs.Order.{AreInOrder};
 ghost use Rattle.regress.specs.Compiled.{groups_of, outcomes_of, match_of};
-ghost use Rattle.regress.specs.Costs.{AllAreTooCostly, AllCostLimit, CostsLimit, IsTooCostly, factor_of, find_factor_of};
+ghost use Rattle.regress.specs.Costs.{AllAreTooCostly, AllCostLimit, CostsLimit, IsTooCostly, factor_in, find_factor_in};
 ghost use Rattle.regress.specs.Memory.{TablesNeedMore};
 ghost use Rattle.regress.specs.Replaced.{HasReturned, IsReplacedBy, ReplacesAll, ReplacesAllWith, ReplacesFirst, ReplacesFirstN, ReplacesFirstWith};
 ghost use Rattle.regress.specs.declared.failure.SearchError.TheVariants.{OutOfSteps, TooMuchMemory};
@@ -37,8 +37,8 @@ impl Regex {
     pub fn replace(&self, alloc: Global, text: &str, template: &str) -> Result<String, SearchError>
         ensures replaced { IfOk result (λ out. ReplacesFirst text.now (outcomes_of self.now text.now)
             (λ m. expansion text.now m (groups_of self.now) template.now) (string_bytes out)) }
-        ensures linear { IfErr result (λ error. error ≡ OutOfSteps → factor_of self.now ≡ None) }
-        ensures bounded { IfErr result (λ error. error ≡ OutOfSteps → find_factor_of self.now ≡ None) }
+        ensures linear { IfErr result (λ error. error ≡ OutOfSteps → factor_in self.now text.now ≡ None) }
+        ensures bounded { IfErr result (λ error. error ≡ OutOfSteps → find_factor_in self.now text.now ≡ None) }
         ensures costs { IfErr result (λ error. error ≡ OutOfSteps → CostsLimit self.now text.now 0) }
         ensures too_much { IfErr result (λ error. error ≡ TooMuchMemory → TablesNeedMore self.now text.now) }
     {
@@ -70,7 +70,7 @@ impl Regex {
     ) -> Result<String, SearchError>
         ensures replaced { IfOk result (λ out. ReplacesAll text.now (outcomes_of self.now text.now)
             (λ m. expansion text.now m (groups_of self.now) template.now) (string_bytes out)) }
-        ensures linear { IfErr result (λ error. error ≡ OutOfSteps → factor_of self.now ≡ None) }
+        ensures linear { IfErr result (λ error. error ≡ OutOfSteps → factor_in self.now text.now ≡ None) }
         ensures costs { IfErr result (λ error. error ≡ OutOfSteps → AllCostLimit self.now text.now 0) }
         ensures too_much { IfErr result (λ error. error ≡ TooMuchMemory → TablesNeedMore self.now text.now) }
     {
@@ -100,7 +100,7 @@ impl Regex {
     ) -> Result<(String, usize), SearchError>
         ensures replaced { IfOk result (λ out. ReplacesFirstN text.now (outcomes_of self.now text.now) limit
             (λ m. expansion text.now m (groups_of self.now) template.now) (string_bytes out.0) out.1) }
-        ensures linear { IfErr result (λ error. error ≡ OutOfSteps → factor_of self.now ≡ None) }
+        ensures linear { IfErr result (λ error. error ≡ OutOfSteps → factor_in self.now text.now ≡ None) }
         ensures costs { IfErr result (λ error. error ≡ OutOfSteps → AllCostLimit self.now text.now 0) }
         ensures too_much { IfErr result (λ error. error ≡ TooMuchMemory → TablesNeedMore self.now text.now) }
     {

@@ -6,7 +6,7 @@ ghost use Rattle.regress_match.specs.Costs.{IsWithinFindCost};
 ghost use Rattle.regress_match.specs.Iterated.{iterated_matcher};
 ghost use Rattle.regress_match.specs.Memory.{TablesNeedMore};
 ghost use Rattle.regress_found.specs.Found.{IsInside, Finds};
-ghost use Rattle.regress_match.specs.Matcher.{factor_of, find_factor_of};
+ghost use Rattle.regress_match.specs.Matcher.{factor_in, find_factor_in, find_limit_in, limit_in};
 ghost use Rattle.regress_match.specs.Pattern.{matcher_outcomes, matcher_tree};
 ghost use Rattle.regress_found.specs.Repeated.{AreAllMatches};
 ghost use Rattle.regress_replace.specs.Order.{AreInOrder};
@@ -29,9 +29,9 @@ pub(crate) fn find(
 ) -> Result<Option<Found>, SearchError>
     ensures finds { IfOk result (λ found. Finds text.now (matcher_outcomes matcher.now text.now) from found) }
     ensures inside { IsWellFormed (matcher_tree matcher.now) → IfOk result (λ found. IfSome found (IsInside text.now)) }
-    ensures linear { IfErr result (λ error. error ≡ OutOfSteps → factor_of matcher.now ≡ None) }
-    ensures bounded { IfErr result (λ error. error ≡ OutOfSteps → find_factor_of matcher.now ≡ None) }
-    ensures costs { IfErr result (λ error. error ≡ OutOfSteps → IsWithinFindCost matcher.now text.now from steps) }
+    ensures linear { IfErr result (λ error. error ≡ OutOfSteps → factor_in matcher.now text.now ≡ None) }
+    ensures bounded { IfErr result (λ error. error ≡ OutOfSteps → find_factor_in matcher.now text.now ≡ None) }
+    ensures costs { IfErr result (λ error. error ≡ OutOfSteps → IsWithinFindCost matcher.now text.now from (find_limit_in matcher.now steps)) }
     ensures too_much { IfErr result (λ error. error ≡ TooMuchMemory → TablesNeedMore matcher.now text.now) }
 {
     let found = matcher.find_with(alloc, cache, text, from, steps)?;
@@ -52,8 +52,8 @@ pub(crate) fn find_all(
     ensures all { IfOk result (λ all. AreAllMatches text.now (matcher_outcomes matcher.now text.now) all.items) }
     ensures inside { IsWellFormed (matcher_tree matcher.now) → IfOk result (λ all. All (IsInside text.now) all.items) }
     ensures order { IfOk result (λ all. AreInOrder 0 all.items) }
-    ensures linear { IfErr result (λ error. error ≡ OutOfSteps → factor_of matcher.now ≡ None) }
-    ensures costs { IfErr result (λ error. error ≡ OutOfSteps → CostsOfMatches matcher.now text.now 0 steps) }
+    ensures linear { IfErr result (λ error. error ≡ OutOfSteps → factor_in matcher.now text.now ≡ None) }
+    ensures costs { IfErr result (λ error. error ≡ OutOfSteps → CostsOfMatches matcher.now text.now 0 (limit_in matcher.now steps)) }
     ensures too_much { IfErr result (λ error. error ≡ TooMuchMemory → TablesNeedMore matcher.now text.now) }
 {
     match matcher.find_all(alloc, text, steps)? {
@@ -94,9 +94,9 @@ impl<'r> Matches<'r> {
         ensures text { searched_text result ≡ text.now }
         ensures outcomes { searched_outcomes result ≡ matcher_outcomes matcher.now text.now }
         ensures groups { searched_groups result ≡ map capture_of groups.now }
-        ensures linear { searched_factor result ≡ factor_of matcher.now }
+        ensures linear { searched_factor result ≡ factor_in matcher.now text.now }
         ensures matcher { searched_matcher result ≡ matcher.now }
-        ensures limit { IfNone (factor_of matcher.now) (search_limit result ≡ steps) }
+        ensures limit { IfNone (factor_in matcher.now text.now) (search_limit result ≡ limit_in matcher.now steps) }
         ensures remaining { search_remaining result ≡ search_limit result }
         ensures taken { search_taken result ≡ 0 }
         ensures failed { has_failed result ≡ false }

@@ -35,7 +35,7 @@ impl Searcher {
     ghost use Rattle.std.specs.Prelude.{◌≡◌, ◌↔◌, IsTrue, IfErr, IfOk, IfSome, None, option_map};
     ghost use Rattle.regress_found.specs.Found.{IsInside, Finds};
     ghost use Rattle.regress.specs.Compiled.{groups_in, groups_of, match_of, outcomes_of};
-    ghost use Rattle.regress.specs.Costs.{CostsLimit, factor_of, find_factor_of};
+    ghost use Rattle.regress.specs.Costs.{CostsLimit, factor_in, find_factor_in};
     ghost use Rattle.regress.specs.Memory.{TablesNeedMore};
     ghost use Rattle.regress.specs.Searched.{MatchesSomewhere};
     ghost use Rattle.regress.specs.declared.failure.SearchError.TheVariants.{OutOfSteps, TooMuchMemory};
@@ -64,8 +64,8 @@ impl Searcher {
         ensures finds { IfOk result (λ found. Finds text.now (outcomes_of regex.now text.now) start (option_map match_of found)) }
         ensures inside { IfOk result (λ found. IfSome found (λ m. IsInside text.now (match_of m))) }
         ensures groups { IfOk result (λ found. IfSome found (λ m. groups_in m ≡ groups_of regex.now)) }
-        ensures linear { IfErr result (λ error. error ≡ OutOfSteps → factor_of regex.now ≡ None) }
-        ensures bounded { IfErr result (λ error. error ≡ OutOfSteps → find_factor_of regex.now ≡ None) }
+        ensures linear { IfErr result (λ error. error ≡ OutOfSteps → factor_in regex.now text.now ≡ None) }
+        ensures bounded { IfErr result (λ error. error ≡ OutOfSteps → find_factor_in regex.now text.now ≡ None) }
         ensures costs { IfErr result (λ error. error ≡ OutOfSteps → CostsLimit regex.now text.now start) }
         ensures too_much { IfErr result (λ error. error ≡ TooMuchMemory → TablesNeedMore regex.now text.now) }
     {
@@ -97,8 +97,8 @@ impl Searcher {
         text: &str,
     ) -> Result<bool, SearchError>
         ensures is { IfOk result (λ is. IsTrue is ↔ MatchesSomewhere text.now (outcomes_of regex.now text.now)) }
-        ensures linear { IfErr result (λ error. error ≡ OutOfSteps → factor_of regex.now ≡ None) }
-        ensures bounded { IfErr result (λ error. error ≡ OutOfSteps → find_factor_of regex.now ≡ None) }
+        ensures linear { IfErr result (λ error. error ≡ OutOfSteps → factor_in regex.now text.now ≡ None) }
+        ensures bounded { IfErr result (λ error. error ≡ OutOfSteps → find_factor_in regex.now text.now ≡ None) }
         ensures costs { IfErr result (λ error. error ≡ OutOfSteps → CostsLimit regex.now text.now 0) }
         ensures too_much { IfErr result (λ error. error ≡ TooMuchMemory → TablesNeedMore regex.now text.now) }
     {

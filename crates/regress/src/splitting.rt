@@ -6,7 +6,7 @@ ghost use Rattle.regress_found.specs.Repeated.{AreAllMatches};
 ghost use Rattle.regress_replace.specs.Order.{AreInOrder};
 ghost use Rattle.regress_replace.specs.Split.{part_texts};
 ghost use Rattle.regress.specs.Compiled.{outcomes_of};
-ghost use Rattle.regress.specs.Costs.{AllCostLimit, factor_of};
+ghost use Rattle.regress.specs.Costs.{AllCostLimit, factor_in};
 ghost use Rattle.regress.specs.Memory.{TablesNeedMore};
 ghost use Rattle.regress.specs.Replaced.{AreFirstMatches, ArePartSpans, IsSplit, IsSplitWithCaptures, IsSplitWithin};
 ghost use Rattle.regress.specs.declared.failure.SearchError.TheVariants.{OutOfSteps, TooMuchMemory};
@@ -38,7 +38,7 @@ impl Regex {
     pub fn split<'a>(&self, alloc: Global, text: &'a str) -> Result<Vec<&'a str>, SearchError>
         ensures split { IfOk result (λ pieces. IsSplit text.now (outcomes_of self.now text.now)
             (map (λ (piece : Bor (List ℕ)). piece.now) pieces.items)) }
-        ensures linear { IfErr result (λ error. error ≡ OutOfSteps → factor_of self.now ≡ None) }
+        ensures linear { IfErr result (λ error. error ≡ OutOfSteps → factor_in self.now text.now ≡ None) }
         ensures costs { IfErr result (λ error. error ≡ OutOfSteps → AllCostLimit self.now text.now 0) }
         ensures too_much { IfErr result (λ error. error ≡ TooMuchMemory → TablesNeedMore self.now text.now) }
     {
@@ -59,7 +59,7 @@ impl Regex {
     ) -> Result<Vec<&'a str>, SearchError>
         ensures split { IfOk result (λ pieces. IsSplitWithin text.now (outcomes_of self.now text.now) limit
             (map (λ (piece : Bor (List ℕ)). piece.now) pieces.items)) }
-        ensures linear { IfErr result (λ error. error ≡ OutOfSteps → factor_of self.now ≡ None) }
+        ensures linear { IfErr result (λ error. error ≡ OutOfSteps → factor_in self.now text.now ≡ None) }
         ensures costs { IfErr result (λ error. error ≡ OutOfSteps → AllCostLimit self.now text.now 0) }
         ensures too_much { IfErr result (λ error. error ≡ TooMuchMemory → TablesNeedMore self.now text.now) }
     {
@@ -93,7 +93,7 @@ impl Regex {
         limit: Option<usize>,
     ) -> Result<Vec<Option<&'a str>>, SearchError>
         ensures split { IfOk result (λ parts. IsSplitWithCaptures text.now (outcomes_of self.now text.now) limit (part_texts parts.items)) }
-        ensures linear { IfErr result (λ error. error ≡ OutOfSteps → factor_of self.now ≡ None) }
+        ensures linear { IfErr result (λ error. error ≡ OutOfSteps → factor_in self.now text.now ≡ None) }
         ensures costs { IfErr result (λ error. error ≡ OutOfSteps → AllCostLimit self.now text.now 0) }
         ensures too_much { IfErr result (λ error. error ≡ TooMuchMemory → TablesNeedMore self.now text.now) }
     {
@@ -113,7 +113,7 @@ impl Regex {
         limit: Option<usize>,
     ) -> Result<Vec<Option<(usize, usize)>>, SearchError>
         ensures split { IfOk result (λ spans. ArePartSpans text.now (outcomes_of self.now text.now) limit spans.items) }
-        ensures linear { IfErr result (λ error. error ≡ OutOfSteps → factor_of self.now ≡ None) }
+        ensures linear { IfErr result (λ error. error ≡ OutOfSteps → factor_in self.now text.now ≡ None) }
         ensures costs { IfErr result (λ error. error ≡ OutOfSteps → AllCostLimit self.now text.now 0) }
         ensures too_much { IfErr result (λ error. error ≡ TooMuchMemory → TablesNeedMore self.now text.now) }
     {
@@ -131,7 +131,7 @@ impl Regex {
         ensures first { IfOk result (λ first. AreFirstMatches text.now (outcomes_of self.now text.now) count first.items) }
         ensures inside { IfOk result (λ first. All (IsInside text.now) first.items) }
         ensures order { IfOk result (λ first. AreInOrder 0 first.items) }
-        ensures linear { IfErr result (λ error. error ≡ OutOfSteps → factor_of self.now ≡ None) }
+        ensures linear { IfErr result (λ error. error ≡ OutOfSteps → factor_in self.now text.now ≡ None) }
         ensures costs { IfErr result (λ error. error ≡ OutOfSteps → AllCostLimit self.now text.now 0) }
         ensures too_much { IfErr result (λ error. error ≡ TooMuchMemory → TablesNeedMore self.now text.now) }
     {

@@ -25,12 +25,12 @@ impl<'m> MatcherMatches<'m> {
     /// Returns the next match.
     ///
     /// After an empty match the search goes on one character further. After the last match each call returns
-    /// [`Outcome::NoMatch`]. Only a pattern that is not linear can be out of steps; then the position of the search stays
-    /// as it is. The spans of a match are as [`Matcher::find`] states.
+    /// [`Outcome::NoMatch`]. Only a search that is not known to take linear time can be out of steps; then the position of
+    /// the search stays as it is. The spans of a match are as [`Matcher::find`] states.
     ///
     /// # Complexity
     /// If [`Matcher::is_linear`], all calls together take at most [`Matcher::steps_per_byte`] steps for each byte of
-    /// the text, and once more. For any other pattern the step limit is for all calls together, and a call takes at most
+    /// the text, and once more, where that is within [`Limits::linear_steps`](crate::Limits::linear_steps). Else the step limit is for all calls together, and a call takes at most
     /// the cost of its search, and one step for each byte of the text and once more. Steps are only spent, also by a call that
     /// returns an error; a match takes at least one for each byte offset up to its start and one for each 64 groups, or all
     /// that remain.

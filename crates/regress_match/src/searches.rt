@@ -36,12 +36,14 @@ impl Matcher {
     /// boundaries, so that `text` may be sliced by them.
     ///
     /// # Complexity
-    /// If [`Matcher::is_find_linear`], the result is never [`Outcome::OutOfSteps`], and the steps are at most
-    /// [`Matcher::find_steps_per_byte`] for each byte of the text, and once more. The search first backtracks within
+    /// If [`Matcher::is_find_linear`], and [`Matcher::find_steps_per_byte`] for each byte of the text, and once more, is
+    /// within [`Limits::linear_steps`](crate::Limits::linear_steps), the result is never [`Outcome::OutOfSteps`], and the
+    /// steps are at most that. The search first backtracks within
     /// some steps for each byte; once they are used up it makes tables, whose memory is proportional to the number of
     /// instructions and the length of the text.
     ///
-    /// For any other pattern `steps` is the step limit, counted as in [`Backtracker::find`](regress_backtrack::Backtracker::find).
+    /// Any other search only backtracks. Its step limit is `steps`, or if [`Matcher::is_find_linear`],
+    /// [`Limits::linear_steps`](crate::Limits::linear_steps), counted as in [`Backtracker::find`](regress_backtrack::Backtracker::find).
     /// A search takes at most its cost, the steps that following every outcome takes, and one for each byte of the text and
     /// once more.
     ///
@@ -175,8 +177,9 @@ impl Matcher {
 
     /// Returns a search for the non-overlapping matches that start at the byte offset `from` or later.
     ///
-    /// If [`Matcher::is_linear`], `steps` has no meaning: the search is never out of steps. For any other pattern it is
-    /// the step limit of all calls of [`MatcherMatches::next`] together.
+    /// If [`Matcher::is_linear`], `steps` has no meaning: the step limit is [`Limits::linear_steps`](crate::Limits::linear_steps),
+    /// and the search is never out of steps if [`Matcher::steps_per_byte`] for each byte of the text, and once more, is within
+    /// that. For any other pattern `steps` is the step limit of all calls of [`MatcherMatches::next`] together.
     pub fn find_iter<'m>(&'m self, text: &'m str, from: usize, steps: u64) -> MatcherMatches<'m>
         ensures matcher { iterated_matcher result ≡ self.now }
         ensures text { iterated_text result ≡ text.now }
@@ -200,8 +203,8 @@ impl Matcher {
 
     /// Returns all non-overlapping matches in `text`, from left to right, as [`MatcherMatches`] finds them.
     ///
-    /// The result is `None` only if the search takes more than `steps` steps, and never if [`Matcher::is_linear`]. Then the
-    /// searches for the matches up to there cost at least `steps`, each as [`MatcherMatches::next`] states.
+    /// The result is `None` only if the search is out of steps, as for [`Matcher::find_iter`]. Then the searches for the matches
+    /// up to there cost at least its step limit, each as [`MatcherMatches::next`] states.
     ///
     /// # Errors
     /// As for [`Matcher::find`].

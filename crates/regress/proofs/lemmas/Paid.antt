@@ -1,5 +1,5 @@
 -- The steps of a repeated search are at most what its searches cost, and its errors are those of its searches.
-use Rattle.std.proofs.Common.{◌≡◌, ◌∙◌, ℕ, ◌+◌, ◌-◌, ◌≤◌, List, [], ◌∷◌, ◌++◌, Some, None, IfNone, arith, subst, sym, ap}
+use Rattle.std.proofs.Common.{◌≡◌, ◌∙◌, ℕ, ◌+◌, ◌-◌, ◌≤◌, List, [], ◌∷◌, ◌++◌, Some, None, IfNone, arith, subst, sym, ap, ap₂}
 use Rattle.std.specs.Prelude.{Err, Ok}
 use Rattle.regress_program.specs.Cost.{Cost}
 use Rattle.regress_program.specs.Program.{Out}
@@ -12,7 +12,7 @@ use Rattle.regress_match.specs.Memory as memory
 use Rattle.regress_match.proofs.lemmas.Costs.{has_costs}
 use Rattle.regress_match.proofs.lemmas.Matches.{matches_cost-more}
 use Rattle.regress.specs.Compiled.{outcomes_of, match_of}
-use Rattle.regress.specs.Costs.{AllAreTooCostly, factor_of, limit_of, matcher_of}
+use Rattle.regress.specs.Costs.{AllAreTooCostly, factor_in, matcher_of, step_limit_of}
 use Rattle.regress.specs.Memory.{TablesNeedMore}
 use Rattle.regress.specs.Searched.{Advances, next_from, search_limit, search_remaining, searched_matcher, searched_text}
 use Rattle.regress.specs.declared.failure.SearchError.{SearchError}
@@ -25,12 +25,12 @@ use Rattle.regress.specs.declared.search.Matches.{Matches}
 pub record HasPaid (r : Regex) (text : List ℕ) (from : ℕ) (now : Matches) (ms : List matcher.Match) : Type 0 where
   pub same_matcher : searched_matcher now ≡ matcher_of r
   pub same_text : searched_text now ≡ text
-  pub limit : IfNone (factor_of r) (search_limit now ≡ limit_of r)
+  pub limit : IfNone (factor_in r text) (search_limit now ≡ step_limit_of r)
   pub paid : (outs : ℕ → Out) (costs : ℕ → Cost) → AreCosts (matcher_of r) text outs costs →
       search_limit now ≤ search_remaining now + matches_cost (matcher_of r) text costs from ms
 
 pub none_paid : (r : Regex) (text : List ℕ) (from : ℕ) (now : Matches) → searched_matcher now ≡ matcher_of r → searched_text now ≡ text →
-    IfNone (factor_of r) (search_limit now ≡ limit_of r) → search_remaining now ≡ search_limit now → HasPaid r text from now []
+    IfNone (factor_in r text) (search_limit now ≡ step_limit_of r) → search_remaining now ≡ search_limit now → HasPaid r text from now []
 none_paid r text from now same_matcher same_text limit all = record {
   same_matcher = same_matcher;
   same_text = same_text;
@@ -51,7 +51,7 @@ module _ (r : Regex) (text : List ℕ) (from : ℕ) (now : Matches) (ms : List m
   one_more_paid new m step = record {
     same_matcher = step.same.matcher ∙ so_far.same_matcher;
     same_text = step.same.text ∙ so_far.same_text;
-    limit = subst (λ k. IfNone (factor_of r) (k ≡ limit_of r)) (sym step.same.limit) so_far.limit;
+    limit = subst (λ k. IfNone (factor_in r text) (k ≡ step_limit_of r)) (sym step.same.limit) so_far.limit;
     paid = λ outs costs are.
         let before = so_far.paid outs costs are in
         let next = next_within (search_remaining now - search_remaining new) step.yields.0.costs outs costs are in
@@ -63,8 +63,8 @@ module _ (r : Regex) (text : List ℕ) (from : ℕ) (now : Matches) (ms : List m
   pub out_of_steps : (new : Matches) (e : SearchError) → Advances now (Some (Err e)) new → e ≡ OutOfSteps → AllAreTooCostly r text from
   out_of_steps new e step is =
       let late = step.yields.1.steps is in
-      let none : factor_of r ≡ None = sym (ap program.factor_of so_far.same_matcher) ∙ late.linear in
-      let limit : search_limit now ≡ limit_of r = subst (λ o. IfNone o (search_limit now ≡ limit_of r)) none so_far.limit in
+      let none : factor_in r text ≡ None = sym (ap₂ program.factor_in so_far.same_matcher so_far.same_text) ∙ late.linear in
+      let limit : search_limit now ≡ step_limit_of r = subst (λ o. IfNone o (search_limit now ≡ step_limit_of r)) none so_far.limit in
       record {
         linear = none;
         costs = record {

@@ -1,6 +1,6 @@
 use Rattle.std.proofs.Common.{◌≡◌, None, refl}
 use Rattle.regress_match.specs.AllCosts.{CostsOfMatches}
-use Rattle.regress_match.specs.Matcher.{factor_of}
+use Rattle.regress_match.specs.Matcher.{factor_in, limit_in}
 use Rattle.regress_match.specs.Memory.{TablesNeedMore}
 use Rattle.regress_match.specs.Pattern.{matcher_outcomes, matcher_setting, matcher_tree}
 use Rattle.regress_replace.proofs.lemmas.Found.{AreAllMatches-in_order, AreAllMatches-inside}
@@ -19,18 +19,18 @@ returns-in-Some-clause-order c =
     (rw c.in-Some.is at c.in_ok-all.ensures.all)
 
 pub returns-in-None-clause-linear : goal.returns-in-None-clause-linear
-returns-in-None-clause-linear c = λ _. never_none (factor_of c.args.matcher.now) _ c.in_ok-all.ensures.linear c.in-None.is
+returns-in-None-clause-linear c = λ _. never_none (factor_in c.args.matcher.now c.args.text.now) _ c.in_ok-all.ensures.linear c.in-None.is
 
 pub returns-in-None-clause-costs : goal.returns-in-None-clause-costs
 returns-in-None-clause-costs c = λ _. c.in_ok-all.ensures.costs (rw c.in-None.is refl)
 
 pub returns-in_err-all-clause-linear : goal.returns-in_err-all-clause-linear
 returns-in_err-all-clause-linear c =
-    no_steps (factor_of c.args.matcher.now ≡ None) c.from_residual.result c.in_err-all.field-0.0 c.from_residual.ensures
+    no_steps (factor_in c.args.matcher.now c.args.text.now ≡ None) c.from_residual.result c.in_err-all.field-0.0 c.from_residual.ensures
 
 pub returns-in_err-all-clause-costs : goal.returns-in_err-all-clause-costs
 returns-in_err-all-clause-costs c =
-    no_steps (CostsOfMatches c.args.matcher.now c.args.text.now 0 c.args.steps) c.from_residual.result c.in_err-all.field-0.0
+    no_steps (CostsOfMatches c.args.matcher.now c.args.text.now 0 (limit_in c.args.matcher.now c.args.steps)) c.from_residual.result c.in_err-all.field-0.0
     c.from_residual.ensures
 
 pub returns-in_err-all-clause-too_much : goal.returns-in_err-all-clause-too_much

@@ -1,7 +1,7 @@
 use Rattle.std.proofs.Common.{Some, [], ◌∷◌, map, subst, sym, ◌∙◌}
 use Rattle.std.proofs.lemmas.Result.{err_from_is_err_and}
 use Rattle.std.proofs.lemmas.List.{map-append}
-use Rattle.regress.specs.Costs.{factor_of}
+use Rattle.regress.specs.Costs.{factor_in}
 use Rattle.regress.specs.Compiled.{groups_of, outcomes_of, match_of}
 use Rattle.regress.specs.Searched.{Advances}
 use Rattle.regress.proofs.FoundLemmas.{HasFoundWith, all_found, begins_with, inside_each, one_more_with}
@@ -13,7 +13,7 @@ loop-found-init c =
     let text = c.args.text.now in
     let at = outcomes_of c.args.self.now text in
     let groups = groups_of c.args.self.now in
-    let factor = factor_of c.args.self.now in
+    let factor = factor_in c.args.self.now text in
     let made = c.find_iter-found-items.ensures in
     record {
       has = subst (λ ms. HasFoundWith text at groups factor c.into_iter-found-iterator.result ms) (sym c.new-all.ensures.items)
@@ -28,7 +28,7 @@ pub loop-found-preserved : goal.loop-found-preserved
 loop-found-preserved c =
     let text = c.args.text.now in
     let at = outcomes_of c.args.self.now text in
-    let factor = factor_of c.args.self.now in
+    let factor = factor_in c.args.self.now text in
     let groups = groups_of c.args.self.now in
     let now = c.loop-found.found-iterator in
     let new = c.next.new.self in

@@ -1,8 +1,8 @@
-use Rattle.std.proofs.Common.{ap, refl}
+use Rattle.std.proofs.Common.{ap₂, refl}
 use Rattle.std.proofs.Math.Logic.{∥∥₁_elim}
 use Rattle.std.proofs.lemmas.Result.{err_from_is_err_and}
 use Rattle.regress_match.specs.Iterated.{steps_remaining}
-use Rattle.regress_match.specs.Matcher.{factor_of}
+use Rattle.regress_match.specs.Matcher.{factor_in}
 use Rattle.regress_match.proofs.lemmas.Iterated.{same_outcomes}
 use Rattle.regress.specs.Inside.{IsInside-prop}
 use Rattle.regress.specs.Searched.{next_from, search_remaining, searched_factor, searched_matcher, searched_text}
@@ -16,7 +16,7 @@ returns-in-Matched c = record {
     text = c.in_ok-found.ensures.same.text;
     outcomes = same_outcomes c.args.self.now.matches c.next.new.self c.in_ok-found.ensures.same;
     groups = refl;
-    linear = ap factor_of c.in_ok-found.ensures.same.matcher;
+    linear = ap₂ factor_in c.in_ok-found.ensures.same.matcher c.in_ok-found.ensures.same.text;
     matcher = c.in_ok-found.ensures.same.matcher;
     limit = c.in_ok-found.ensures.same.limit;
     spent = c.in_ok-found.ensures.spent.remaining;
@@ -39,7 +39,7 @@ returns-in-NoMatch c = record {
     text = c.in_ok-found.ensures.same.text;
     outcomes = same_outcomes c.args.self.now.matches c.next.new.self c.in_ok-found.ensures.same;
     groups = refl;
-    linear = ap factor_of c.in_ok-found.ensures.same.matcher;
+    linear = ap₂ factor_in c.in_ok-found.ensures.same.matcher c.in_ok-found.ensures.same.text;
     matcher = c.in_ok-found.ensures.same.matcher;
     limit = c.in_ok-found.ensures.same.limit;
     spent = c.in_ok-found.ensures.spent.remaining;
@@ -55,7 +55,7 @@ returns-in-OutOfSteps c = record {
     text = c.in_ok-found.ensures.same.text;
     outcomes = same_outcomes c.args.self.now.matches c.next.new.self c.in_ok-found.ensures.same;
     groups = refl;
-    linear = ap factor_of c.in_ok-found.ensures.same.matcher;
+    linear = ap₂ factor_in c.in_ok-found.ensures.same.matcher c.in_ok-found.ensures.same.text;
     matcher = c.in_ok-found.ensures.same.matcher;
     limit = c.in_ok-found.ensures.same.limit;
     spent = c.in_ok-found.ensures.spent.remaining;
@@ -82,7 +82,7 @@ returns-in_err-found c =
         text = failed.same.text;
         outcomes = same_outcomes c.args.self.now.matches c.next.new.self failed.same;
         groups = refl;
-        linear = ap factor_of failed.same.matcher;
+        linear = ap₂ factor_in failed.same.matcher failed.same.text;
         matcher = failed.same.matcher;
         limit = failed.same.limit;
         spent = failed.spent.remaining;
