@@ -16,6 +16,7 @@ use regress_front::parse::node_bound;
 use regress_front::types::Flags;
 use regress_front::unicode::Tables;
 use regress_front::util::code_points;
+use regress_found::push_within;
 use regress_match::{Group, Limits, Match as Found, Matcher, Nonlinear, groups};
 use regress_ucd::unicode_tables;
 use std::alloc::Global;
@@ -59,8 +60,9 @@ pub struct Regex {
 }
 
 impl Regex {
-    ghost use Rattle.std.specs.Prelude.{◌≡◌, ◌<◌, ◌≤◌, ◌↔◌, false, All, IsTrue, IfOk, IfErr, IfNone, IfSome, None, chars, is_none, is_some, length, map, min, option_map, string_bytes};
+    ghost use Rattle.std.specs.Prelude.{◌≡◌, ◌*◌, ◌<◌, ◌≤◌, ◌↔◌, false, All, IsTrue, IfOk, IfErr, IfNone, IfSome, None, chars, is_none, is_some, length, map, min, option_map, string_bytes};
     ghost use Rattle.std.specs.Arc.{arc_value};
+    ghost use Rattle.std.specs.Vec.{vec_capacity};
     ghost use Rattle.regress_front.specs.Bound.{HasAtMost};
     ghost use Rattle.regress_front.specs.Dialects.{flags_in_force};
     ghost use Rattle.regress_front.specs.Meaning.{setting_of as setting_under};
@@ -77,7 +79,7 @@ impl Regex {
     ghost use Rattle.regress_replace.specs.Order.{AreInOrder};
     ghost use Rattle.regress.specs.Costs.{AllCostLimit, CostsLimit, factor_in, factor_of, find_factor_in, find_factor_of, limit_of, linear_steps_of, matcher_of, nonlinear_of, step_limit_of};
     ghost use Rattle.regress.specs.Kept.{Keeps};
-    ghost use Rattle.regress.specs.Memory.{TablesNeedMore, instructions_of, memory_of};
+    ghost use Rattle.regress.specs.Memory.{AllNeedMore, TablesNeedMore, instructions_of, match_bytes, memory_of};
     ghost use Rattle.regress.specs.Compiled.{IsCompiledFromIn, IsCompiledIn, groups_of, outcomes_of, setting_of, source_of, tree_of, groups_in, match_of};
     ghost use Rattle.regress.specs.Unicode.{unicode_setting};
     ghost use Rattle.regress.specs.Source.{text_of};
@@ -418,7 +420,9 @@ impl Regex {
     /// - [`SearchError::OutOfSteps`] if the matches together take more than `steps` of [`Options`], or if
     ///   [`Regex::is_linear`], more than `linear_steps`; then never if [`Regex::steps_per_byte`] for each byte of the text, and
     ///   once more, is within them.
-    /// - [`SearchError::TooMuchMemory`] and [`SearchError::Memory`] as for [`Regex::find_at`].
+    /// - [`SearchError::TooMuchMemory`] as for [`Regex::find_at`], and if the list takes more bytes than `memory` of
+    ///   [`Options`]: 56 for each match, and 24 for each of its groups.
+    /// - [`SearchError::Memory`] if an allocation fails.
     pub fn find_all<'r>(
         &'r self,
         alloc: Global,
@@ -427,14 +431,16 @@ impl Regex {
         ensures all { IfOk result (λ all. AreAllMatches text.now (outcomes_of self.now text.now) (map match_of all.items)) }
         ensures inside { IfOk result (λ all. All (λ m. IsInside text.now (match_of m)) all.items) }
         ensures groups { IfOk result (λ all. All (λ m. groups_in m ≡ groups_of self.now) all.items) }
+        ensures held { IfOk result (λ all. match_bytes self.now * vec_capacity all ≤ memory_of self.now) }
         ensures linear { IfErr result (λ error. error ≡ OutOfSteps → factor_in self.now text.now ≡ None) }
         ensures costs { IfErr result (λ error. error ≡ OutOfSteps → AllCostLimit self.now text.now 0) }
-        ensures too_much { IfErr result (λ error. error ≡ TooMuchMemory → TablesNeedMore self.now text.now) }
+        ensures too_much { IfErr result (λ error. error ≡ TooMuchMemory → AllNeedMore self.now text.now) }
     {
+        let most = self.matcher.most_matches();
         let mut all = Vec::new(alloc);
         for found in self.find_iter(alloc, text) {
             let found = found?;
-            all.push(found)?;
+            push_within(&mut all, found, most)?;
         }
         Ok(all)
     }
@@ -446,7 +452,7 @@ impl Regex {
         ensures order { IfOk result (λ all. AreInOrder 0 all.items) }
         ensures linear { IfErr result (λ error. error ≡ OutOfSteps → factor_in self.now text.now ≡ None) }
         ensures costs { IfErr result (λ error. error ≡ OutOfSteps → AllCostLimit self.now text.now 0) }
-        ensures too_much { IfErr result (λ error. error ≡ TooMuchMemory → TablesNeedMore self.now text.now) }
+        ensures too_much { IfErr result (λ error. error ≡ TooMuchMemory → AllNeedMore self.now text.now) }
     {
         search::find_all(alloc, &self.matcher, text, self.steps)
     }

@@ -5,7 +5,7 @@ ghost use Rattle.regress_replace.specs.Expansion.{expansion};
 ghost use Rattle.regress_replace.specs.Order.{AreInOrder};
 ghost use Rattle.regress.specs.Compiled.{groups_of, outcomes_of, match_of};
 ghost use Rattle.regress.specs.Costs.{AllAreTooCostly, AllCostLimit, CostsLimit, IsTooCostly, factor_in, find_factor_in};
-ghost use Rattle.regress.specs.Memory.{TablesNeedMore};
+ghost use Rattle.regress.specs.Memory.{AllNeedMore, TablesNeedMore};
 ghost use Rattle.regress.specs.Replaced.{HasReturned, IsReplacedBy, ReplacesAll, ReplacesAllWith, ReplacesFirst, ReplacesFirstN, ReplacesFirstWith};
 ghost use Rattle.regress.specs.declared.failure.SearchError.TheVariants.{OutOfSteps, TooMuchMemory};
 
@@ -72,7 +72,7 @@ impl Regex {
             (λ m. expansion text.now m (groups_of self.now) template.now) (string_bytes out)) }
         ensures linear { IfErr result (λ error. error ≡ OutOfSteps → factor_in self.now text.now ≡ None) }
         ensures costs { IfErr result (λ error. error ≡ OutOfSteps → AllCostLimit self.now text.now 0) }
-        ensures too_much { IfErr result (λ error. error ≡ TooMuchMemory → TablesNeedMore self.now text.now) }
+        ensures too_much { IfErr result (λ error. error ≡ TooMuchMemory → AllNeedMore self.now text.now) }
     {
         let matches = self.all_matches(alloc, text)?;
         Ok(replace_matches(alloc, text, &matches, template, &self.groups)?)
@@ -102,7 +102,7 @@ impl Regex {
             (λ m. expansion text.now m (groups_of self.now) template.now) (string_bytes out.0) out.1) }
         ensures linear { IfErr result (λ error. error ≡ OutOfSteps → factor_in self.now text.now ≡ None) }
         ensures costs { IfErr result (λ error. error ≡ OutOfSteps → AllCostLimit self.now text.now 0) }
-        ensures too_much { IfErr result (λ error. error ≡ TooMuchMemory → TablesNeedMore self.now text.now) }
+        ensures too_much { IfErr result (λ error. error ≡ TooMuchMemory → AllNeedMore self.now text.now) }
     {
         let matches = self.first_matches(alloc, text, limit)?;
         let replaced = replace_matches(alloc, text, &matches, template, &self.groups)?;
@@ -168,7 +168,7 @@ impl Regex {
         requires { F.IsAlwaysCallable replacer }
         ensures replaced { IfOk result (λ out. ReplacesAllWith text.now (outcomes_of self.now text.now) F.FnMut replacer (string_bytes out)) }
         ensures failed { IfErr result (λ error. error ≡ OutOfSteps → AllAreTooCostly self.now text.now 0 ⊎ HasReturned F.FnMut replacer error) }
-        ensures too_much { IfErr result (λ error. error ≡ TooMuchMemory → TablesNeedMore self.now text.now ⊎ HasReturned F.FnMut replacer error) }
+        ensures too_much { IfErr result (λ error. error ≡ TooMuchMemory → AllNeedMore self.now text.now ⊎ HasReturned F.FnMut replacer error) }
     {
         let matches = self.find_all(alloc, text)?;
         replace_each(alloc, text, &matches, replacer)

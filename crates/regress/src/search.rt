@@ -4,7 +4,7 @@ ghost use Rattle.regress_front.specs.WellFormed.{IsWellFormed};
 ghost use Rattle.regress_match.specs.AllCosts.{CostsOfMatches};
 ghost use Rattle.regress_match.specs.Costs.{IsWithinFindCost};
 ghost use Rattle.regress_match.specs.Iterated.{iterated_matcher};
-ghost use Rattle.regress_match.specs.Memory.{TablesNeedMore};
+ghost use Rattle.regress_match.specs.Memory.{AllNeedMore, TablesNeedMore};
 ghost use Rattle.regress_found.specs.Found.{IsInside, Finds};
 ghost use Rattle.regress_match.specs.Matcher.{factor_in, find_factor_in, find_limit_in, limit_in};
 ghost use Rattle.regress_match.specs.Pattern.{matcher_outcomes, matcher_tree};
@@ -54,7 +54,7 @@ pub(crate) fn find_all(
     ensures order { IfOk result (λ all. AreInOrder 0 all.items) }
     ensures linear { IfErr result (λ error. error ≡ OutOfSteps → factor_in matcher.now text.now ≡ None) }
     ensures costs { IfErr result (λ error. error ≡ OutOfSteps → CostsOfMatches matcher.now text.now 0 (limit_in matcher.now steps)) }
-    ensures too_much { IfErr result (λ error. error ≡ TooMuchMemory → TablesNeedMore matcher.now text.now) }
+    ensures too_much { IfErr result (λ error. error ≡ TooMuchMemory → AllNeedMore matcher.now text.now) }
 {
     match matcher.find_all(alloc, text, steps)? {
         Some(all) => Ok(all),

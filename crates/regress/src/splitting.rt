@@ -7,12 +7,13 @@ ghost use Rattle.regress_replace.specs.Order.{AreInOrder};
 ghost use Rattle.regress_replace.specs.Split.{part_texts};
 ghost use Rattle.regress.specs.Compiled.{outcomes_of};
 ghost use Rattle.regress.specs.Costs.{AllCostLimit, factor_in};
-ghost use Rattle.regress.specs.Memory.{TablesNeedMore};
+ghost use Rattle.regress.specs.Memory.{AllNeedMore};
 ghost use Rattle.regress.specs.Replaced.{AreFirstMatches, ArePartSpans, IsSplit, IsSplitWithCaptures, IsSplitWithin};
 ghost use Rattle.regress.specs.declared.failure.SearchError.TheVariants.{OutOfSteps, TooMuchMemory};
 
 use crate::failure::SearchError;
 use crate::pattern::Regex;
+use regress_found::push_within;
 use regress_match::Match as Found;
 use regress_replace::{split_at_matches, split_spans, split_with_captures};
 use std::alloc::Global;
@@ -40,7 +41,7 @@ impl Regex {
             (map (λ (piece : Bor (List ℕ)). piece.now) pieces.items)) }
         ensures linear { IfErr result (λ error. error ≡ OutOfSteps → factor_in self.now text.now ≡ None) }
         ensures costs { IfErr result (λ error. error ≡ OutOfSteps → AllCostLimit self.now text.now 0) }
-        ensures too_much { IfErr result (λ error. error ≡ TooMuchMemory → TablesNeedMore self.now text.now) }
+        ensures too_much { IfErr result (λ error. error ≡ TooMuchMemory → AllNeedMore self.now text.now) }
     {
         let matches = self.all_matches(alloc, text)?;
         Ok(split_at_matches(alloc, text, &matches)?)
@@ -61,7 +62,7 @@ impl Regex {
             (map (λ (piece : Bor (List ℕ)). piece.now) pieces.items)) }
         ensures linear { IfErr result (λ error. error ≡ OutOfSteps → factor_in self.now text.now ≡ None) }
         ensures costs { IfErr result (λ error. error ≡ OutOfSteps → AllCostLimit self.now text.now 0) }
-        ensures too_much { IfErr result (λ error. error ≡ TooMuchMemory → TablesNeedMore self.now text.now) }
+        ensures too_much { IfErr result (λ error. error ≡ TooMuchMemory → AllNeedMore self.now text.now) }
     {
         if limit == 0 {
             return Ok(Vec::new(alloc));
@@ -95,7 +96,7 @@ impl Regex {
         ensures split { IfOk result (λ parts. IsSplitWithCaptures text.now (outcomes_of self.now text.now) limit (part_texts parts.items)) }
         ensures linear { IfErr result (λ error. error ≡ OutOfSteps → factor_in self.now text.now ≡ None) }
         ensures costs { IfErr result (λ error. error ≡ OutOfSteps → AllCostLimit self.now text.now 0) }
-        ensures too_much { IfErr result (λ error. error ≡ TooMuchMemory → TablesNeedMore self.now text.now) }
+        ensures too_much { IfErr result (λ error. error ≡ TooMuchMemory → AllNeedMore self.now text.now) }
     {
         let matches = self.all_matches(alloc, text)?;
         Ok(split_with_captures(alloc, text, &matches, limit)?)
@@ -115,7 +116,7 @@ impl Regex {
         ensures split { IfOk result (λ spans. ArePartSpans text.now (outcomes_of self.now text.now) limit spans.items) }
         ensures linear { IfErr result (λ error. error ≡ OutOfSteps → factor_in self.now text.now ≡ None) }
         ensures costs { IfErr result (λ error. error ≡ OutOfSteps → AllCostLimit self.now text.now 0) }
-        ensures too_much { IfErr result (λ error. error ≡ TooMuchMemory → TablesNeedMore self.now text.now) }
+        ensures too_much { IfErr result (λ error. error ≡ TooMuchMemory → AllNeedMore self.now text.now) }
     {
         let matches = self.all_matches(alloc, text)?;
         Ok(split_spans(alloc, text.len(), &matches, limit)?)
@@ -133,13 +134,14 @@ impl Regex {
         ensures order { IfOk result (λ first. AreInOrder 0 first.items) }
         ensures linear { IfErr result (λ error. error ≡ OutOfSteps → factor_in self.now text.now ≡ None) }
         ensures costs { IfErr result (λ error. error ≡ OutOfSteps → AllCostLimit self.now text.now 0) }
-        ensures too_much { IfErr result (λ error. error ≡ TooMuchMemory → TablesNeedMore self.now text.now) }
+        ensures too_much { IfErr result (λ error. error ≡ TooMuchMemory → AllNeedMore self.now text.now) }
     {
+        let most = self.matcher.most_matches();
         let mut first = Vec::new(alloc);
         let mut matches = self.find_iter(alloc, text);
         while first.len() < count {
             match matches.next() {
-                Some(found) => first.push(found?.found)?,
+                Some(found) => push_within(&mut first, found?.found, most)?,
                 None => return Ok(first),
             }
         }

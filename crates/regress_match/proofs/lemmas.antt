@@ -4,3 +4,4 @@ pub mod Iterated
 pub mod Searched
 pub mod Inside
 pub mod Matches
+pub mod Memory

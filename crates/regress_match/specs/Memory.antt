@@ -1,11 +1,14 @@
 -- The memory of searches with a matcher.
-use Rattle.std.specs.Prelude.{ℕ, ◌<◌, List}
+use Rattle.std.specs.Prelude.{ℕ, ◌+◌, ◌*◌, ◌<◌, ◌⊎◌, List, length}
 use Rattle.regress_program.specs.Compiled.{total}
-use Rattle.regress_code.specs.Code.{code_routines}
+use Rattle.regress_code.specs.Code.{code_groups, code_routines}
+use Rattle.regress_found.specs.Repeated.{AreMatches}
+use Rattle.regress_found.specs.declared.found.Match.{Match}
 use Rattle.regress_tables.specs.Memory.{table_bytes}
+use Rattle.regress_match.specs.Pattern.{matcher_outcomes}
 use Rattle.regress_match.specs.declared.matcher.Matcher.{Matcher}
 
--- the number of bytes that the tables of a search may take
+-- the number of bytes that the tables of a search may take, and a list of matches
 abbrev pub memory_of : Matcher → ℕ
 memory_of m = m.memory
 
@@ -16,3 +19,18 @@ instructions_of m = total (code_routines m.code)
 -- The tables of the text take more memory than they may.
 abbrev pub TablesNeedMore : Matcher → (text : List ℕ) → Type 0
 TablesNeedMore m text = memory_of m < table_bytes (instructions_of m) text
+
+-- the number of bytes that a match counts in a list
+abbrev pub match_bytes : Matcher → ℕ
+match_bytes m = 56 + 24 * code_groups m.code
+
+-- The matches from the start of the text up to one of them take more memory than a list may.
+pub record MatchesNeedMore (m : Matcher) (text : List ℕ) : Type 0 where
+  pub ms : List Match
+  pub to : ℕ
+  pub found : AreMatches text (matcher_outcomes m text) 0 to ms
+  pub more : memory_of m < match_bytes m * length ms
+
+-- A search for all matches takes more memory than it may: its tables, or the list of the matches.
+abbrev pub AllNeedMore : Matcher → (text : List ℕ) → Type 0
+AllNeedMore m text = TablesNeedMore m text ⊎ MatchesNeedMore m text

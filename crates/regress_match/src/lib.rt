@@ -8,6 +8,7 @@ mod limits;
 mod linear_time;
 mod matcher;
 mod matcher_matches;
+mod memory;
 pub mod names;
 mod nonlinear;
 mod one_match;

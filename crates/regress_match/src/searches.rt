@@ -1,5 +1,6 @@
 //! Searches with a matcher, in linear time or within a step limit.
 ghost use Rattle.std.specs.Prelude.{◌≡◌, ◌+◌, ◌*◌, ◌≤◌, IfErr, IfNone, IfOk, IfSome, IsNone, IsSome, length};
+ghost use Rattle.std.specs.Vec.{vec_capacity};
 ghost use Rattle.regress_tree.specs.WellFormed.{IsWellFormed};
 ghost use Rattle.regress_match.specs.Costs.{IsWithinFindCost, IsWithinMatchCost};
 ghost use Rattle.regress_match.specs.AllCosts.{CostsOfMatches};
@@ -7,7 +8,7 @@ ghost use Rattle.regress_match.specs.Iterated.{iterated_from, iterated_matcher, 
 ghost use Rattle.regress_found.specs.Results.{IsSearchResult, IfMatched, IsMatchResult};
 ghost use Rattle.regress_found.specs.Found.{IsInside};
 ghost use Rattle.regress_found.specs.declared.fault.MemoryFault.TheVariants.{TooMuchMemory};
-ghost use Rattle.regress_match.specs.Memory.{TablesNeedMore};
+ghost use Rattle.regress_match.specs.Memory.{AllNeedMore, TablesNeedMore, match_bytes, memory_of};
 ghost use Rattle.regress_match.specs.Matcher.{IsLimited, IsLinear, factor_in, find_factor_in, find_limit_in, limit_in};
 ghost use Rattle.regress_match.specs.Pattern.{matcher_outcomes, matcher_tree};
 ghost use Rattle.regress_found.specs.Repeated.{AreAllMatches};
@@ -15,7 +16,7 @@ ghost use Rattle.regress_found.specs.Repeated.{AreAllMatches};
 use crate::matcher::Matcher;
 use crate::matcher_matches::MatcherMatches;
 use regress_backtrack::{Cache, match_at};
-use regress_found::{Found, Match, MemoryFault, Outcome};
+use regress_found::{Found, Match, MemoryFault, Outcome, push_within};
 use std::alloc::{AllocError, Global};
 
 /// The least and the largest number of steps of backtracking for each byte of a text, and once more, after which tables are
@@ -207,7 +208,9 @@ impl Matcher {
     /// up to there cost at least its step limit, each as [`MatcherMatches::next`] states.
     ///
     /// # Errors
-    /// As for [`Matcher::find`].
+    /// - [`MemoryFault::TooMuchMemory`] as for [`Matcher::find`], and if the list would have more than
+    ///   [`Matcher::most_matches`].
+    /// - [`MemoryFault::Memory`] if an allocation fails.
     ///
     /// # Examples
     /// ```
@@ -235,13 +238,15 @@ impl Matcher {
         ensures all { IfOk result (λ found. IfSome found (λ all. AreAllMatches text.now (matcher_outcomes self.now text.now) all.items)) }
         ensures linear { IfOk result (λ found. IfSome (factor_in self.now text.now) (λ _. IsSome found)) }
         ensures costs { IfOk result (λ found. IsNone found → CostsOfMatches self.now text.now 0 (limit_in self.now steps)) }
-        ensures too_much { IfErr result (λ fault. fault ≡ TooMuchMemory → TablesNeedMore self.now text.now) }
+        ensures held { IfOk result (λ found. IfSome found (λ all. match_bytes self.now * vec_capacity all ≤ memory_of self.now)) }
+        ensures too_much { IfErr result (λ fault. fault ≡ TooMuchMemory → AllNeedMore self.now text.now) }
     {
+        let most = self.most_matches();
         let mut all = Vec::new(alloc);
         let mut matches = self.find_iter(text, 0, steps);
         loop {
             match matches.next(alloc)? {
-                Outcome::Matched(found) => all.push(found)?,
+                Outcome::Matched(found) => push_within(&mut all, found, most)?,
                 Outcome::NoMatch => return Ok(Some(all)),
                 Outcome::OutOfSteps => return Ok(None),
             }

@@ -1,7 +1,7 @@
 use Rattle.std.proofs.Common.{◌≡◌, None, refl}
 use Rattle.regress_match.specs.AllCosts.{CostsOfMatches}
 use Rattle.regress_match.specs.Matcher.{factor_in, limit_in}
-use Rattle.regress_match.specs.Memory.{TablesNeedMore}
+use Rattle.regress_match.specs.Memory.{AllNeedMore}
 use Rattle.regress_match.specs.Pattern.{matcher_outcomes, matcher_setting, matcher_tree}
 use Rattle.regress_replace.proofs.lemmas.Found.{AreAllMatches-in_order, AreAllMatches-inside}
 use Rattle.regress.proofs.FaultLemmas.{if_too_much, no_steps}
@@ -35,5 +35,5 @@ returns-in_err-all-clause-costs c =
 
 pub returns-in_err-all-clause-too_much : goal.returns-in_err-all-clause-too_much
 returns-in_err-all-clause-too_much c =
-    if_too_much (TablesNeedMore c.args.matcher.now c.args.text.now) c.from_residual.result c.in_err-all.field-0.0 c.from_residual.ensures
+    if_too_much (AllNeedMore c.args.matcher.now c.args.text.now) c.from_residual.result c.in_err-all.field-0.0 c.from_residual.ensures
     c.in_err-all.ensures.too_much

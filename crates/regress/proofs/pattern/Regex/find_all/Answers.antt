@@ -1,8 +1,11 @@
-use Rattle.std.proofs.Common.{Some, [], ◌∷◌, map, subst, sym, ◌∙◌}
+use Rattle.std.proofs.Common.{Some, inl, inr, [], ◌∷◌, map, arith, subst, sym, ◌∙◌}
 use Rattle.std.proofs.lemmas.Result.{err_from_is_err_and}
 use Rattle.std.proofs.lemmas.List.{map-append}
+use Rattle.std.specs.Vec.{vec_capacity}
+use Rattle.regress_match.proofs.lemmas.Memory.{is_held, matches_need_more}
 use Rattle.regress.specs.Costs.{factor_in}
 use Rattle.regress.specs.Compiled.{groups_of, outcomes_of, match_of}
+use Rattle.regress.specs.Memory.{match_bytes, memory_of}
 use Rattle.regress.specs.Searched.{Advances}
 use Rattle.regress.proofs.FoundLemmas.{HasFoundWith, all_found, begins_with, inside_each, one_more_with}
 use Rattle.regress.proofs.lemmas.Paid.{HasPaid, none_paid, one_more_paid, out_of_steps, too_much_memory}
@@ -22,6 +25,7 @@ loop-found-init c =
       paid = subst (λ ms. HasPaid c.args.self.now text 0 c.into_iter-found-iterator.result (map match_of ms)) (sym c.new-all.ensures.items)
           (subst (λ m. HasPaid c.args.self.now text 0 m []) (sym c.into_iter-found-iterator.ensures.into_iter_gives)
           (none_paid c.args.self.now text 0 c.find_iter-found-items.result made.matcher made.text made.limit made.remaining));
+      room = omega (arith, c.new-all.ensures.capacity);
     }
 
 pub loop-found-preserved : goal.loop-found-preserved
@@ -35,12 +39,13 @@ loop-found-preserved c =
     let step = subst (λ r. Advances now (Some r) new) c.in_ok-found.was c.in-Some.ensures.steps in
     let so_far = c.loop-found.invariant in
     record {
-      has = subst (λ ms. HasFoundWith text at groups factor new ms) (sym c.in_ok-push.ensures.items)
+      has = subst (λ ms. HasFoundWith text at groups factor new ms) (sym c.in_ok-push_within.ensures.items)
           (one_more_with text at groups factor now c.loop-found.all.items so_far.has new c.in_ok-found.found step);
-      paid = subst (λ ms. HasPaid c.args.self.now text 0 new (map match_of ms)) (sym c.in_ok-push.ensures.items)
+      paid = subst (λ ms. HasPaid c.args.self.now text 0 new (map match_of ms)) (sym c.in_ok-push_within.ensures.items)
           (subst (HasPaid c.args.self.now text 0 new) (sym (map-append match_of c.loop-found.all.items (c.in_ok-found.found ∷ [])))
           (one_more_paid c.args.self.now text 0 now (map match_of c.loop-found.all.items) so_far.paid so_far.has.found.found new
           c.in_ok-found.found step));
+      room = c.in_ok-push_within.ensures.within so_far.room;
     }
 
 pub returns-in_err-found-clause-costs : goal.returns-in_err-found-clause-costs
@@ -58,8 +63,16 @@ returns-in_err-found-clause-too_much c =
     let so_far = c.loop-found.invariant in
     let now = c.loop-found.found-iterator in
     let new = c.next.new.self in
-    rw p.1 (λ is. too_much_memory c.args.self.now c.args.text.now 0 now (map match_of c.loop-found.all.items) so_far.paid so_far.has.found.found new _
-    (subst (λ r. Advances now (Some r) new) c.in_err-found.was c.in-Some.ensures.steps) (sym p.2 ∙ is))
+    rw p.1 (λ is. inl (too_much_memory c.args.self.now c.args.text.now 0 now (map match_of c.loop-found.all.items) so_far.paid so_far.has.found.found new _
+    (subst (λ r. Advances now (Some r) new) c.in_err-found.was c.in-Some.ensures.steps) (sym p.2 ∙ is)))
+
+pub returns-in_err-push_within-clause-too_much : goal.returns-in_err-push_within-clause-too_much
+returns-in_err-push_within-clause-too_much c = ?
+
+pub returns-clause-held : goal.returns-clause-held
+returns-clause-held c =
+    is_held (match_bytes c.args.self.now) (memory_of c.args.self.now) c.most_matches-most.result (vec_capacity c.loop-found.all)
+    c.most_matches-most.ensures.within c.loop-found.invariant.room
 
 pub returns-clause-all : goal.returns-clause-all
 returns-clause-all c =

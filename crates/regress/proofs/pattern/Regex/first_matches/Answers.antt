@@ -1,4 +1,4 @@
-use Rattle.std.proofs.Common.{◌<◌, Some, length, subst, sym, ◌∙◌, arith}
+use Rattle.std.proofs.Common.{◌<◌, Some, inl, inr, [], ◌∷◌, ap, length-append, length, subst, sym, ◌∙◌, arith}
 use Rattle.std.proofs.lemmas.Result.{err_from_is_err_and}
 use Rattle.regress.specs.Compiled.{outcomes_of}
 use Rattle.regress.specs.Searched.{Advances}
@@ -16,11 +16,11 @@ loop-matches-preserved c =
     let step = subst (λ r. Advances now (Some r) new) c.in_ok-found-in-Some.was c.in-Some.ensures.steps in
     let so_far = c.loop-matches.invariant in
     record {
-      found = subst (λ ms. HasFound text at new ms) (sym c.in_ok-push-in-Some.ensures.items)
+      found = subst (λ ms. HasFound text at new ms) (sym c.in_ok-push_within-in-Some.ensures.items)
           (one_more text at now c.loop-matches.first.items so_far.found new c.in_ok-found-in-Some.field-0 step);
-      paid = subst (HasPaid c.args.self.now text 0 new) (sym c.in_ok-push-in-Some.ensures.items)
+      paid = subst (HasPaid c.args.self.now text 0 new) (sym c.in_ok-push_within-in-Some.ensures.items)
           (one_more_paid c.args.self.now text 0 now c.loop-matches.first.items so_far.paid so_far.found.found new c.in_ok-found-in-Some.field-0 step);
-      few = omega (arith, few, c.in_ok-push-in-Some.ensures.len);
+      few = omega (arith, few, ap length c.in_ok-push_within-in-Some.ensures.items, length-append c.loop-matches.first.items (_ ∷ []));
     }
 
 pub returns-in_err-found-in-Some-clause-costs : goal.returns-in_err-found-in-Some-clause-costs
@@ -38,8 +38,11 @@ returns-in_err-found-in-Some-clause-too_much c =
     let so_far = c.loop-matches.invariant in
     let now = c.loop-matches.matches in
     let new = c.next.new.self in
-    rw p.1 (λ is. too_much_memory c.args.self.now c.args.text.now 0 now c.loop-matches.first.items so_far.paid so_far.found.found new _
-    (subst (λ r. Advances now (Some r) new) c.in_err-found-in-Some.was c.in-Some.ensures.steps) (sym p.2 ∙ is))
+    rw p.1 (λ is. inl (too_much_memory c.args.self.now c.args.text.now 0 now c.loop-matches.first.items so_far.paid so_far.found.found new _
+    (subst (λ r. Advances now (Some r) new) c.in_err-found-in-Some.was c.in-Some.ensures.steps) (sym p.2 ∙ is)))
+
+pub returns-in_err-push_within-in-Some-clause-too_much : goal.returns-in_err-push_within-in-Some-clause-too_much
+returns-in_err-push_within-in-Some-clause-too_much c = ?
 
 pub returns-in-None-clause-first : goal.returns-in-None-clause-first
 returns-in-None-clause-first c =

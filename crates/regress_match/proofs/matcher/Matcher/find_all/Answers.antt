@@ -1,8 +1,13 @@
-use Rattle.std.proofs.Common.{◌≡◌, ℕ, Some, None, IfNone, IfSome, IsSome, ap₂, arith, refl, subst, sym}
+use Rattle.std.proofs.Common.{◌≡◌, ℕ, Some, None, IfNone, IfSome, IsSome, inr, ap₂, arith, refl, subst, sym, ◌∙◌}
+use Rattle.std.specs.Vec.{vec_capacity}
+use Rattle.std.proofs.lemmas.Result.{err_from_is_err_and}
+use Rattle.regress_match.specs.Iterated.{iterated_from}
 use Rattle.regress_match.specs.Matcher.{factor_in, limit_in}
+use Rattle.regress_match.specs.Memory.{match_bytes, memory_of}
 use Rattle.regress_match.proofs.IterationLemmas.{all_found, one_more}
 use Rattle.regress_match.proofs.PaidLemmas.{costs_of_matches, one_more_paid}
 use Rattle.regress_match.proofs.lemmas.Iterated.{remaining-falls}
+use Rattle.regress_match.proofs.lemmas.Memory.{is_held, matches_need_more}
 use Rattle.regress_match.proofs.MatcherLemmas.{if_some, map_some}
 use Rattle.regress_match.proofs.matcher.Matcher.find_all.Goals as goal
 
@@ -16,6 +21,7 @@ loop-matches-init c = record {
     };
     paid = λ outs costs are. omega (arith, c.find_iter-matches.ensures.remaining);
   });
+  room = omega (arith, c.new-all.ensures.capacity);
   limit = c.find_iter-matches.ensures.limit;
 }
 
@@ -30,10 +36,11 @@ loop-matches-preserved c =
     let next = c.in_ok-found.ensures in
     let so_far = c.loop-matches.invariant in
     record {
-      has = rw c.in_ok-push-in-Matched.ensures.items
+      has = rw c.in_ok-push_within-in-Matched.ensures.items
           (one_more_paid _ _ now c.next.new.self c.loop-matches.all.items so_far.has next.costs c.in-Matched.found
           (one_more _ _ now c.loop-matches.all.items so_far.has.found c.next.new.self c.in-Matched.found
           (rw c.in-Matched.is at next.finds) (rw c.in-Matched.is at next.goes_on) next.same) next.same);
+      room = c.in_ok-push_within-in-Matched.ensures.within so_far.room;
       limit = subst (λ k. IfNone (factor_in c.args.self.now c.args.text.now) (k ≡ limit_in c.args.self.now c.args.steps)) (sym next.same.limit) so_far.limit;
     }
 
@@ -42,6 +49,9 @@ returns-in-NoMatch c = record {
   all = all_found _ _ c.loop-matches.matches c.loop-matches.all.items c.loop-matches.invariant.has.found (rw c.in-NoMatch.is at c.in_ok-found.ensures.finds);
   linear = if_some (factor_in c.args.self.now c.args.text.now) (IsSome (Some c.loop-matches.all)) refl;
   costs = λ none. absurd (cc);
+  held =
+      is_held (match_bytes c.args.self.now) (memory_of c.args.self.now) c.most_matches-most.result (vec_capacity c.loop-matches.all)
+      c.most_matches-most.ensures.within c.loop-matches.invariant.room;
   too_much = tt;
 }
 
@@ -57,3 +67,14 @@ returns-in-OutOfSteps-clause-costs c = λ _.
     let next = c.in_ok-found.ensures in
     costs_of_matches c.args.self.now c.args.text.now c.loop-matches.matches c.next.new.self c.loop-matches.all.items so_far.has next.costs (limit_in c.args.self.now c.args.steps)
     so_far.limit (rw c.in-OutOfSteps.is at next.linear) (rw c.in-OutOfSteps.is at next.limited)
+
+pub returns-in_err-push_within-in-Matched-clause-too_much : goal.returns-in_err-push_within-in-Matched-clause-too_much
+returns-in_err-push_within-in-Matched-clause-too_much c =
+    let now = c.loop-matches.matches in
+    let next = c.in_ok-found.ensures in
+    let found =
+    one_more _ _ now c.loop-matches.all.items c.loop-matches.invariant.has.found c.next.new.self c.in-Matched.found
+    (rw c.in-Matched.is at next.finds) (rw c.in-Matched.is at next.goes_on) next.same in
+    let p = err_from_is_err_and c.from_residual-in_err-push_within-in-Matched.result c.from_residual-in_err-push_within-in-Matched.ensures.1 in
+    rw p.1 (λ is. inr (matches_need_more c.args.self.now c.args.text.now (iterated_from c.next.new.self) c.loop-matches.all.items c.in-Matched.found
+    found.found c.most_matches-most.result (c.in_err-push_within-in-Matched.ensures.too_much (sym p.2 ∙ is)) c.most_matches-most.ensures.most))
