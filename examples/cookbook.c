@@ -12,7 +12,7 @@ static uint32_t compile(const char *pattern, uint32_t flags, regress_limits limi
     return regress_compile((const uint8_t *)pattern, strlen(pattern), flags, &limits, regex, &kind, &position);
 }
 
-static const regress_limits defaults = {0, 0, 0, 0, 0};
+static const regress_limits defaults = {0};
 
 static int is_email(const char *text) {
     regress_regex email;

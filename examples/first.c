@@ -6,7 +6,7 @@
 
 int main(void) {
     const char *pattern = "(\\d{4})-(\\d\\d)-(\\d\\d)", *text = "from 2024-05-17 to 2025-01-02";
-    regress_limits limits = {0, 0, 0, 0, 0}; /* the default of each */
+    regress_limits limits = {0}; /* the default of each */
     regress_regex date;
     uint32_t kind;
     size_t position, needed, spans[8]; /* the start and the end of the match and of three groups */

@@ -87,7 +87,7 @@ static void next_years(const regress_regex *date) {
 
 /* Searches for a pattern of a user: within limits, and with a message for each error. */
 static void search_for_user(const char *pattern, const char *searched) {
-    const regress_limits limits = {1000000, 10000, 10000, 0, 0};
+    const regress_limits limits = {.steps = 1000000, .nodes = 10000, .instructions = 10000};
     regress_regex regex = compiled(pattern, &limits);
     if (!regex.inside) {
         return;

@@ -46,7 +46,7 @@ extern "C" {
 /* The version of this header, and that of the calls: it grows when a call, a status or a number changes its meaning,
    and not when one is added. */
 #define REGRESS_VERSION "0.1.0"
-#define REGRESS_ABI_VERSION 5u
+#define REGRESS_ABI_VERSION 6u
 
 /* A handle to a compiled regular expression. `inside` is the library's own, and NULL in a handle that is zero. */
 typedef struct regress_regex {
@@ -103,15 +103,19 @@ typedef struct regress_searcher {
    - linear_instructions: the number of instructions up to which a search may be linear, where one character always counts
      about m / 64 times; by default a thousand. It takes up to two bits of memory for each instruction and byte of the
      text.
-   - memory: the bytes that the tables of one search may take, by default 256 MiB: a quarter of a byte for each
-     instruction, and 8 bytes, for each byte of the text, and once more. A lookaround takes up to 4 bytes more for each
-     byte of the text, which do not count. */
+   - memory: by default 256 MiB: the bytes that the tables of one search may take, a quarter of a byte for each
+     instruction, and 8 bytes, for each byte of the text, and once more; and those of its backtrack stack, and of one
+     more for each level of nested lookarounds. A lookaround takes up to 4 bytes more for each byte of the text, which do
+     not count.
+   - linear_steps: the steps of a search that is linear. By default there is no limit. If steps_per_byte times the length
+     of the text and 1 exceeds it, the search only backtracks, within that number of steps. */
 typedef struct regress_limits {
     uint64_t steps;
     size_t nodes;
     size_t instructions;
     size_t linear_instructions;
     size_t memory;
+    uint64_t linear_steps;
 } regress_limits;
 
 /* What a group without a capture has as its start and its end. */

@@ -42,7 +42,7 @@ int main(int count, char **arguments) {
         return 2;
     }
     regress_regex regex;
-    regress_limits limits = {0, 0, 0, 0, 0};
+    regress_limits limits = {0};
     uint32_t kind;
     size_t position;
     const char *pattern = arguments[1];

@@ -66,7 +66,7 @@ static void escape(const uint8_t *text, size_t most, uint32_t flags) {
     size_t needed, position, spans[2];
     uint32_t kind;
     regress_regex regex = {NULL};
-    regress_limits limits = {0, 0, 0, 0, 0};
+    regress_limits limits = {0};
     uint32_t status = regress_escape(text, most, out, sizeof out, &needed);
     if (status == REGRESS_BAD_INPUT || (status == REGRESS_ROOM && needed <= 4 * most)) {
         return;
@@ -158,7 +158,7 @@ int LLVMFuzzerTestOneInput(const uint8_t *data, size_t size) {
     uint32_t kind;
     parse(pattern, length, bits | (is_regress ? 0 : REGRESS_FRONT_DIALECT_ECMA));
     regress_regex regex = {NULL};
-    regress_limits limits = {100000, 10000, 0, 0, 0};
+    regress_limits limits = {100000, 10000, 0, 0, 0, 0};
     uint32_t status = regress_compile(pattern, length, flags, &limits, &regex, &kind, &position);
     if (status == REGRESS_SYNTAX) {
         static uint8_t message[128];

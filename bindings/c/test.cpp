@@ -10,7 +10,7 @@ static bool finds() {
     const char pattern[] = "(b)|c";
     const uint8_t text[] = {'a', 'b', 'c'};
     regress_regex regex;
-    regress_limits limits = {0, 0, 0, 0, 0};
+    regress_limits limits = {};
     uint32_t kind;
     size_t position, needed, spans[4];
     if (regress_compile(reinterpret_cast<const uint8_t *>(pattern), std::strlen(pattern), REGRESS_SMALL_TABLE, &limits,

@@ -52,8 +52,8 @@ static size_t spans[ROOM + 1];
 static size_t needed, position;
 static uint32_t kind;
 
-static const regress_limits default_limits = {0, 0, 0, 0, 0};
-static const regress_limits one_step = {1, 0, 0, 0, 0};
+static const regress_limits default_limits = {0, 0, 0, 0, 0, 0};
+static const regress_limits one_step = {1, 0, 0, 0, 0, 0};
 
 static uint32_t compiled_within(const regress_limits *limits, const char *pattern, regress_regex *regex) {
     return regress_compile((const uint8_t *)pattern, strlen(pattern), SMALL, limits, regex, &kind, &position);
@@ -674,8 +674,9 @@ static void errors(void) {
 
 static void limits(void) {
     regress_regex regex;
-    regress_limits nodes = {0, 5, 0, 0, 0}, instructions = {0, 0, 5, 0, 0}, tables = {1, 0, 0, 1, 0},
-                   memory = {0, 0, 0, 0, 100};
+    regress_limits nodes = {0, 5, 0, 0, 0, 0}, instructions = {0, 0, 5, 0, 0, 0}, tables = {1, 0, 0, 1, 0, 0},
+                   memory = {0, 0, 0, 0, 100, 0}, linear = {0, 0, 0, 0, 0, 10};
+    char many[201] = {0};
     CHECK(compiled_within(&nodes, "ab", &regex) == REGRESS_OK);
     regress_free(&regex);
     CHECK(compiled_within(&nodes, "abc", &regex) == REGRESS_TOO_LARGE);
@@ -703,6 +704,27 @@ static void limits(void) {
     memory.memory = 1000;
     CHECK(compiled_within(&memory, "(a*)*b", &regex) == REGRESS_OK);
     CHECK(found(&regex, "aaaaaaaaaaaaaaaaaaaaaaaaaaaaaaaa", 0, ROOM) == REGRESS_NO_MATCH);
+    regress_free(&regex);
+    /* a linear search may have a limit of steps, too */
+    CHECK(compiled_within(&linear, "(a*)*b", &regex) == REGRESS_OK);
+    CHECK(regress_is_linear(&regex) == 1);
+    CHECK(found(&regex, "b", 0, ROOM) == REGRESS_OK && ARE(0, 1, REGRESS_UNSET, REGRESS_UNSET));
+    CHECK(found(&regex, "aaaaaaaaaaaaaaaaaaaaaaaaaaaaaaaa", 0, ROOM) == REGRESS_OUT_OF_STEPS && needed == 0
+          && spans[0] == MARK);
+    CHECK(found_all(&regex, "aaaaaaaaaaaaaaaaaaaaaaaaaaaaaaaa", ROOM) == REGRESS_OUT_OF_STEPS);
+    linear.linear_steps = 33 * regress_steps_per_byte(&regex);
+    regress_free(&regex);
+    CHECK(compiled_within(&linear, "(a*)*b", &regex) == REGRESS_OK);
+    CHECK(found(&regex, "aaaaaaaaaaaaaaaaaaaaaaaaaaaaaaaa", 0, ROOM) == REGRESS_NO_MATCH);
+    regress_free(&regex);
+    /* a backtrack stack that is full */
+    memory.memory = 4000;
+    CHECK(compiled_within(&memory, "(?:a|b|(c))*\\1d", &regex) == REGRESS_OK);
+    CHECK(regress_find_steps_per_byte(&regex) == 0);
+    CHECK(found(&regex, "aaad", 0, ROOM) == REGRESS_OK && ARE(0, 4, REGRESS_UNSET, REGRESS_UNSET));
+    memset(many, 'a', sizeof many - 1);
+    CHECK(found(&regex, many, 0, ROOM) == REGRESS_TOO_MUCH_MEMORY && needed == 0 && spans[0] == MARK);
+    CHECK(found_all(&regex, many, ROOM) == REGRESS_TOO_MUCH_MEMORY);
     regress_free(&regex);
     CHECK(compiled("(a*)*b", SMALL, &regex) == REGRESS_OK);
     CHECK(regress_is_linear(&regex) == 1 && regress_steps_per_byte(&regex) > 0);

@@ -492,6 +492,16 @@ class Calls(unittest.TestCase):
             with self.assertRaises(regress.error) as caught:
                 call('a' * 1000)
             self.assertEqual(caught.exception.kind, 'TooMuchMemory')
+        # A linear search may have a limit of steps, too.
+        limited = regress.compile('(a*)*b', linear_steps=10)
+        self.assertTrue(limited.is_linear)
+        self.assertEqual(limited.search('b').span(), (0, 1))
+        for call in (limited.search, limited.findall, limited.split, lambda text: limited.sub('', text)):
+            with self.assertRaises(regress.error) as caught:
+                call('a' * 1000)
+            self.assertEqual(caught.exception.kind, 'OutOfSteps')
+        self.assertIsNone(regress.compile('(a*)*b', linear_steps=1001 * limited.steps_per_byte).search('a' * 1000))
+        self.assertEqual(pickle.loads(pickle.dumps(limited)), limited)
         large = '(?:(?:ab){400}){700}'
         with self.assertRaises(regress.error) as caught:
             regress.compile(large)

@@ -59,7 +59,7 @@ __all__ = ['compile', 'search', 'match', 'fullmatch', 'finditer', 'findall', 'su
 __version__ = '0.1.0'
 
 _OK, _NO_MATCH, _MEMORY, _ROOM, _BAD_INPUT, _SYNTAX, _TOO_LARGE, _OUT_OF_STEPS, _TOO_MUCH_MEMORY = range(9)
-_ABI_VERSION = 5
+_ABI_VERSION = 6
 
 # Why searches are not linear, by the numbers of the library.
 _NONLINEAR = None, 'back-reference', 'capturing-lookaround', 'too-many-instructions'
@@ -125,7 +125,7 @@ class error(Exception):
 
 
 def compile(pattern, flags='', *, dialect='ecma', steps=None, nodes=None, instructions=None, linear_instructions=None,
-            memory=None):
+            memory=None, linear_steps=None):
     """Compiles a pattern to a Pattern.
 
     flags are JavaScript's letters, or constants such as I. A Pattern is returned as it is, if no flags are given.
@@ -142,7 +142,10 @@ def compile(pattern, flags='', *, dialect='ecma', steps=None, nodes=None, instru
                       instruction and byte of the text
         memory        the bytes that the tables of one search may take, 256 MiB by default: a quarter of a byte for each
                       instruction, and 8 bytes, for each byte of the text in UTF-8, and once more; 4 bytes more for each
-                      lookaround do not count
+                      lookaround do not count. The same limit holds for the backtrack stack, and for one more for each
+                      level of nested lookarounds
+        linear_steps  the steps of one search that takes linear time; no limit by default. If steps_per_byte times the
+                      length of the text in UTF-8 and 1 exceeds it, the search only backtracks, within that number
 
     Raises error if the pattern or the flags are rejected.
     """
@@ -150,7 +153,7 @@ def compile(pattern, flags='', *, dialect='ecma', steps=None, nodes=None, instru
         if flags:
             raise ValueError('flags are not allowed with a compiled pattern')
         return pattern
-    return Pattern(pattern, flags, steps, nodes, instructions, linear_instructions, memory, dialect)
+    return Pattern(pattern, flags, steps, nodes, instructions, linear_instructions, memory, dialect, linear_steps)
 
 
 # The patterns of the calls below.
@@ -305,13 +308,13 @@ class Pattern:
     """
 
     def __init__(self, pattern, flags='', steps=None, nodes=None, instructions=None, linear_instructions=None,
-                 memory=None, dialect='ecma'):
+                 memory=None, dialect='ecma', linear_steps=None):
         self.pattern = _pattern_text(pattern)
         self.flags = _letters(flags, self.pattern)
         if dialect not in _DIALECTS:
             raise ValueError('a dialect is ecma or regress, not %r' % (dialect,))
         self.dialect = dialect
-        self._limits = (steps, nodes, instructions, linear_instructions, memory)
+        self._limits = (steps, nodes, instructions, linear_instructions, memory, linear_steps)
         self._program = program = _Program(_utf8(self.pattern), self.flags, dialect, self._limits, self.pattern)
         # The call of fullmatch, after the first.
         self._full = None
@@ -494,7 +497,7 @@ class Pattern:
         return self
 
     def __reduce__(self):
-        return Pattern, (self.pattern, self.flags, *self._limits, self.dialect)
+        return Pattern, (self.pattern, self.flags, *self._limits[:-1], self.dialect, self._limits[-1])
 
 
 class Match:
@@ -625,7 +628,8 @@ class _Limits(ctypes.Structure):
     """The regress_limits of regress.h. 0 is the default of each."""
 
     _fields_ = [('steps', ctypes.c_uint64), ('nodes', ctypes.c_size_t), ('instructions', ctypes.c_size_t),
-                ('linear_instructions', ctypes.c_size_t), ('memory', ctypes.c_size_t)]
+                ('linear_instructions', ctypes.c_size_t), ('memory', ctypes.c_size_t),
+                ('linear_steps', ctypes.c_uint64)]
 
 
 class _Difference(ctypes.Structure):

@@ -18,7 +18,7 @@ pub(crate) const TOO_MUCH_MEMORY: u32 = 8;
 pub(crate) const UNSET: usize = usize::MAX;
 
 /// The version of the calls that this crate makes.
-const ABI_VERSION: u32 = 5;
+const ABI_VERSION: u32 = 6;
 
 /// A `regress_regex` of the library.
 #[repr(C)]
@@ -46,6 +46,7 @@ pub(crate) struct Limits {
     pub(crate) instructions: usize,
     pub(crate) linear_instructions: usize,
     pub(crate) memory: usize,
+    pub(crate) linear_steps: u64,
 }
 
 /// A `regress_difference` of the library.

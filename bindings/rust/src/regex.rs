@@ -90,9 +90,13 @@ pub struct Options {
     /// By default a thousand. It takes up to two bits of memory for each instruction and byte of the text.
     pub linear_instructions: usize,
     /// The memory in bytes that the tables of one search may take: a quarter of a byte for each instruction, and 8
-    /// bytes, for each byte of the text, and once more. By default 256 MiB. A lookaround takes up to 4 bytes more for
-    /// each byte of the text, which do not count.
+    /// bytes, for each byte of the text, and once more. The same limit holds for its backtrack stack, and for one more for
+    /// each level of nested lookarounds. By default 256 MiB. A lookaround takes up to 4 bytes more for each byte of the text, which do not count.
     pub memory: usize,
+    /// The number of steps that one search may take if it takes linear time. By default `None`: there is no limit. If
+    /// [`Regex::steps_per_byte`] times the length of the text and 1 exceeds it, the search only backtracks, within that
+    /// number of steps. `Some(0)` is `None`.
+    pub linear_steps: Option<u64>,
     pub table: Table,
 }
 
@@ -105,6 +109,7 @@ impl Default for Options {
             instructions: 250_000,
             linear_instructions: 1_000,
             memory: 256 << 20,
+            linear_steps: None,
             table: Table::Whole,
         }
     }
@@ -144,6 +149,7 @@ impl Regex {
             instructions: options.instructions,
             linear_instructions: options.linear_instructions,
             memory: options.memory,
+            linear_steps: options.linear_steps.unwrap_or(0),
         };
         let (bits, dialect) = (bits(flags, options.table), options.dialect);
         let handle = ffi::compile(pattern, bits | dialect.compile_bits(), &limits)

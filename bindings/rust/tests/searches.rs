@@ -460,7 +460,7 @@ fn limits_are_kept() {
 }
 
 #[test]
-fn linear_searches_have_no_step_limit() {
+fn linear_searches_have_no_limit_of_steps_by_default() {
     let within = |pattern, options| Regex::with_options(pattern, Flags::default(), options);
     let steps = Options {
         steps: 1,
@@ -494,6 +494,26 @@ fn linear_searches_have_no_step_limit() {
         SearchError::TooMuchMemory
     );
     let linear = LinearRegex::with_options("(a*)*b", Flags::default(), memory).unwrap();
+    assert!(!linear.is_match(&text));
+    let limited = |linear_steps| {
+        let options = Options {
+            linear_steps: Some(linear_steps),
+            ..Options::default()
+        };
+        within("(a*)*b", options).unwrap()
+    };
+    let regex = limited(10);
+    assert!(regex.is_linear());
+    assert_eq!(regex.is_match(&text), Err(SearchError::OutOfSteps));
+    assert_eq!(regex.find_all(&text).unwrap_err(), SearchError::OutOfSteps);
+    assert_eq!(regex.is_match("b"), Ok(true));
+    let enough = 1001 * regex.steps_per_byte().unwrap();
+    assert_eq!(limited(enough).is_match(&text), Ok(false));
+    let one = Options {
+        linear_steps: Some(1),
+        ..Options::default()
+    };
+    let linear = LinearRegex::with_options("(a*)*b", Flags::default(), one).unwrap();
     assert!(!linear.is_match(&text));
     let regex = Regex::new(r"(a)\1").unwrap();
     assert!(!regex.is_linear() && !regex.is_find_linear());

@@ -22,12 +22,12 @@ use regress_capi::searches::{self, Searched};
 use regress_capi::texts;
 use std::alloc::Global;
 
-const ABI_VERSION: u32 = 5;
+const ABI_VERSION: u32 = 6;
 
 /// Returns the version of these functions.
 #[unsafe(no_mangle)]
 pub extern "C" fn regress_abi_version() -> u32
-    ensures { result ≡ 5 }
+    ensures { result ≡ 6 }
 {
     ABI_VERSION
 }

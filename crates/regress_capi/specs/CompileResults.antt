@@ -25,6 +25,7 @@ options_of dialect l = record {
   instructions = or_default l.instructions default_options.instructions;
   linear_instructions = or_default l.linear_instructions default_options.linear_instructions;
   memory = or_default l.memory default_options.memory;
+  linear_steps = if l.linear_steps == 0 then default_options.linear_steps else Some l.linear_steps;
 }
 
 -- The regular expression is compiled from this text, in the dialect and within the limits of the options, and searches

@@ -12,6 +12,7 @@ pub struct Limits {
     pub instructions: usize,
     pub linear_instructions: usize,
     pub memory: usize,
+    pub linear_steps: u64,
 }
 
 impl Limits {
@@ -31,6 +32,11 @@ impl Limits {
             instructions: or_default(self.instructions, default.instructions),
             linear_instructions: or_default(self.linear_instructions, default.linear_instructions),
             memory: or_default(self.memory, default.memory),
+            linear_steps: if self.linear_steps == 0 {
+                default.linear_steps
+            } else {
+                Some(self.linear_steps)
+            },
         }
     }
 }

@@ -43,7 +43,7 @@ impl LinearRegex {
         LinearRegex::with_options(pattern, flags.flags()?, Options::default())
     }
 
-    /// Compiles a pattern with flags, within limits. [`Options::memory`] does not apply.
+    /// Compiles a pattern with flags, within limits. [`Options::memory`] and [`Options::linear_steps`] do not apply.
     ///
     /// # Errors
     /// As for [`LinearRegex::new`].
@@ -54,6 +54,7 @@ impl LinearRegex {
     ) -> Result<LinearRegex, Error> {
         let unlimited = Options {
             memory: usize::MAX,
+            linear_steps: None,
             ..options
         };
         Regex::with_options(pattern, flags, unlimited)?.try_into()
