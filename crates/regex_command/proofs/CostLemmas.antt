@@ -1,6 +1,6 @@
 -- The search of `explain` is out of steps only if its pattern is costly, and too large only if that is.
 use Rattle.std.proofs.Common.{◌≡◌, ℕ, List, None, chars, inr, refl}
-use Rattle.regress.specs.Costs.{AllCostLimit, factor_of}
+use Rattle.regress.specs.Costs.{AllCostLimit, factor_in}
 use Rattle.regress.specs.declared.failure.SearchError.{SearchError}
 use Rattle.regress.specs.declared.failure.SearchError.TheVariants as errors
 use Rattle.regress.specs.declared.pattern.Regex.{Regex}
@@ -15,7 +15,7 @@ use Rattle.regex_lines.specs.declared.failure.Failure.TheVariants.{Argument, Mem
 module _ (r : Regex) (text : List ℕ) where
   -- a search of `explain`
   pub costly_find : (dialect : Dialect) (setting : Setting) (source : List ℕ) → IsOwnIn dialect setting source r → (error : SearchError) →
-      (error ≡ errors.OutOfSteps → factor_of r ≡ None) → (error ≡ errors.OutOfSteps → AllCostLimit r text 0) →
+      (error ≡ errors.OutOfSteps → factor_in r text ≡ None) → (error ≡ errors.OutOfSteps → AllCostLimit r text 0) →
       MayFailToFind dialect setting source (search_failure error)
   costly_find dialect setting source own errors.Memory linear costs = tt
   costly_find dialect setting source own errors.OutOfSteps linear costs =

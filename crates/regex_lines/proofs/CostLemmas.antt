@@ -1,7 +1,7 @@
 -- A search is out of steps only if its pattern is costly.
 use Rattle.std.proofs.Common.{◌≡◌, ℕ, List, None, inl, inr, refl}
 use Rattle.std.specs.Prelude.{Result, Ok, Err, IfErr}
-use Rattle.regress.specs.Costs.{AllCostLimit, CostsLimit, factor_of}
+use Rattle.regress.specs.Costs.{AllCostLimit, CostsLimit, factor_in}
 use Rattle.regress.specs.declared.failure.SearchError.{SearchError}
 use Rattle.regress.specs.declared.failure.SearchError.TheVariants as errors
 use Rattle.regress.specs.declared.pattern.Regex.{Regex}
@@ -9,19 +9,19 @@ use Rattle.regex_lines.specs.Ending.{IsCostly, IsSearchError, IsInputFailure, Is
 
 module _ (r : Regex) (text : List ℕ) where
   -- a search for all matches
-  pub costly_error : (error : SearchError) → (error ≡ errors.OutOfSteps → factor_of r ≡ None) → (error ≡ errors.OutOfSteps → AllCostLimit r text 0) →
+  pub costly_error : (error : SearchError) → (error ≡ errors.OutOfSteps → factor_in r text ≡ None) → (error ≡ errors.OutOfSteps → AllCostLimit r text 0) →
       IsSearchError (IsCostly r) error
   costly_error errors.Memory linear costs = tt
   costly_error errors.OutOfSteps linear costs = record { linear = linear refl; text = text; costs = inr (costs refl) }
   costly_error errors.TooMuchMemory linear costs = tt
 
-  pub costly_all : {X : Type 0} (result : Result X SearchError) → IfErr result (λ error. error ≡ errors.OutOfSteps → factor_of r ≡ None) →
+  pub costly_all : {X : Type 0} (result : Result X SearchError) → IfErr result (λ error. error ≡ errors.OutOfSteps → factor_in r text ≡ None) →
       IfErr result (λ error. error ≡ errors.OutOfSteps → AllCostLimit r text 0) → IfErr result (IsSearchError (IsCostly r))
   costly_all (Ok x) linear costs = tt
   costly_all (Err error) linear costs = costly_error error linear costs
 
   -- a search for one match
-  pub costly_one : {X : Type 0} (result : Result X SearchError) → IfErr result (λ error. error ≡ errors.OutOfSteps → factor_of r ≡ None) →
+  pub costly_one : {X : Type 0} (result : Result X SearchError) → IfErr result (λ error. error ≡ errors.OutOfSteps → factor_in r text ≡ None) →
       IfErr result (λ error. error ≡ errors.OutOfSteps → CostsLimit r text 0) → IfErr result (IsSearchError (IsCostly r))
   costly_one (Ok x) linear costs = tt
   costly_one (Err errors.Memory) linear costs = tt

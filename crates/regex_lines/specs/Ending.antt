@@ -1,7 +1,7 @@
 -- How a run of the program ends.
 use Rattle.std.specs.Prelude.{◌≡◌, ◌⊎◌, ⊤, ℕ, Bool, false, List, None, Result, Ok, Err, chars}
 use Rattle.regress.specs.Compiled.{IsCompiledIn}
-use Rattle.regress.specs.Costs.{AllCostLimit, CostsLimit, factor_of}
+use Rattle.regress.specs.Costs.{AllCostLimit, CostsLimit, factor_in}
 use Rattle.regress.specs.Kept.{Keeps}
 use Rattle.regress.specs.Limits.{default_options}
 use Rattle.regress.specs.Unicode.{unicode_setting}
@@ -40,11 +40,11 @@ options_in dialect = record default_options { dialect = dialect }
 abbrev pub setting_in : Dialect → Flags → Setting
 setting_in dialect flags = unicode_setting (flags_in_force dialect flags)
 
--- Searches with the regular expression are not known to take linear time, and in some text they cost at least the step
--- limit: one search, or those for all matches.
+-- There is a text that searches with the regular expression are not known to take linear time in, where they cost at least
+-- the step limit: one search, or those for all matches.
 pub record IsCostly (r : Regex) : Type 0 where
-  pub linear : factor_of r ≡ None
   pub text : List ℕ
+  pub linear : factor_in r text ≡ None
   pub costs : CostsLimit r text 0 ⊎ AllCostLimit r text 0
 
 module _ (dialect : Dialect) where

@@ -2,7 +2,7 @@
 ghost use Rattle.std.specs.Prelude.{◌≡◌, IfSome, IsUtf8, None, length};
 ghost use Rattle.regress.specs.Compiled.{groups_of, outcomes_of};
 ghost use Rattle.regress.specs.Costs.{AllAreTooCostly};
-ghost use Rattle.regress.specs.Memory.{TablesNeedMore};
+ghost use Rattle.regress.specs.Memory.{AllNeedMore, TablesNeedMore};
 ghost use Rattle.regress_capi.specs.ListResults.{ListResult, Returns, left, width_of};
 ghost use Rattle.regress_capi.specs.PartResults.{AreEndsOfParts};
 ghost use Rattle.regress_capi.specs.Spans.{AreEndsOfAll};
@@ -62,7 +62,7 @@ pub extern "C" fn regress_split_raw(
     requires { handle.old.value ≡ None → ⊥ }
     ensures same { handle.new.value ≡ handle.old.value }
     ensures status { IfSome handle.old.value (λ regex. ListResult (IsUtf8 text.now) (AreEndsOfParts regex text.now limit) 2
-        (AllAreTooCostly regex text.now 0) (TablesNeedMore regex text.now) parts.old.value result parts.new.value) }
+        (AllAreTooCostly regex text.now 0) (AllNeedMore regex text.now) parts.old.value result parts.new.value) }
 {
     let regex = handle.take(alloc);
     let status = write_parts(alloc, &regex, Split { text, limit }, parts);

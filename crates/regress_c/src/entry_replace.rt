@@ -4,7 +4,7 @@ ghost use Rattle.regress_capi.specs.EscapeResults.{EscapeResult};
 ghost use Rattle.regress_capi.specs.ExpandResults.{ExpandResult};
 ghost use Rattle.regress_capi.specs.ReplaceResults.{HasAllReplaced, HasFirstReplaced, HasFirstsReplaced};
 ghost use Rattle.regress.specs.Costs.{AllAreTooCostly, IsTooCostly};
-ghost use Rattle.regress.specs.Memory.{TablesNeedMore};
+ghost use Rattle.regress.specs.Memory.{AllNeedMore, TablesNeedMore};
 ghost use Rattle.regress_capi.specs.SearchResults.{SearchResult};
 
 use regress_capi::escaping;
@@ -68,7 +68,7 @@ pub extern "C" fn regress_replace_all_raw(
     requires { handle.old.value ≡ None → ⊥ }
     ensures same { handle.new.value ≡ handle.old.value }
     ensures status { IfSome handle.old.value (λ regex. SearchResult (IsUtf8 text.now × IsUtf8 template.now)
-        (HasAllReplaced regex text.now template.now) ⊥ (AllAreTooCostly regex text.now 0) (TablesNeedMore regex text.now)
+        (HasAllReplaced regex text.now template.now) ⊥ (AllAreTooCostly regex text.now 0) (AllNeedMore regex text.now)
         out.old result needed.new out.new) }
 {
     let regex = handle.take(alloc);
@@ -104,7 +104,7 @@ pub extern "C" fn regress_replace_n_raw(
     requires { handle.old.value ≡ None → ⊥ }
     ensures same { handle.new.value ≡ handle.old.value }
     ensures status { IfSome handle.old.value (λ regex. SearchResult (IsUtf8 text.now × IsUtf8 template.now)
-        (HasFirstsReplaced regex text.now template.now limit count.new) ⊥ (AllAreTooCostly regex text.now 0) (TablesNeedMore regex text.now)
+        (HasFirstsReplaced regex text.now template.now limit count.new) ⊥ (AllAreTooCostly regex text.now 0) (AllNeedMore regex text.now)
         out.old result needed.new out.new) }
     ensures none { result ≢ 0 → result ≢ 3 → count.new ≡ 0 }
 {

@@ -1,7 +1,7 @@
 //! The functions that C calls for a text in which matches are replaced, by a handle. include/regress.h documents them.
 ghost use Rattle.std.specs.Prelude.{◌≡◌, IfSome, IsUtf8, None};
 ghost use Rattle.regress.specs.Costs.{AllAreTooCostly};
-ghost use Rattle.regress.specs.Memory.{TablesNeedMore};
+ghost use Rattle.regress.specs.Memory.{AllNeedMore};
 ghost use Rattle.regress_capi.specs.ReplaceResults.{HasFirstsReplaced};
 ghost use Rattle.regress_capi.specs.ReplacedResults.{ReplacedResult, bytes_of, count_of};
 ghost use Rattle.regress_capi.specs.TextResults.{PlainResult};
@@ -33,7 +33,7 @@ pub extern "C" fn regress_replaced_new_raw(
     requires { handle.old.value ≡ None → ⊥ }
     ensures same { handle.new.value ≡ handle.old.value }
     ensures status { IfSome handle.old.value (λ regex. ReplacedResult (IsUtf8 text.now × IsUtf8 template.now)
-        (HasFirstsReplaced regex text.now template.now limit) (AllAreTooCostly regex text.now 0) (TablesNeedMore regex text.now)
+        (HasFirstsReplaced regex text.now template.now limit) (AllAreTooCostly regex text.now 0) (AllNeedMore regex text.now)
         replaced.old.value result replaced.new.value) }
 {
     let regex = handle.take(alloc);

@@ -6,7 +6,7 @@ use Rattle.std.specs.declared.alloc.Global.{Global}
 use Rattle.std.proofs.lemmas.Str.{encodes-chars}
 use Rattle.regress.specs.declared.failure.SearchError.{SearchError}
 use Rattle.regress.specs.declared.failure.SearchError.TheVariants.{Memory, OutOfSteps, TooMuchMemory}
-use Rattle.regress.specs.Costs.{AllAreTooCostly, AllCostLimit, CostsLimit, IsTooCostly, factor_of, find_factor_of}
+use Rattle.regress.specs.Costs.{AllAreTooCostly, AllCostLimit, CostsLimit, IsTooCostly, factor_in, find_factor_in}
 use Rattle.regress.specs.declared.pattern.Regex.{Regex}
 use Rattle.regress.specs.Compiled.{groups_of}
 use Rattle.regress_found.specs.declared.found.Match.{Match}
@@ -81,13 +81,13 @@ expand-reports (Ok None) utf8 template_utf8 has is = expand-bare 4 is (expand_ba
 expand-reports (Err e) utf8 template_utf8 has is = expand-bare 2 is (expand_out_of_memory utf8 template_utf8)
 
 -- what holds of an error that is out of steps, in one fact
-pub costly : {V : Type 0} (regex : Regex) (text : List ℕ) (from : ℕ) (r : Result V SearchError) → IfErr r (λ e. e ≡ OutOfSteps → factor_of regex ≡ None) →
-    IfErr r (λ e. e ≡ OutOfSteps → find_factor_of regex ≡ None) → IfErr r (λ e. e ≡ OutOfSteps → CostsLimit regex text from) →
+pub costly : {V : Type 0} (regex : Regex) (text : List ℕ) (from : ℕ) (r : Result V SearchError) → IfErr r (λ e. e ≡ OutOfSteps → factor_in regex text ≡ None) →
+    IfErr r (λ e. e ≡ OutOfSteps → find_factor_in regex text ≡ None) → IfErr r (λ e. e ≡ OutOfSteps → CostsLimit regex text from) →
     IfErr r (λ e. e ≡ OutOfSteps → IsTooCostly regex text from)
 costly regex text from (Ok v) linear bounded costs = tt
 costly regex text from (Err e) linear bounded costs = λ is. record { linear = linear is; bounded = bounded is; costs = costs is }
 
-pub all_costly : {V : Type 0} (regex : Regex) (text : List ℕ) (from : ℕ) (r : Result V SearchError) → IfErr r (λ e. e ≡ OutOfSteps → factor_of regex ≡ None) →
+pub all_costly : {V : Type 0} (regex : Regex) (text : List ℕ) (from : ℕ) (r : Result V SearchError) → IfErr r (λ e. e ≡ OutOfSteps → factor_in regex text ≡ None) →
     IfErr r (λ e. e ≡ OutOfSteps → AllCostLimit regex text from) → IfErr r (λ e. e ≡ OutOfSteps → AllAreTooCostly regex text from)
 all_costly regex text from (Ok v) linear costs = tt
 all_costly regex text from (Err e) linear costs = λ is. record { linear = linear is; costs = costs is }

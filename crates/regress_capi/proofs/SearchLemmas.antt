@@ -11,7 +11,7 @@ use Rattle.regress_found.specs.Repeated.{AreMatches}
 use Rattle.regress_match.proofs.lemmas.Searched.{AreMatches-more}
 use Rattle.regress.proofs.lemmas.Paid.{HasPaid, none_paid, one_more_paid, out_of_steps as too_costly, too_much_memory as too_large}
 use Rattle.regress.specs.Compiled.{outcomes_of, match_of}
-use Rattle.regress.specs.Costs.{AllAreTooCostly, CostsLimit, IsTooCostly, factor_of, find_factor_of, limit_of, matcher_of}
+use Rattle.regress.specs.Costs.{AllAreTooCostly, CostsLimit, IsTooCostly, factor_in, find_factor_in, matcher_of, step_limit_of}
 use Rattle.regress.specs.Memory.{TablesNeedMore}
 use Rattle.regress.specs.Searched.{Advances, has_failed, next_from, search_limit, search_remaining, searched_matcher, searched_outcomes, searched_text}
 use Rattle.regress.specs.declared.pattern.Regex.{Regex}
@@ -60,7 +60,7 @@ pub record HasEnds (r : Regex) (text : List ℕ) (from : ℕ) (now : Matches) (n
   pub are : numbers ≡ flat_map match_ends ms
 
 pub no-ends : (r : Regex) (text : List ℕ) (from : ℕ) (now : Matches) (numbers : List ℕ) → searched_text now ≡ text →
-    searched_outcomes now ≡ outcomes_of r text → searched_matcher now ≡ matcher_of r → IfNone (factor_of r) (search_limit now ≡ limit_of r) →
+    searched_outcomes now ≡ outcomes_of r text → searched_matcher now ≡ matcher_of r → IfNone (factor_in r text) (search_limit now ≡ step_limit_of r) →
     search_remaining now ≡ search_limit now → has_failed now ≡ false → next_from now ≡ from → numbers ≡ [] → HasEnds r text from now numbers
 no-ends r text from now numbers same_text same_outcomes same_matcher limit all failed start none = record {
   same_text = same_text;
@@ -143,7 +143,7 @@ first-found text at from (Err e) finds = tt
 
 -- why it may be out of steps
 pub too-costly : (regex : Regex) (text : List ℕ) (from : ℕ) (r : Result (Option Match) SearchError) →
-    IfErr r (λ error. error ≡ OutOfSteps → factor_of regex ≡ None) → IfErr r (λ error. error ≡ OutOfSteps → find_factor_of regex ≡ None) →
+    IfErr r (λ error. error ≡ OutOfSteps → factor_in regex text ≡ None) → IfErr r (λ error. error ≡ OutOfSteps → find_factor_in regex text ≡ None) →
     IfErr r (λ error. error ≡ OutOfSteps → CostsLimit regex text from) → IfErr r (λ error. error ≡ OutOfSteps → IsTooCostly regex text from)
 too-costly regex text from (Ok some) linear bounded costs = tt
 too-costly regex text from (Err e) linear bounded costs = λ is. record { linear = linear is; bounded = bounded is; costs = costs is }

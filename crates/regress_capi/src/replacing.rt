@@ -1,7 +1,7 @@
 //! The results of replacing matches by a template.
 ghost use Rattle.std.specs.Prelude.{◌≡◌, ◌≢◌, IsUtf8, MatchOption, MatchResult, string_bytes};
 ghost use Rattle.regress.specs.Costs.{AllAreTooCostly, IsTooCostly};
-ghost use Rattle.regress.specs.Memory.{TablesNeedMore};
+ghost use Rattle.regress.specs.Memory.{AllNeedMore, TablesNeedMore};
 ghost use Rattle.regress_capi.specs.ReplaceResults.{HasAllReplaced, HasFirstReplaced, HasFirstsReplaced};
 ghost use Rattle.regress_capi.specs.SearchResults.{IsBare, SearchResult, status_of};
 ghost use Rattle.regress_capi.specs.TextResults.{PlainResult};
@@ -55,7 +55,7 @@ pub fn write_all_replaced(
 ) -> u32
     ensures status { SearchResult (IsUtf8 replaced.entry.text.now × IsUtf8 replaced.entry.template.now)
         (HasAllReplaced regex.now replaced.entry.text.now replaced.entry.template.now) ⊥
-        (AllAreTooCostly regex.now replaced.entry.text.now 0) (TablesNeedMore regex.now replaced.entry.text.now) out.old result needed.new out.new }
+        (AllAreTooCostly regex.now replaced.entry.text.now 0) (AllNeedMore regex.now replaced.entry.text.now) out.old result needed.new out.new }
 {
     *needed = 0;
     match decode(replaced.text, replaced.template) {
@@ -93,7 +93,7 @@ pub fn write_replaced(
 ) -> Counted
     ensures status { SearchResult (IsUtf8 replaced.entry.text.now × IsUtf8 replaced.entry.template.now)
         (HasFirstsReplaced regex.now replaced.entry.text.now replaced.entry.template.now replaced.entry.limit result.count) ⊥
-        (AllAreTooCostly regex.now replaced.entry.text.now 0) (TablesNeedMore regex.now replaced.entry.text.now) out.old result.status result.needed out.new }
+        (AllAreTooCostly regex.now replaced.entry.text.now 0) (AllNeedMore regex.now replaced.entry.text.now) out.old result.status result.needed out.new }
     ensures none { result.status ≢ 0 → result.status ≢ 3 → result.count ≡ 0 }
 {
     match decode(replaced.text, replaced.template) {

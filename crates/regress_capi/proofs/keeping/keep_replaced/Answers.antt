@@ -1,6 +1,6 @@
 use Rattle.std.proofs.Common.{subst}
 use Rattle.regress.specs.Costs.{AllAreTooCostly}
-use Rattle.regress.specs.Memory.{TablesNeedMore}
+use Rattle.regress.specs.Memory.{AllNeedMore}
 use Rattle.regress_capi.specs.ReplaceResults.{HasFirstsReplaced}
 use Rattle.regress_capi.specs.ReplacedResults.{bytes_of, count_of, replaced, replaced_bad}
 use Rattle.regress_capi.proofs.ReplacedLemmas.{replaced-fails}
@@ -23,7 +23,7 @@ returns-in-Err c = record {
   status =
       replaced-fails c.in-Err.error (c.in-Some.ensures.2, c.in-Some.ensures.3)
       (λ is. subst (λ t. AllAreTooCostly c.args.regex.now t 0) c.in-Some.ensures.0 (c.in-Err.ensures.failed is))
-      (λ is. subst (TablesNeedMore c.args.regex.now) c.in-Some.ensures.0 (c.in-Err.ensures.too_much is))
+      (λ is. subst (AllNeedMore c.args.regex.now) c.in-Some.ensures.0 (c.in-Err.ensures.too_much is))
       c.error_status.ensures;
 }
 

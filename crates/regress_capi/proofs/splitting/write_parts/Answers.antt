@@ -1,6 +1,6 @@
 use Rattle.std.proofs.Common.{subst}
 use Rattle.regress.specs.Costs.{AllAreTooCostly}
-use Rattle.regress.specs.Memory.{TablesNeedMore}
+use Rattle.regress.specs.Memory.{AllNeedMore}
 use Rattle.regress_capi.specs.ListResults.{IsListOf, list_bad, listed}
 use Rattle.regress_capi.specs.PartResults.{AreEndsOfParts}
 use Rattle.regress_capi.proofs.ListLemmas.{list-fails}
@@ -20,7 +20,7 @@ returns-in-Err-parts c = record {
   status =
       list-fails c.in-Err-parts.error c.in-Ok.ensures.cases.1
       (λ is. subst (λ t. AllAreTooCostly c.args.regex.now t 0) c.in-Ok.ensures.cases.0 (c.in-Err-parts.ensures.failed is))
-      (λ is. subst (TablesNeedMore c.args.regex.now) c.in-Ok.ensures.cases.0 (c.in-Err-parts.ensures.too_much is))
+      (λ is. subst (AllNeedMore c.args.regex.now) c.in-Ok.ensures.cases.0 (c.in-Err-parts.ensures.too_much is))
       c.error_status.ensures;
 }
 
