@@ -1,13 +1,14 @@
 use Rattle.std.proofs.Common.{Some, inl, inr, [], ◌∷◌, map, arith, subst, sym, ◌∙◌}
 use Rattle.std.proofs.lemmas.Result.{err_from_is_err_and}
-use Rattle.std.proofs.lemmas.List.{map-append}
+use Rattle.std.proofs.lemmas.List.{length-map, map-append}
 use Rattle.std.specs.Vec.{vec_capacity}
 use Rattle.regress_match.proofs.lemmas.Memory.{is_held, matches_need_more}
-use Rattle.regress.specs.Costs.{factor_in}
+use Rattle.regress.specs.Costs.{factor_in, matcher_of}
 use Rattle.regress.specs.Compiled.{groups_of, outcomes_of, match_of}
-use Rattle.regress.specs.Memory.{match_bytes, memory_of}
-use Rattle.regress.specs.Searched.{Advances}
-use Rattle.regress.proofs.FoundLemmas.{HasFoundWith, all_found, begins_with, inside_each, one_more_with}
+use Rattle.regress.specs.Memory.{AllNeedMore, match_bytes, memory_of}
+use Rattle.regress.specs.Searched.{Advances, next_from}
+use Rattle.regress.proofs.FaultLemmas.{if_too_much}
+use Rattle.regress.proofs.FoundLemmas.{HasFoundWith, all_found, begins_with, inside_each, one_more, one_more_with}
 use Rattle.regress.proofs.lemmas.Paid.{HasPaid, none_paid, one_more_paid, out_of_steps, too_much_memory}
 use Rattle.regress.proofs.pattern.Regex.find_all.Goals as goal
 
@@ -67,7 +68,17 @@ returns-in_err-found-clause-too_much c =
     (subst (λ r. Advances now (Some r) new) c.in_err-found.was c.in-Some.ensures.steps) (sym p.2 ∙ is)))
 
 pub returns-in_err-push_within-clause-too_much : goal.returns-in_err-push_within-clause-too_much
-returns-in_err-push_within-clause-too_much c = ?
+returns-in_err-push_within-clause-too_much c =
+    let r = c.args.self.now in
+    let text = c.args.text.now in
+    let items = c.loop-found.all.items in
+    let step = subst (λ x. Advances c.loop-found.found-iterator (Some x) c.next.new.self) c.in_ok-found.was c.in-Some.ensures.steps in
+    let more =
+    one_more text (outcomes_of r text) c.loop-found.found-iterator (map match_of items) c.loop-found.invariant.has.found c.next.new.self
+    c.in_ok-found.found step in
+    if_too_much (AllNeedMore r text) c.from_residual-in_err-push_within.result c.in_err-push_within.field-0.0 c.from_residual-in_err-push_within.ensures
+    (λ is. inr (matches_need_more (matcher_of r) text (next_from c.next.new.self) (map match_of items) (match_of c.in_ok-found.found) more.found
+    c.most_matches-most.result (omega (arith, c.in_err-push_within.ensures.too_much is, length-map items match_of)) c.most_matches-most.ensures.most))
 
 pub returns-clause-held : goal.returns-clause-held
 returns-clause-held c =
