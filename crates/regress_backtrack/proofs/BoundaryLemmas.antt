@@ -1,5 +1,5 @@
 -- No match begins between two word characters if the pattern begins at a word boundary.
-use Rattle.std.proofs.Common.{◌≡◌, ◌⊎◌, inl, inr, ℕ, ◌+◌, ◌-◌, ◌<◌, ◌≤◌, Bool, true, false, if◌then◌else◌, List, [], ◌∷◌, flat_map, length, replicate, slice_get, slice_index, Option, Some, None, refl, sym, ap, ap₂, ◌∙◌, subst, arith}
+use Rattle.std.proofs.Common.{◌≡◌, ◌⊎◌, inl, inr, ℕ, ◌+◌, ◌-◌, ◌<◌, ◌≤◌, Bool, true, false, if◌then◌else◌, List, [], ◌∷◌, flat_map, length, replicate, slice_index, Option, Some, None, refl, sym, ap, ap₂, ◌∙◌, subst, arith}
 use Rattle.std.proofs.Math.Nat.{eq-or-lt_of_le}
 use Rattle.std.proofs.lemmas.Bool.{cases_lt}
 use Rattle.regress_base.specs.Table.{Table}
@@ -7,11 +7,11 @@ use Rattle.regress_tree.specs.Assertions.{at_boundary, differ, is_word_character
 use Rattle.regress_tree.specs.Matching.{steps}
 use Rattle.regress_tree.specs.Reading.{Direction, of_bytes, read_after, read_before}
 use Rattle.regress_tree.specs.Steps.{MatchState, Setting, hold_at}
-use Rattle.regress_tree.specs.Tree.{Tree, leaf as leaf_of, word_boundary}
+use Rattle.regress_tree.specs.Tree.{leaf as leaf_of, word_boundary}
 use Rattle.regress_leaves.proofs.ReadingLemmas.{ascii_after, ascii_before}
 use Rattle.regress_leaves.specs.Subject.{subject}
-use Rattle.regress_program.specs.Program.{At, IsSolution, Out, matcher_of, outcomes_by, reach}
-use Rattle.regress_program.specs.Views.{leaf_tree, part_of}
+use Rattle.regress_program.specs.Program.{IsSolution, Out, matcher_of, outcomes_by, reach}
+use Rattle.regress_program.specs.Views.{part_of}
 use Rattle.regress_program.specs.declared.instruction.Instruction.TheVariants as insts
 use Rattle.regress_unicode.specs.declared.Tables.{Tables}
 use Rattle.regress_code.specs.Code.{code_groups, code_routines, outcomes_from, setting_with}

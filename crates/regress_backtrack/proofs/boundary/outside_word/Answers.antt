@@ -1,4 +1,4 @@
-use Rattle.std.proofs.Common.{rules, ◌+◌, ◌≤◌, length, arith}
+use Rattle.std.proofs.Common.{arith}
 use Rattle.regress_backtrack.specs.Boundary.{IsInsideWord}
 use Rattle.regress_backtrack.proofs.BoundaryLemmas.{holds_up_to}
 use Rattle.regress_backtrack.proofs.boundary.outside_word.Goals as goal

@@ -1,4 +1,3 @@
-use Rattle.std.proofs.Common.{◌≡◌}
 use Rattle.regress_backtrack.specs.Machine.{groups_of}
 use Rattle.regress_backtrack.specs.Next.{Inside}
 use Rattle.regress_backtrack.proofs.LeaveLemmas.{left_out_all, left_out_cost, left_out_fewer, left_out_outcomes}

@@ -1,4 +1,4 @@
-use Rattle.std.proofs.Common.{◌≤◌, Some, None, arith, subst}
+use Rattle.std.proofs.Common.{Some, None, arith, subst}
 use Rattle.regress_backtrack.specs.Searched.{Skipped}
 use Rattle.regress_backtrack.proofs.BoundaryLemmas.{skipped_on}
 use Rattle.regress_backtrack.proofs.search.next_start.Goals as goal

@@ -1,4 +1,4 @@
-use Rattle.std.proofs.Common.{rules, ◌≡◌, refl}
+use Rattle.std.proofs.Common.{rules, refl}
 use Rattle.regress_backtrack.proofs.MachineLemmas.{set_last, shortened}
 use Rattle.regress_backtrack.proofs.machine.Machine.keep_range.Goals as goal
 
