@@ -1,16 +1,21 @@
 -- The cost of searches by backtracking.
-use Rattle.std.proofs.Common.{◌≡◌, ℕ, ◌+◌, ◌-◌, ◌≤◌, List, length, sym, ap, subst, ◌∙◌, arith}
+use Rattle.std.proofs.Common.{◌≡◌, ℕ, ◌+◌, ◌-◌, ◌*◌, ◌≤◌, Bool, false, List, length, Option, Some, None, refl, sym, ap, subst, ◌∙◌, arith}
+use Rattle.std.specs.Prelude.{is_some}
 use Rattle.std.specs.Arc.{arc_value}
 use Rattle.regress_program.specs.Cost.{Cost, IsCost}
 use Rattle.regress_program.specs.Program.{Out}
 use Rattle.regress_code.specs.Code.{code_routines, search_cost, setting_with}
 use Rattle.regress_backtrack.specs.Backtracker as runs
-use Rattle.regress_backtrack.specs.Backtracker.{run_code, run_tables, run_text, search_cost_at}
+use Rattle.regress_backtrack.specs.Backtracker.{run_code, run_room, run_tables, run_text, search_cost_at}
+use Rattle.regress_backtrack.specs.Memory.{entries_in}
 use Rattle.regress_backtrack.specs.declared.backtracker.Backtracker.{Backtracker}
 use Rattle.regress_unicode.specs.declared.Tables.{Tables}
 use Rattle.regress_code.specs.declared.code.Code.{Code}
 use Rattle.regress_match.specs.Costs.{AreCosts, IsWithinFindCost, find_cost}
 use Rattle.regress_match.specs.Iterated.{IsSameIteration, iterated_from, iterated_matcher, iterated_text, steps_remaining}
+use Rattle.regress_match.specs.Matcher.{factor_in}
+use Rattle.regress_match.specs.Memory.{MayFillStack, StackNeedsMore, memory_of}
+use Rattle.regress_match.proofs.lemmas.Costs.{has_costs}
 use Rattle.regress_match.specs.declared.matcher.Matcher.{Matcher}
 use Rattle.regress_match.specs.declared.matcher_matches.MatcherMatches.{MatcherMatches}
 
@@ -41,7 +46,35 @@ module _ (m : Matcher) (text : List ℕ) (b : Backtracker) (code : run_code b �
       (same_cost m.code (run_code b) (arc_value m.tables) (run_tables b) text (run_text b) code tables same costs from)
       (ran outs costs (same_costs m.code (run_code b) (arc_value m.tables) (run_tables b) text (run_text b) code tables same outs costs are))
 
+  -- A run of the matcher's program that fills a stack.
+  pub may_fill : (from : ℕ) → run_room b ≡ entries_in (memory_of m) →
+      ((outs : ℕ → Out) (costs : ℕ → Cost) → runs.AreCosts b outs costs → run_room b ≤ 64 * search_cost_at b costs from) → MayFillStack m text from
+  may_fill from room full outs costs are =
+      subst (λ n. entries_in (memory_of m) ≤ 64 * n)
+      (same_cost m.code (run_code b) (arc_value m.tables) (run_tables b) text (run_text b) code tables same costs from)
+      (subst (λ k. k ≤ 64 * search_cost_at b costs from) room
+      (full outs costs (same_costs m.code (run_code b) (arc_value m.tables) (run_tables b) text (run_text b) code tables same outs costs are)))
+
 -- ---- searches
+
+-- A search that only backtracks, and fills a stack.
+pub stack_needs_more : (m : Matcher) (text : List ℕ) (from : ℕ) → is_some (factor_in m text) ≡ false → MayFillStack m text from → StackNeedsMore m text
+stack_needs_more m text from none fills = record {
+  backtracks = by (factor_in m text) none;
+  has = has_costs m text;
+  from = from;
+  fills = fills;
+}
+  where
+    by : (o : Option ℕ) → is_some o ≡ false → o ≡ None
+    by None none = refl
+    by (Some n) none = absurd (cc)
+
+-- the same matcher and text
+pub same_stack : (old mid : MatcherMatches) → IsSameIteration old mid → StackNeedsMore (iterated_matcher mid) (iterated_text mid) →
+    StackNeedsMore (iterated_matcher old) (iterated_text old)
+same_stack old mid same needs =
+    subst (λ m. StackNeedsMore m (iterated_text old)) same.matcher (subst (StackNeedsMore (iterated_matcher mid)) same.text needs)
 
 -- A search that first looks for a byte that each match contains.
 pub within_both : (old mid : MatcherMatches) (after : ℕ) → IsSameIteration old mid → iterated_from mid ≡ iterated_from old →

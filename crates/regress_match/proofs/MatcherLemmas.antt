@@ -1,7 +1,6 @@
 -- Searches with the program of a pattern.
 use Rattle.std.proofs.Common.{◌≡◌, ℕ, ◌+◌, ◌-◌, ◌*◌, ◌≤◌, Bool, true, false, not, ◌&&◌, List, [], ◌∷◌, filter, length, min, max, Option, Some, None, IfSome, IsNone, refl, sym, ap, ap₂, subst, ◌∙◌, arith}
 use Rattle.std.specs.Prelude.{if◌then◌else◌, is_none, is_some, Result, Ok, Err, IfOk}
-use Rattle.std.specs.declared.alloc.AllocError.{AllocError}
 use Rattle.std.specs.Arc.{arc_value}
 use Rattle.std.proofs.Math.Nat.{mul-le-mul_left}
 use Rattle.std.specs.Str.{IsUtf8}
@@ -36,6 +35,7 @@ use Rattle.regress_backtrack.specs.Backtracker as runs
 use Rattle.regress_code.specs.Code.{captures_cost, code_flags, code_groups, code_routines, outcomes_from, setting_with}
 use Rattle.regress_backtrack.specs.declared.backtracker.Backtracker.{Backtracker}
 use Rattle.regress_code.specs.declared.code.Code.{Code}
+use Rattle.regress_found.specs.declared.fault.MemoryFault.{MemoryFault}
 use Rattle.regress_found.specs.declared.outcome.Found.{Found}
 use Rattle.regress_found.specs.declared.outcome.Outcome.{Outcome}
 use Rattle.regress_found.specs.declared.outcome.Outcome.TheVariants as outcomes
@@ -93,7 +93,7 @@ run_first setting t tables c text position outcome is within solved =
 
 pub result_first : (m : Matcher) (tables : Tables) → tables ≡ arc_value m.tables →
     IsCodeOf (matcher_setting m) (matcher_tree m) (arc_value m.tables) m.code → (text : List ℕ) (position : ℕ) → position ≤ length text →
-    (r : Result Found AllocError) →
+    (r : Result Found MemoryFault) →
     IfOk r (λ found. (outs : ℕ → Out) → IsSolution (setting_with m.code tables) text (code_routines m.code) outs →
     IsMatchResult position (outcomes_from m.code tables text outs position) found.outcome) →
     IfOk r (λ found. IsMatchResult position (matcher_outcomes m text position) found.outcome)

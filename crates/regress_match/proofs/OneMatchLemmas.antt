@@ -47,6 +47,14 @@ pub if_none : (o : Option ℕ) (P : ℕ → Type 0) → is_some o ≡ false → 
 if_none None P none = tt
 if_none (Some n) P none = absurd (cc)
 
+-- Where a search for one match only backtracks, so does one for all matches.
+pub none_by_one : (m : Matcher) (text : List ℕ) → is_some (find_factor_in m text) ≡ false → is_some (factor_in m text) ≡ false
+none_by_one m text none = by (factor_in m text) (all_by_one m text (λ _. ⊥) (if_none (find_factor_in m text) (λ _. ⊥) none))
+  where
+    by : (o : Option ℕ) → IfSome o (λ _. ⊥) → is_some o ≡ false
+    by None none = refl
+    by (Some n) none = absurd none
+
 -- ---- the steps of a search for one match
 
 with_backtracking : (i walks c d steps : ℕ) → steps ≤ (2 * i + walks + c) * d → steps + 64 * d ≤ (64 + 2 * i + 2 * walks + c) * d

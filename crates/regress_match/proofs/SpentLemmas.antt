@@ -46,9 +46,9 @@ counted_tables : (limit remaining old new tried most : ℕ) → min (old + tried
     min (((limit - remaining) + old) + min remaining tried) most ≤ (limit - remaining) + new
 counted_tables limit remaining old new tried most ran = omega (arith, ran)
 
-counted_both : (limit remaining old new tried most : ℕ) → remaining ≤ limit → old ≤ new →
-    min (((limit - remaining) + old) + min remaining tried) most ≤ (limit - 0) + new
-counted_both limit remaining old new tried most within more = omega (arith, within, more)
+counted_both : (limit old old' new tried remaining mid most : ℕ) → old ≤ limit → old' ≤ old → remaining ≤ mid → min (mid + tried) most ≤ new →
+    min (((limit - old) + remaining) + min old tried) most ≤ (limit - old') + new
+counted_both limit old old' new tried remaining mid most within less more ran = omega (arith, within, less, more, ran)
 
 -- a search that first looks for a byte that each match contains, and then backtracks
 pub runs_counted : (old mid new : MatcherMatches) (m : Match) → old.remaining ≤ old.limit → IsSameIteration old mid → IsSameIteration mid new →
@@ -69,13 +69,18 @@ tables_counted old new m same remaining ran =
     let sum = counted_tables old.limit old.remaining old.searched new.searched tried (2 ^ 64 - 1) ran in
     omega (arith, sum, same.limit, remaining)
 
--- one that uses up the steps of backtracking
-pub both_counted : (old new : MatcherMatches) (m : Match) → old.remaining ≤ old.limit → new.limit ≡ old.limit → new.remaining ≡ 0 →
-    old.searched ≤ new.searched → HasCounted old new m
-both_counted old new m within same none more =
+-- one for which tables are made
+pub made_counted : (old mid new : MatcherMatches) (m : Match) → old.remaining ≤ old.limit → new.limit ≡ old.limit →
+    iterated_matcher mid ≡ iterated_matcher old → iterated_text mid ≡ iterated_text old → iterated_from mid ≡ iterated_from old →
+    new.remaining ≤ old.remaining → old.searched ≤ mid.searched →
+    min (mid.searched + (captures_cost (iterated_matcher mid).code + positions_tried (iterated_text mid) (iterated_from mid) (Some m))) (2 ^ 64 - 1) ≤ new.searched →
+    HasCounted old new m
+made_counted old mid new m within limit matcher text from less more ran =
     let tried = captures_cost (iterated_matcher old).code + positions_tried (iterated_text old) (iterated_from old) (Some m) in
-    let sum = counted_both old.limit old.remaining old.searched new.searched tried (2 ^ 64 - 1) within more in
-    omega (arith, sum, same, none)
+    let groups : captures_cost (iterated_matcher mid).code ≡ captures_cost (iterated_matcher old).code = ap (λ (k : Matcher). captures_cost k.code) matcher in
+    let sum = counted_both old.limit old.remaining new.remaining new.searched tried old.searched mid.searched (2 ^ 64 - 1) within less more
+    (omega (arith, ran, groups, from)) in
+    omega (arith, sum, limit)
 
 -- What a search in tables counts.
 pub tables_tried : (m : Matcher) (text : List ℕ) (from taken : ℕ) (s : TextSearch) → IsKept m text from taken s → (found : Option Match) (steps before after : ℕ) →

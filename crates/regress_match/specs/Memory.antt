@@ -1,14 +1,19 @@
 -- The memory of searches with a matcher.
-use Rattle.std.specs.Prelude.{ℕ, ◌+◌, ◌*◌, ◌<◌, ◌⊎◌, List, length}
+use Rattle.std.specs.Prelude.{◌≡◌, ℕ, ◌+◌, ◌*◌, ◌<◌, ◌≤◌, ◌⊎◌, List, None, length}
 use Rattle.regress_program.specs.Compiled.{total}
+use Rattle.regress_program.specs.Cost.{Cost}
+use Rattle.regress_program.specs.Program.{Out}
+use Rattle.regress_backtrack.specs.Memory.{entries_in}
 use Rattle.regress_code.specs.Code.{code_groups, code_routines}
 use Rattle.regress_found.specs.Repeated.{AreMatches}
 use Rattle.regress_found.specs.declared.found.Match.{Match}
 use Rattle.regress_tables.specs.Memory.{table_bytes}
+use Rattle.regress_match.specs.Costs.{AreCosts, HasCosts, find_cost, match_cost}
+use Rattle.regress_match.specs.Matcher.{factor_in}
 use Rattle.regress_match.specs.Pattern.{matcher_outcomes}
 use Rattle.regress_match.specs.declared.matcher.Matcher.{Matcher}
 
--- the number of bytes that the tables of a search may take, and a list of matches
+-- the number of bytes that the tables of a search may take, each backtrack stack, and a list of matches
 abbrev pub memory_of : Matcher → ℕ
 memory_of m = m.memory
 
@@ -19,6 +24,28 @@ instructions_of m = total (code_routines m.code)
 -- The tables of the text take more memory than they may.
 abbrev pub TablesNeedMore : Matcher → (text : List ℕ) → Type 0
 TablesNeedMore m text = memory_of m < table_bytes (instructions_of m) text
+
+-- A search by backtracking from there on may fill a stack: 64 times its cost is at least the number of entries for which
+-- the stack may have room.
+abbrev pub MayFillStack : Matcher → (text : List ℕ) → (from : ℕ) → Type 0
+MayFillStack m text from = (outs : ℕ → Out) (costs : ℕ → Cost) → AreCosts m text outs costs →
+    entries_in (memory_of m) ≤ 64 * find_cost m text costs from
+
+-- the same of a match at a position
+abbrev pub MayFillStackAt : Matcher → (text : List ℕ) → (position : ℕ) → Type 0
+MayFillStackAt m text position = (outs : ℕ → Out) (costs : ℕ → Cost) → AreCosts m text outs costs →
+    entries_in (memory_of m) ≤ 64 * match_cost m text costs position
+
+-- A search that only backtracks may fill a stack.
+pub record StackNeedsMore (m : Matcher) (text : List ℕ) : Type 0 where
+  pub backtracks : factor_in m text ≡ None
+  pub has : HasCosts m text
+  pub from : ℕ
+  pub fills : MayFillStack m text from
+
+-- A search takes more memory than it may: its tables, or a backtrack stack.
+abbrev pub SearchNeedsMore : Matcher → (text : List ℕ) → Type 0
+SearchNeedsMore m text = TablesNeedMore m text ⊎ StackNeedsMore m text
 
 -- the number of bytes that a match counts in a list
 abbrev pub match_bytes : Matcher → ℕ
@@ -31,6 +58,6 @@ pub record MatchesNeedMore (m : Matcher) (text : List ℕ) : Type 0 where
   pub found : AreMatches text (matcher_outcomes m text) 0 to ms
   pub more : memory_of m < match_bytes m * length ms
 
--- A search for all matches takes more memory than it may: its tables, or the list of the matches.
+-- A search for all matches takes more memory than it may: its tables, a backtrack stack, or the list of the matches.
 abbrev pub AllNeedMore : Matcher → (text : List ℕ) → Type 0
-AllNeedMore m text = TablesNeedMore m text ⊎ MatchesNeedMore m text
+AllNeedMore m text = SearchNeedsMore m text ⊎ MatchesNeedMore m text

@@ -11,15 +11,16 @@ ghost use Rattle.regress_found.specs.Found.{IsInside, start_of};
 ghost use Rattle.regress_match.specs.Matcher.{factor_in, outcome_if};
 ghost use Rattle.regress_match.specs.Pattern.{matcher_outcomes, matcher_tree};
 ghost use Rattle.regress_found.specs.declared.fault.MemoryFault.TheVariants.{TooMuchMemory};
-ghost use Rattle.regress_match.specs.Memory.{TablesNeedMore};
+ghost use Rattle.regress_match.specs.Memory.{MayFillStack, SearchNeedsMore, StackNeedsMore, TablesNeedMore};
 ghost use Rattle.regress_found.specs.Repeated.{EndsHere, offset_after};
 ghost use Rattle.regress_found.specs.Tried.{positions_tried};
 
 use crate::matcher::Matcher;
 use crate::matcher_matches::MatcherMatches;
+use regress_backtrack::Cache;
 use regress_found::{Match, MemoryFault, Outcome};
 use regress_tables::Linear;
-use std::alloc::{AllocError, Global};
+use std::alloc::Global;
 
 impl<'m> MatcherMatches<'m> {
     /// Returns the next match.
@@ -37,8 +38,7 @@ impl<'m> MatcherMatches<'m> {
     ///
     /// # Errors
     /// The position of the search stays as it is, so that the call may be repeated.
-    /// - [`MemoryFault::TooMuchMemory`] if the search needs tables that take more memory than
-    ///   [`Limits`](crate::Limits) allow. They are not made then.
+    /// - [`MemoryFault::TooMuchMemory`] as for [`Matcher::find`].
     /// - [`MemoryFault::Memory`] if an allocation fails.
     ///
     /// # Examples
@@ -67,7 +67,7 @@ impl<'m> MatcherMatches<'m> {
         ensures costs { IfOk result (λ _. IsWithinFindCost (iterated_matcher self.old) (iterated_text self.old) (iterated_from self.old) (steps_remaining self.old - steps_remaining self.new)) }
         ensures spent { Spends self.old self.new }
         ensures counted { IfOk result (λ outcome. IfMatched outcome (HasCounted self.old self.new)) }
-        ensures too_much { IfErr result (λ fault. fault ≡ TooMuchMemory → TablesNeedMore (iterated_matcher self.old) (iterated_text self.old)) }
+        ensures too_much { IfErr result (λ fault. fault ≡ TooMuchMemory → SearchNeedsMore (iterated_matcher self.old) (iterated_text self.old)) }
     {
         if self.search.is_some() {
             return self.find_in_tables(alloc);
@@ -75,7 +75,7 @@ impl<'m> MatcherMatches<'m> {
         if self.skip_to_end() {
             return Ok(Outcome::NoMatch);
         }
-        match self.backtrack(alloc)? {
+        match self.backtrack_before_tables(alloc)? {
             Outcome::OutOfSteps => {
                 self.make_tables(alloc)?;
                 self.find_in_tables(alloc)
@@ -92,7 +92,7 @@ impl<'m> MatcherMatches<'m> {
     }
 
     /// Returns the number of steps that all calls of [`MatcherMatches::next`] together took. Of a call that returned an
-    /// error some are not counted.
+    /// error some are not counted, nor are those of backtracking until a stack is full and tables are made.
     pub fn steps(&self) -> u64
         ensures taken { result ≡ min (steps_taken self.now) u64.MAX }
         ensures linear { IfSome (factor_in (iterated_matcher self.now) (iterated_text self.now)) (λ n. result ≤ n * (length (iterated_text self.now) + 1)) }
@@ -130,8 +130,43 @@ impl<'m> MatcherMatches<'m> {
         true
     }
 
+    /// Returns the next match by backtracking, or [`Outcome::OutOfSteps`] if its steps are used up. If a backtrack stack is full
+    /// and tables may be made, the result is the same, and the memory of the cache is given back.
+    fn backtrack_before_tables(&mut self, alloc: Global) -> Result<Outcome, MemoryFault>
+        requires { IsNone self.old.search }
+        ensures finds { IfOk result (IsSearchResult (iterated_text self.old) (matcher_outcomes (iterated_matcher self.old) (iterated_text self.old)) (iterated_from self.old)) }
+        ensures inside { IfOk result (λ outcome. IsWellFormed (matcher_tree (iterated_matcher self.old)) → IfMatched outcome (IsInside (iterated_text self.old))) }
+        ensures goes_on { IfOk result (λ outcome. iterated_from self.new ≡ offset_after (iterated_text self.old) (iterated_from self.old) outcome) }
+        ensures stays { OnErr result (iterated_from self.new ≡ iterated_from self.old) }
+        ensures same { IsSameIteration self.old self.new }
+        ensures used_up { IfOk result (λ outcome. IfNone (factor_in (iterated_matcher self.old) (iterated_text self.old)) (IfOutOfSteps outcome (steps_remaining self.new ≡ 0))) }
+        ensures costs { IfOk result (λ _. (outs : ℕ → Out) (costs : ℕ → Cost) → AreCosts (iterated_matcher self.old) (iterated_text self.old) outs costs →
+            steps_remaining self.old ≤ steps_remaining self.new + find_cost (iterated_matcher self.old) (iterated_text self.old) costs (iterated_from self.old)) }
+        ensures search { IsNone self.new.search }
+        ensures spent { Spends self.old self.new }
+        ensures searched { self.new.searched ≡ self.old.searched }
+        ensures tried { IfOk result (λ outcome. IfMatched outcome (λ m.
+            steps_remaining self.new ≤ steps_remaining self.old
+            - (captures_cost (iterated_matcher self.old).code + positions_tried (iterated_text self.old) (iterated_from self.old) (Some m)))) }
+        ensures too_much { IfErr result (λ fault. fault ≡ TooMuchMemory → StackNeedsMore (iterated_matcher self.old) (iterated_text self.old)) }
+    {
+        let matcher = self.matcher;
+        let text = self.text;
+        match self.backtrack(alloc) {
+            Err(MemoryFault::TooMuchMemory) => {
+                if !matcher.is_linear_in(text) {
+                    return Err(MemoryFault::TooMuchMemory);
+                }
+                self.cache = Some(Cache::new(alloc));
+                Ok(Outcome::OutOfSteps)
+            }
+            Err(MemoryFault::Memory) => Err(MemoryFault::Memory),
+            Ok(outcome) => Ok(outcome),
+        }
+    }
+
     /// Returns the next match by backtracking, or [`Outcome::OutOfSteps`] if its steps are used up.
-    fn backtrack(&mut self, alloc: Global) -> Result<Outcome, AllocError>
+    fn backtrack(&mut self, alloc: Global) -> Result<Outcome, MemoryFault>
         requires { IsNone self.old.search }
         ensures finds { IfOk result (IsSearchResult (iterated_text self.old) (matcher_outcomes (iterated_matcher self.old) (iterated_text self.old)) (iterated_from self.old)) }
         ensures inside { IfOk result (λ outcome. IsWellFormed (matcher_tree (iterated_matcher self.old)) → IfMatched outcome (IsInside (iterated_text self.old))) }
@@ -147,6 +182,8 @@ impl<'m> MatcherMatches<'m> {
         ensures tried { IfOk result (λ outcome. IfMatched outcome (λ m.
             steps_remaining self.new ≤ steps_remaining self.old
             - (captures_cost (iterated_matcher self.old).code + positions_tried (iterated_text self.old) (iterated_from self.old) (Some m)))) }
+        ensures unspent { OnErr result (steps_remaining self.new ≡ steps_remaining self.old) }
+        ensures too_much { IfErr result (λ fault. fault ≡ TooMuchMemory → MayFillStack (iterated_matcher self.old) (iterated_text self.old) (iterated_from self.old)) }
     {
         let text = self.text();
         let mut remaining = self.remaining;

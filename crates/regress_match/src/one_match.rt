@@ -4,7 +4,7 @@ ghost use Rattle.regress_tree.specs.WellFormed.{IsWellFormed};
 ghost use Rattle.regress_found.specs.Results.{IsSearchResult, IfMatched, IfOutOfSteps};
 ghost use Rattle.regress_found.specs.Found.{IsInside};
 ghost use Rattle.regress_found.specs.declared.fault.MemoryFault.TheVariants.{TooMuchMemory};
-ghost use Rattle.regress_match.specs.Memory.{TablesNeedMore};
+ghost use Rattle.regress_match.specs.Memory.{MayFillStack, TablesNeedMore};
 ghost use Rattle.regress_match.specs.Costs.{IsWithinFindCost};
 ghost use Rattle.regress_match.specs.Matcher.{IsLimited, IsLinear, find_factor_in};
 ghost use Rattle.regress_match.specs.Pattern.{matcher_outcomes, matcher_tree};
@@ -14,7 +14,7 @@ use crate::matcher::Matcher;
 use regress_backtrack::Cache;
 use regress_found::{Found, MemoryFault, Outcome};
 use regress_tables::Linear;
-use std::alloc::{AllocError, Global};
+use std::alloc::Global;
 
 impl Matcher {
     /// Returns the leftmost match that starts at the byte offset `from` or later: by backtracking, and by tables once its
@@ -34,7 +34,7 @@ impl Matcher {
         ensures bounded { IfOk result (λ found. IfSome (find_factor_in self.now text.now) (λ n. IsLinear n text.now found.outcome found.steps)) }
         ensures too_much { IfErr result (λ fault. fault ≡ TooMuchMemory → TablesNeedMore self.now text.now) }
     {
-        let first = self.find_within(alloc, cache, text, from, self.steps_before_tables(text))?;
+        let first = self.find_before_tables(alloc, cache, text, from)?;
         let steps = first.steps;
         match first.outcome {
             Outcome::OutOfSteps => {
@@ -48,11 +48,43 @@ impl Matcher {
         }
     }
 
+    /// Returns the same by backtracking, within some steps for each byte. Where a backtrack stack is full, all of them count as
+    /// taken, and the memory of the cache is given back, for tables.
+    ///
+    /// # Errors
+    /// Returns [`MemoryFault::Memory`] if an allocation fails.
+    fn find_before_tables(
+        &self,
+        alloc: Global,
+        cache: &mut Cache,
+        text: &str,
+        from: usize,
+    ) -> Result<Found, MemoryFault>
+        ensures finds { IfOk result (λ found. IsSearchResult text.now (matcher_outcomes self.now text.now) from found.outcome) }
+        ensures inside { IfOk result (λ found. IsWellFormed (matcher_tree self.now) → IfMatched found.outcome (IsInside text.now)) }
+        ensures few { IfOk result (λ found. found.steps ≤ 64 * (length text.now + 1)) }
+        ensures not_full { IfErr result (λ fault. fault ≡ TooMuchMemory → ⊥) }
+    {
+        let limit = self.steps_before_tables(text);
+        match self.find_within(alloc, cache, text, from, limit) {
+            Err(MemoryFault::TooMuchMemory) => {
+                *cache = Cache::new(alloc);
+                Ok(Found {
+                    outcome: Outcome::OutOfSteps,
+                    steps: limit,
+                })
+            }
+            Err(MemoryFault::Memory) => Err(MemoryFault::Memory),
+            Ok(found) => Ok(found),
+        }
+    }
+
     /// Returns the leftmost match that starts at the byte offset `from` or later, by backtracking within `limit` steps, in the
     /// memory of the cache.
     ///
     /// # Errors
-    /// Returns [`AllocError`] if an allocation fails.
+    /// - [`MemoryFault::TooMuchMemory`] if a backtrack stack needs more memory than [`Limits`](crate::Limits) allow.
+    /// - [`MemoryFault::Memory`] if an allocation fails.
     pub(crate) fn find_within(
         &self,
         alloc: Global,
@@ -60,11 +92,12 @@ impl Matcher {
         text: &str,
         from: usize,
         limit: u64,
-    ) -> Result<Found, AllocError>
+    ) -> Result<Found, MemoryFault>
         ensures finds { IfOk result (λ found. IsSearchResult text.now (matcher_outcomes self.now text.now) from found.outcome) }
         ensures inside { IfOk result (λ found. IsWellFormed (matcher_tree self.now) → IfMatched found.outcome (IsInside text.now)) }
         ensures limited { IfOk result (λ found. IsLimited limit found.outcome found.steps) }
         ensures costs { IfOk result (λ found. IsWithinFindCost self.now text.now from found.steps) }
+        ensures too_much { IfErr result (λ fault. fault ≡ TooMuchMemory → MayFillStack self.now text.now from) }
     {
         let mut remaining = limit;
         if self.lacks_required_byte(text, from, &mut remaining) {

@@ -8,7 +8,7 @@ ghost use Rattle.regress_match.specs.Iterated.{iterated_from, iterated_matcher, 
 ghost use Rattle.regress_found.specs.Results.{IsSearchResult, IfMatched, IsMatchResult};
 ghost use Rattle.regress_found.specs.Found.{IsInside};
 ghost use Rattle.regress_found.specs.declared.fault.MemoryFault.TheVariants.{TooMuchMemory};
-ghost use Rattle.regress_match.specs.Memory.{AllNeedMore, TablesNeedMore, match_bytes, memory_of};
+ghost use Rattle.regress_match.specs.Memory.{AllNeedMore, MayFillStackAt, SearchNeedsMore, match_bytes, memory_of};
 ghost use Rattle.regress_match.specs.Matcher.{IsLimited, IsLinear, factor_in, find_factor_in, find_limit_in, limit_in};
 ghost use Rattle.regress_match.specs.Pattern.{matcher_outcomes, matcher_tree};
 ghost use Rattle.regress_found.specs.Repeated.{AreAllMatches};
@@ -17,7 +17,7 @@ use crate::matcher::Matcher;
 use crate::matcher_matches::MatcherMatches;
 use regress_backtrack::{Cache, match_at};
 use regress_found::{Found, Match, MemoryFault, Outcome, push_within};
-use std::alloc::{AllocError, Global};
+use std::alloc::Global;
 
 /// The least and the largest number of steps of backtracking for each byte of a text, and once more, after which tables are
 /// made.
@@ -50,7 +50,8 @@ impl Matcher {
     ///
     /// # Errors
     /// - [`MemoryFault::TooMuchMemory`] if the search needs tables that take more memory than
-    ///   [`Limits`](crate::Limits) allow. They are not made then.
+    ///   [`Limits`](crate::Limits) allow, which are not made then; or if it only backtracks, and a backtrack stack needs more.
+    ///   Then 64 times its cost is at least the number of entries for which the stack may have room.
     /// - [`MemoryFault::Memory`] if an allocation fails.
     ///
     /// # Examples
@@ -82,7 +83,7 @@ impl Matcher {
         ensures bounded { IfOk result (λ found. IfSome (find_factor_in self.now text.now) (λ n. IsLinear n text.now found.outcome found.steps)) }
         ensures limited { IfOk result (λ found. IfNone (find_factor_in self.now text.now) (IsLimited (find_limit_in self.now steps) found.outcome found.steps)) }
         ensures costs { IfOk result (λ found. IfNone (find_factor_in self.now text.now) (IsWithinFindCost self.now text.now from found.steps)) }
-        ensures too_much { IfErr result (λ fault. fault ≡ TooMuchMemory → TablesNeedMore self.now text.now) }
+        ensures too_much { IfErr result (λ fault. fault ≡ TooMuchMemory → SearchNeedsMore self.now text.now) }
     {
         let mut cache = Cache::new(alloc);
         self.find_with(alloc, &mut cache, text, from, steps)
@@ -127,12 +128,12 @@ impl Matcher {
         ensures bounded { IfOk result (λ found. IfSome (find_factor_in self.now text.now) (λ n. IsLinear n text.now found.outcome found.steps)) }
         ensures limited { IfOk result (λ found. IfNone (find_factor_in self.now text.now) (IsLimited (find_limit_in self.now steps) found.outcome found.steps)) }
         ensures costs { IfOk result (λ found. IfNone (find_factor_in self.now text.now) (IsWithinFindCost self.now text.now from found.steps)) }
-        ensures too_much { IfErr result (λ fault. fault ≡ TooMuchMemory → TablesNeedMore self.now text.now) }
+        ensures too_much { IfErr result (λ fault. fault ≡ TooMuchMemory → SearchNeedsMore self.now text.now) }
     {
         if self.is_find_linear_in(text) {
             self.find_in_linear_time(alloc, cache, text, from)
         } else {
-            Ok(self.find_within(alloc, cache, text, from, self.find_step_limit(steps))?)
+            self.find_within(alloc, cache, text, from, self.find_step_limit(steps))
         }
     }
 
@@ -146,7 +147,8 @@ impl Matcher {
     /// The position is inside the text, or at its end.
     ///
     /// # Errors
-    /// Returns [`AllocError`] if an allocation fails.
+    /// - [`MemoryFault::TooMuchMemory`] if a backtrack stack needs more memory than [`Limits`](crate::Limits) allow.
+    /// - [`MemoryFault::Memory`] if an allocation fails.
     ///
     /// # Examples
     /// ```
@@ -167,13 +169,22 @@ impl Matcher {
         text: &str,
         position: usize,
         steps: u64,
-    ) -> Result<Found, AllocError>
+    ) -> Result<Found, MemoryFault>
         requires { position ≤ length text.now }
         ensures first { IfOk result (λ found. IsMatchResult position (matcher_outcomes self.now text.now position) found.outcome) }
         ensures limited { IfOk result (λ found. IsLimited steps found.outcome found.steps) }
         ensures costs { IfOk result (λ found. IsWithinMatchCost self.now text.now position found.steps) }
+        ensures too_much { IfErr result (λ fault. fault ≡ TooMuchMemory → MayFillStackAt self.now text.now position) }
     {
-        match_at(alloc, &self.code, self.known(), text, position, steps)
+        match_at(
+            alloc,
+            &self.code,
+            self.known(),
+            text,
+            position,
+            steps,
+            self.memory,
+        )
     }
 
     /// Returns a search for the non-overlapping matches that start at the byte offset `from` or later.

@@ -1,9 +1,9 @@
 use Rattle.std.proofs.Common.{◌+◌, ◌-◌, ◌≤◌, Some, subst, ◌∙◌}
-use Rattle.std.proofs.lemmas.Result.{IfOk-weaker}
+use Rattle.std.proofs.lemmas.Result.{IfErr-weaker, IfOk-weaker}
 use Rattle.regress_code.specs.Code.{captures_cost}
 use Rattle.regress_found.specs.Results.{IfMatched}
 use Rattle.regress_found.specs.Tried.{positions_tried}
-use Rattle.regress_match.proofs.CostLemmas.{run_within}
+use Rattle.regress_match.proofs.CostLemmas.{may_fill, run_within}
 use Rattle.regress_match.proofs.MatcherLemmas.{run_matches}
 use Rattle.regress_match.proofs.matcher.Matcher.find_by_backtracking.Goals as goal
 
@@ -22,6 +22,14 @@ returns-clause-costs c =
     (λ outcome ran. run_within c.args.self.now c.args.text.now c.new-backtracker.result made.code (made.tables ∙ c.known.ensures) made.text
     c.args.from c.args.remaining.now c.find.new.remaining ran)
     c.find.ensures.costs
+
+pub returns-clause-too_much : goal.returns-clause-too_much
+returns-clause-too_much c =
+    let made = c.new-backtracker.ensures in
+    IfErr-weaker c.find.result _ _
+    (λ fault full is. may_fill c.args.self.now c.args.text.now c.new-backtracker.result made.code (made.tables ∙ c.known.ensures) made.text c.args.from made.room
+    (full is))
+    c.find.ensures.too_much
 
 pub returns-clause-tried : goal.returns-clause-tried
 returns-clause-tried c =
