@@ -51,11 +51,12 @@ SearchNeedsMore m text = TablesNeedMore m text ⊎ StackNeedsMore m text
 abbrev pub match_bytes : Matcher → ℕ
 match_bytes m = 56 + 24 * code_groups m.code
 
--- The matches from the start of the text up to one of them take more memory than a list may.
+-- The matches from an offset up to one of them take more memory than a list may.
 pub record MatchesNeedMore (m : Matcher) (text : List ℕ) : Type 0 where
+  pub from : ℕ
   pub ms : List Match
   pub to : ℕ
-  pub found : AreMatches text (matcher_outcomes m text) 0 to ms
+  pub found : AreMatches text (matcher_outcomes m text) from to ms
   pub more : memory_of m < match_bytes m * length ms
 
 -- A search for all matches takes more memory than it may: its tables, a backtrack stack, or the list of the matches.
