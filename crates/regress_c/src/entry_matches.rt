@@ -2,7 +2,7 @@
 ghost use Rattle.std.specs.Prelude.{◌≡◌, IfSome, IsUtf8, None, length};
 ghost use Rattle.regress.specs.Compiled.{groups_of, outcomes_of};
 ghost use Rattle.regress.specs.Costs.{AllAreTooCostly};
-ghost use Rattle.regress.specs.Memory.{AllNeedMore, TablesNeedMore};
+ghost use Rattle.regress.specs.Memory.{AllNeedMore};
 ghost use Rattle.regress_capi.specs.ListResults.{ListResult, Returns, left, width_of};
 ghost use Rattle.regress_capi.specs.PartResults.{AreEndsOfParts};
 ghost use Rattle.regress_capi.specs.Spans.{AreEndsOfAll};
@@ -35,7 +35,7 @@ pub extern "C" fn regress_matches_new_raw(
     ensures same { handle.new.value ≡ handle.old.value }
     ensures status { IfSome handle.old.value (λ regex. ListResult (IsUtf8 text.now)
         (AreEndsOfAll text.now (outcomes_of regex text.now) from) (width_of (groups_of regex)) (AllAreTooCostly regex text.now from)
-        (TablesNeedMore regex text.now) matches.old.value result matches.new.value) }
+        (AllNeedMore regex text.now) matches.old.value result matches.new.value) }
 {
     let regex = handle.take(alloc);
     let status = write_list(alloc, &regex, Searched { text, from }, matches);

@@ -4,7 +4,7 @@ ghost use Rattle.regress_capi.specs.EscapeResults.{EscapeResult};
 ghost use Rattle.regress_capi.specs.ExpandResults.{ExpandResult};
 ghost use Rattle.regress_capi.specs.ReplaceResults.{HasAllReplaced, HasFirstReplaced, HasFirstsReplaced};
 ghost use Rattle.regress.specs.Costs.{AllAreTooCostly, IsTooCostly};
-ghost use Rattle.regress.specs.Memory.{AllNeedMore, TablesNeedMore};
+ghost use Rattle.regress.specs.Memory.{AllNeedMore, SearchNeedsMore};
 ghost use Rattle.regress_capi.specs.SearchResults.{SearchResult};
 
 use regress_capi::escaping;
@@ -34,7 +34,7 @@ pub extern "C" fn regress_replace_raw(
     requires { handle.old.value ≡ None → ⊥ }
     ensures same { handle.new.value ≡ handle.old.value }
     ensures status { IfSome handle.old.value (λ regex. SearchResult (IsUtf8 text.now × IsUtf8 template.now)
-        (HasFirstReplaced regex text.now template.now) ⊥ (IsTooCostly regex text.now 0) (TablesNeedMore regex text.now)
+        (HasFirstReplaced regex text.now template.now) ⊥ (IsTooCostly regex text.now 0) (SearchNeedsMore regex text.now)
         out.old result needed.new out.new) }
 {
     let regex = handle.take(alloc);

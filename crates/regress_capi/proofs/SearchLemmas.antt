@@ -1,5 +1,5 @@
 -- The result of a search, from what it computed.
-use Rattle.std.proofs.Common.{◌≡◌, ◌+◌, ◌++◌, ◌<◌, ℕ, add-one, drop-cons, false, get_or, IfNone, List, [], ◌∷◌, Option, drop, flat_map, length, append_assoc, append-nil, refl, sym, ap, ◌∙◌, subst}
+use Rattle.std.proofs.Common.{◌≡◌, ◌+◌, ◌*◌, ◌++◌, ◌<◌, ℕ, arith, inr, add-one, drop-cons, false, get_or, IfNone, List, [], ◌∷◌, Option, drop, flat_map, length, length-append, append_assoc, append-nil, refl, sym, ap, ◌∙◌, subst}
 use Rattle.std.proofs.lemmas.Grind.{flat_map-append}
 use Rattle.std.specs.Prelude.{IfErr, IfOk, MatchOption, MatchResult, None, Some, Result, Ok, Err, option_map}
 use Rattle.regress.specs.declared.failure.SearchError.{SearchError}
@@ -7,12 +7,13 @@ use Rattle.regress.specs.declared.failure.SearchError.TheVariants.{Memory, OutOf
 use Rattle.regress_front.specs.Steps.{CaptureSpan, MatchState}
 use Rattle.regress_found.specs.Found as one
 use Rattle.regress_found.specs.declared.found.Match as found
-use Rattle.regress_found.specs.Repeated.{AreMatches}
+use Rattle.regress_found.specs.Repeated.{AreMatches, next_offset}
+use Rattle.regress_match.proofs.lemmas.Memory.{matches_need_more_from}
 use Rattle.regress_match.proofs.lemmas.Searched.{AreMatches-more}
 use Rattle.regress.proofs.lemmas.Paid.{HasPaid, none_paid, one_more_paid, out_of_steps as too_costly, too_much_memory as too_large}
 use Rattle.regress.specs.Compiled.{outcomes_of, match_of}
 use Rattle.regress.specs.Costs.{AllAreTooCostly, CostsLimit, IsTooCostly, factor_in, find_factor_in, matcher_of, step_limit_of}
-use Rattle.regress.specs.Memory.{TablesNeedMore}
+use Rattle.regress.specs.Memory.{AllNeedMore, SearchNeedsMore, match_bytes, memory_of}
 use Rattle.regress.specs.Searched.{Advances, has_failed, next_from, search_limit, search_remaining, searched_matcher, searched_outcomes, searched_text}
 use Rattle.regress.specs.declared.pattern.Regex.{Regex}
 use Rattle.regress.specs.declared.found.Match.{Match}
@@ -48,9 +49,9 @@ ends_next spans i d a b done whole below is so_far =
 
 -- -- of a search for all matches
 
--- The iteration has found matches with these numbers without an error, and goes on after them. Its steps are at most what
--- they cost.
-pub record HasEnds (r : Regex) (text : List ℕ) (from : ℕ) (now : Matches) (numbers : List ℕ) : Type 0 where
+-- The iteration has found this number of matches, with these numbers, without an error, and goes on after them. Its steps are at most
+-- what they cost.
+pub record HasEnds (r : Regex) (text : List ℕ) (from : ℕ) (now : Matches) (numbers : List ℕ) (count : ℕ) : Type 0 where
   pub same_text : searched_text now ≡ text
   pub same_outcomes : searched_outcomes now ≡ outcomes_of r text
   pub failed : has_failed now ≡ false
@@ -58,10 +59,11 @@ pub record HasEnds (r : Regex) (text : List ℕ) (from : ℕ) (now : Matches) (n
   pub found : AreMatches text (outcomes_of r text) from (next_from now) ms
   pub paid : HasPaid r text from now ms
   pub are : numbers ≡ flat_map match_ends ms
+  pub counted : count ≡ length ms
 
 pub no-ends : (r : Regex) (text : List ℕ) (from : ℕ) (now : Matches) (numbers : List ℕ) → searched_text now ≡ text →
     searched_outcomes now ≡ outcomes_of r text → searched_matcher now ≡ matcher_of r → IfNone (factor_in r text) (search_limit now ≡ step_limit_of r) →
-    search_remaining now ≡ search_limit now → has_failed now ≡ false → next_from now ≡ from → numbers ≡ [] → HasEnds r text from now numbers
+    search_remaining now ≡ search_limit now → has_failed now ≡ false → next_from now ≡ from → numbers ≡ [] → HasEnds r text from now numbers 0
 no-ends r text from now numbers same_text same_outcomes same_matcher limit all failed start none = record {
   same_text = same_text;
   same_outcomes = same_outcomes;
@@ -70,12 +72,13 @@ no-ends r text from now numbers same_text same_outcomes same_matcher limit all f
   found = start;
   paid = none_paid r text from now same_matcher same_text limit all;
   are = none;
+  counted = refl;
 }
 
-module _ (r : Regex) (text : List ℕ) (from : ℕ) (now : Matches) (numbers : List ℕ) (sofar : HasEnds r text from now numbers)
+module _ (r : Regex) (text : List ℕ) (from : ℕ) (now : Matches) (numbers : List ℕ) (count : ℕ) (sofar : HasEnds r text from now numbers count)
     (new : Matches) where
   pub more-ends : (m : Match) (more : List ℕ) → Advances now (Some (Ok m)) new → more ≡ numbers ++ match_ends (match_of m) →
-      HasEnds r text from new more
+      HasEnds r text from new more (count + 1)
   more-ends m more step is =
       let next = step.yields.0 in
       let here : one.IsLeftmost text (outcomes_of r text) (next_from now) (match_of m) =
@@ -92,7 +95,19 @@ module _ (r : Regex) (text : List ℕ) (from : ℕ) (now : Matches) (numbers : L
         are = is ∙ ap (λ xs. xs ++ match_ends (match_of m)) sofar.are
             ∙ ap (λ ys. flat_map match_ends sofar.ms ++ ys) (sym (append-nil (match_ends (match_of m))))
             ∙ sym (flat_map-append match_ends sofar.ms (match_of m ∷ []));
+        counted = omega (arith, sofar.counted, length-append sofar.ms (match_of m ∷ []));
       }
+
+  -- one more match than a list may have room for
+  pub more-than-fit : (m : Match) (most : ℕ) → Advances now (Some (Ok m)) new → count ≡ most → memory_of r < match_bytes r * (most + 1) → AllNeedMore r text
+  more-than-fit m most step full few =
+      let next = step.yields.0 in
+      let here : one.IsLeftmost text (outcomes_of r text) (next_from now) (match_of m) =
+      subst (λ t. one.IsLeftmost t (outcomes_of r text) (next_from now) (match_of m)) sofar.same_text
+      (subst (λ f. one.IsLeftmost (searched_text now) f (next_from now) (match_of m)) sofar.same_outcomes next.leftmost) in
+      inr (matches_need_more_from (matcher_of r) text from (next_offset (match_of m)) sofar.ms (match_of m)
+      (AreMatches-more text (outcomes_of r text) from (next_from now) sofar.ms (match_of m) sofar.found here)
+      most (omega (arith, full, sofar.counted)) few)
 
   pub all-ends : Advances now None new → AreEndsOfAll text (outcomes_of r text) from numbers
   all-ends step = (
@@ -109,7 +124,7 @@ module _ (r : Regex) (text : List ℕ) (from : ℕ) (now : Matches) (numbers : L
   pub ends-late : (e : SearchError) → Advances now (Some (Err e)) new → e ≡ OutOfSteps → AllAreTooCostly r text from
   ends-late e step is = too_costly r text from now sofar.ms sofar.paid sofar.found new e step is
 
-  pub ends-large : (e : SearchError) → Advances now (Some (Err e)) new → e ≡ TooMuchMemory → TablesNeedMore r text
+  pub ends-large : (e : SearchError) → Advances now (Some (Err e)) new → e ≡ TooMuchMemory → SearchNeedsMore r text
   ends-large e step is = too_large r text from now sofar.ms sofar.paid sofar.found new e step is
 
 -- -- of a search that may fail

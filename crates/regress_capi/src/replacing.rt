@@ -1,7 +1,7 @@
 //! The results of replacing matches by a template.
 ghost use Rattle.std.specs.Prelude.{◌≡◌, ◌≢◌, IsUtf8, MatchOption, MatchResult, string_bytes};
 ghost use Rattle.regress.specs.Costs.{AllAreTooCostly, IsTooCostly};
-ghost use Rattle.regress.specs.Memory.{AllNeedMore, TablesNeedMore};
+ghost use Rattle.regress.specs.Memory.{AllNeedMore, SearchNeedsMore};
 ghost use Rattle.regress_capi.specs.ReplaceResults.{HasAllReplaced, HasFirstReplaced, HasFirstsReplaced};
 ghost use Rattle.regress_capi.specs.SearchResults.{IsBare, SearchResult, status_of};
 ghost use Rattle.regress_capi.specs.TextResults.{PlainResult};
@@ -33,7 +33,7 @@ pub fn write_first_replaced(
 ) -> u32
     ensures status { SearchResult (IsUtf8 replaced.entry.text.now × IsUtf8 replaced.entry.template.now)
         (HasFirstReplaced regex.now replaced.entry.text.now replaced.entry.template.now) ⊥
-        (IsTooCostly regex.now replaced.entry.text.now 0) (TablesNeedMore regex.now replaced.entry.text.now) out.old result needed.new out.new }
+        (IsTooCostly regex.now replaced.entry.text.now 0) (SearchNeedsMore regex.now replaced.entry.text.now) out.old result needed.new out.new }
 {
     *needed = 0;
     match decode(replaced.text, replaced.template) {

@@ -2,7 +2,7 @@
 ghost use Rattle.std.specs.Prelude.{◌≡◌, IfErr, IfOk, IsUtf8, MatchOption, MatchResult, None};
 ghost use Rattle.regress.specs.Compiled.{groups_of, outcomes_of, match_of};
 ghost use Rattle.regress.specs.Costs.{AllAreTooCostly, IsTooCostly};
-ghost use Rattle.regress.specs.Memory.{TablesNeedMore};
+ghost use Rattle.regress.specs.Memory.{AllNeedMore, SearchNeedsMore};
 ghost use Rattle.regress.specs.Searched.{MatchesSomewhere};
 ghost use Rattle.regress.specs.declared.failure.SearchError.TheVariants.{OutOfSteps, TooMuchMemory};
 ghost use Rattle.regress_capi.specs.ExactResults.{ExactResult};
@@ -66,7 +66,7 @@ pub fn write_first(
     ensures status { SearchResult (IsUtf8 searched.entry.text.now)
         (AreEndsOfFirst searched.entry.text.now (outcomes_of regex.now searched.entry.text.now) searched.entry.from)
         (Finds searched.entry.text.now (outcomes_of regex.now searched.entry.text.now) searched.entry.from None)
-        (IsTooCostly regex.now searched.entry.text.now searched.entry.from) (TablesNeedMore regex.now searched.entry.text.now) spans.old result needed.new spans.new }
+        (IsTooCostly regex.now searched.entry.text.now searched.entry.from) (SearchNeedsMore regex.now searched.entry.text.now) spans.old result needed.new spans.new }
 {
     let mut searcher = Searcher::new(alloc);
     write_first_with(alloc, &mut searcher, regex, searched, spans, needed)
@@ -90,7 +90,7 @@ pub fn write_first_with(
     ensures status { SearchResult (IsUtf8 searched.entry.text.now)
         (AreEndsOfFirst searched.entry.text.now (outcomes_of regex.now searched.entry.text.now) searched.entry.from)
         (Finds searched.entry.text.now (outcomes_of regex.now searched.entry.text.now) searched.entry.from None)
-        (IsTooCostly regex.now searched.entry.text.now searched.entry.from) (TablesNeedMore regex.now searched.entry.text.now) spans.old result needed.new spans.new }
+        (IsTooCostly regex.now searched.entry.text.now searched.entry.from) (SearchNeedsMore regex.now searched.entry.text.now) spans.old result needed.new spans.new }
 {
     *needed = 0;
     match str::from_utf8(searched.text) {
@@ -115,7 +115,7 @@ pub fn write_all(
 ) -> u32
     ensures status { SearchResult (IsUtf8 searched.entry.text.now)
         (AreEndsOfAll searched.entry.text.now (outcomes_of regex.now searched.entry.text.now) searched.entry.from) ⊥
-        (AllAreTooCostly regex.now searched.entry.text.now searched.entry.from) (TablesNeedMore regex.now searched.entry.text.now) spans.old result needed.new spans.new }
+        (AllAreTooCostly regex.now searched.entry.text.now searched.entry.from) (AllNeedMore regex.now searched.entry.text.now) spans.old result needed.new spans.new }
 {
     *needed = 0;
     match str::from_utf8(searched.text) {
@@ -132,7 +132,7 @@ pub fn write_all(
 pub fn test(alloc: Global, regex: &Regex, text: &[u8]) -> u32
     ensures status { TestResult (IsUtf8 text.now) (MatchesSomewhere text.now (outcomes_of regex.now text.now))
         (MatchesSomewhere text.now (outcomes_of regex.now text.now) → ⊥) (IsTooCostly regex.now text.now 0)
-        (TablesNeedMore regex.now text.now) result }
+        (SearchNeedsMore regex.now text.now) result }
 {
     let mut searcher = Searcher::new(alloc);
     test_with(alloc, &mut searcher, regex, text)
@@ -145,7 +145,7 @@ pub fn test(alloc: Global, regex: &Regex, text: &[u8]) -> u32
 pub fn test_with(alloc: Global, searcher: &mut Searcher, regex: &Regex, text: &[u8]) -> u32
     ensures status { TestResult (IsUtf8 text.now) (MatchesSomewhere text.now (outcomes_of regex.now text.now))
         (MatchesSomewhere text.now (outcomes_of regex.now text.now) → ⊥) (IsTooCostly regex.now text.now 0)
-        (TablesNeedMore regex.now text.now) result }
+        (SearchNeedsMore regex.now text.now) result }
 {
     match str::from_utf8(text) {
         Ok(text) => match searcher.is_match(alloc, regex, text) {
@@ -257,6 +257,8 @@ fn give(items: &Vec<usize>, buffer: &mut [usize], needed: &mut usize) -> u32
     if copy_to(items, buffer) { OK } else { ROOM }
 }
 
+/// Returns the ends of the matches from an offset on, and of their groups. There are at most as many matches as a list may
+/// have room for.
 pub(crate) fn all_ends(
     alloc: Global,
     regex: &Regex,
@@ -265,11 +267,17 @@ pub(crate) fn all_ends(
 ) -> Result<Option<Vec<usize>>, SearchError>
     ensures ends { IfOk result (λ some. MatchOption some ⊥ (λ ends. AreEndsOfAll text.now (outcomes_of regex.now text.now) from ends.items)) }
     ensures failed { IfErr result (λ error. error ≡ OutOfSteps → AllAreTooCostly regex.now text.now from) }
-    ensures too_much { IfErr result (λ error. error ≡ TooMuchMemory → TablesNeedMore regex.now text.now) }
+    ensures too_much { IfErr result (λ error. error ≡ TooMuchMemory → AllNeedMore regex.now text.now) }
 {
+    let most = regex.most_matches();
+    let mut count = 0;
     let mut ends = Vec::new(alloc);
     for found in regex.find_from(alloc, text, from) {
         let found = found?;
+        if count == most {
+            return Err(SearchError::TooMuchMemory);
+        }
+        count += 1;
         push_spans(&found, &mut ends)?;
     }
     Ok(Some(ends))

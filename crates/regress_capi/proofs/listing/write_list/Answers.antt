@@ -1,7 +1,7 @@
 use Rattle.std.proofs.Common.{subst}
 use Rattle.regress.specs.Compiled.{groups_of, outcomes_of}
 use Rattle.regress.specs.Costs.{AllAreTooCostly}
-use Rattle.regress.specs.Memory.{TablesNeedMore}
+use Rattle.regress.specs.Memory.{AllNeedMore}
 use Rattle.regress_capi.specs.ListResults.{IsListOf, list_bad, listed, width_of}
 use Rattle.regress_capi.specs.Spans.{AreEndsOfAll}
 use Rattle.regress_capi.proofs.ListLemmas.{list-fails}
@@ -21,7 +21,7 @@ returns-in-Err-list c = record {
   status =
       list-fails c.in-Err-list.error c.in-Ok.ensures.cases.1
       (λ is. subst (λ t. AllAreTooCostly c.args.regex.now t c.args.searched.from) c.in-Ok.ensures.cases.0 (c.in-Err-list.ensures.failed is))
-      (λ is. subst (TablesNeedMore c.args.regex.now) c.in-Ok.ensures.cases.0 (c.in-Err-list.ensures.too_much is))
+      (λ is. subst (AllNeedMore c.args.regex.now) c.in-Ok.ensures.cases.0 (c.in-Err-list.ensures.too_much is))
       c.error_status.ensures;
 }
 

@@ -1,7 +1,7 @@
 use Rattle.std.proofs.Common.{◌≡◌, string_bytes, subst}
 use Rattle.std.specs.Prelude.{IfErr, IfOk}
 use Rattle.regress.specs.Costs.{IsTooCostly}
-use Rattle.regress.specs.Memory.{TablesNeedMore}
+use Rattle.regress.specs.Memory.{SearchNeedsMore}
 use Rattle.regress.specs.declared.failure.SearchError.TheVariants.{OutOfSteps, TooMuchMemory}
 use Rattle.regress_capi.specs.ReplaceResults.{HasFirstReplaced}
 use Rattle.regress_capi.specs.SearchResults.{bad}
@@ -17,7 +17,7 @@ returns-in-Some c = record {
       c.replace.ensures.replaced))
       (subst (λ t. IfErr c.replace.result (λ error. error ≡ OutOfSteps → IsTooCostly c.args.regex.now t 0)) c.in-Some.ensures.0
       (costly c.args.regex.now c.in-Some.text.now 0 c.replace.result c.replace.ensures.linear c.replace.ensures.bounded c.replace.ensures.costs))
-      (subst (λ t. IfErr c.replace.result (λ error. error ≡ TooMuchMemory → TablesNeedMore c.args.regex.now t)) c.in-Some.ensures.0
+      (subst (λ t. IfErr c.replace.result (λ error. error ≡ TooMuchMemory → SearchNeedsMore c.args.regex.now t)) c.in-Some.ensures.0
       c.replace.ensures.too_much)
       c.report.ensures;
 }

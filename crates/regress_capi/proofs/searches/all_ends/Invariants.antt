@@ -3,4 +3,4 @@ use Rattle.regress_capi.proofs.SearchLemmas.{HasEnds}
 use Rattle.regress_capi.proofs.searches.all_ends.Given as goal
 
 abbrev pub invariant-loop-found : goal.invariant-loop-found
-invariant-loop-found l = HasEnds l.regex l.text l.from l.found-iterator l.ends.items
+invariant-loop-found l = HasEnds l.regex l.text l.from l.found-iterator l.ends.items l.count

@@ -1,7 +1,7 @@
 use Rattle.std.proofs.Common.{◌≡◌, true, sym, subst}
 use Rattle.regress.specs.Compiled.{outcomes_of}
 use Rattle.regress.specs.Costs.{IsTooCostly}
-use Rattle.regress.specs.Memory.{TablesNeedMore}
+use Rattle.regress.specs.Memory.{SearchNeedsMore}
 use Rattle.regress.specs.Searched.{MatchesSomewhere}
 use Rattle.regress_capi.specs.SearchResults.{found, not_found, no_text}
 use Rattle.regress_capi.proofs.SearchLemmas.{test-fails}
@@ -31,7 +31,7 @@ returns-in-Err-is_match c = record {
         bounded = c.in-Err-is_match.ensures.bounded is;
         costs = c.in-Err-is_match.ensures.costs is;
       }))
-      (λ is. subst (TablesNeedMore c.args.regex.now) c.in-Ok.ensures.cases.0 (c.in-Err-is_match.ensures.too_much is))
+      (λ is. subst (SearchNeedsMore c.args.regex.now) c.in-Ok.ensures.cases.0 (c.in-Err-is_match.ensures.too_much is))
       c.error_status.ensures;
 }
 
