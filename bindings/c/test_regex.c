@@ -717,6 +717,12 @@ static void limits(void) {
     CHECK(compiled_within(&linear, "(a*)*b", &regex) == REGRESS_OK);
     CHECK(found(&regex, "aaaaaaaaaaaaaaaaaaaaaaaaaaaaaaaa", 0, ROOM) == REGRESS_NO_MATCH);
     regress_free(&regex);
+    /* a list has room for 1000 / 56 matches */
+    CHECK(compiled_within(&memory, "a", &regex) == REGRESS_OK);
+    CHECK(found_all(&regex, "aa", ROOM) == REGRESS_OK && needed == 4);
+    CHECK(found_all(&regex, "aaaaaaaaaaaaaaaaa", 1) == REGRESS_ROOM && needed == 34);
+    CHECK(found_all(&regex, "aaaaaaaaaaaaaaaaaa", ROOM) == REGRESS_TOO_MUCH_MEMORY && needed == 0);
+    regress_free(&regex);
     /* a backtrack stack that is full */
     memory.memory = 4000;
     CHECK(compiled_within(&memory, "(?:a|b|(c))*\\1d", &regex) == REGRESS_OK);
