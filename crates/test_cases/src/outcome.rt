@@ -94,7 +94,7 @@ pub(crate) fn response_question(
             let position = call.read(byte_position(text, characters), 0);
             let position = position.min(text.len());
             let found = matcher.match_at(call.alloc(), text, position, STEPS);
-            report_found(call, text, found.map_err(MemoryFault::from), STEPS);
+            report_found(call, text, found, STEPS);
         }
         Question::All => report_all(call, matcher, text),
     }
