@@ -3,7 +3,7 @@ use Rattle.std.specs.Prelude.{ℕ, List}
 use Rattle.regress_match.specs.Memory as matcher
 use Rattle.regress.specs.declared.pattern.Regex.{Regex}
 
--- the number of bytes that the tables of a search may take, and a list of matches
+-- the number of bytes that the tables of a search may take, each backtrack stack, and a list of matches
 abbrev pub memory_of : Regex → ℕ
 memory_of r = matcher.memory_of r.matcher
 
@@ -11,14 +11,15 @@ memory_of r = matcher.memory_of r.matcher
 abbrev pub instructions_of : Regex → ℕ
 instructions_of r = matcher.instructions_of r.matcher
 
--- The tables of a search in the text take more memory than they may.
-abbrev pub TablesNeedMore : Regex → (text : List ℕ) → Type 0
-TablesNeedMore r text = matcher.TablesNeedMore r.matcher text
+-- A search in the text takes more memory than it may: its tables, or a backtrack stack.
+abbrev pub SearchNeedsMore : Regex → (text : List ℕ) → Type 0
+SearchNeedsMore r text = matcher.SearchNeedsMore r.matcher text
 
 -- the number of bytes that a match counts in a list
 abbrev pub match_bytes : Regex → ℕ
 match_bytes r = matcher.match_bytes r.matcher
 
--- A search for all matches in the text takes more memory than it may: its tables, or the list of the matches.
+-- A search for all matches in the text takes more memory than it may: its tables, a backtrack stack, or the list of the
+-- matches.
 abbrev pub AllNeedMore : Regex → (text : List ℕ) → Type 0
 AllNeedMore r text = matcher.AllNeedMore r.matcher text

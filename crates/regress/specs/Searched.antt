@@ -9,7 +9,7 @@ use Rattle.regress_match.specs.Pattern.{capture_of}
 use Rattle.regress_match.specs.Costs.{IsWithinFindCost}
 use Rattle.regress_match.specs.Iterated.{HasCounted, iterated_from, iterated_matcher, iterated_outcomes, iterated_text, step_limit, steps_remaining, steps_taken}
 use Rattle.regress_match.specs.Matcher.{factor_in}
-use Rattle.regress_match.specs.Memory.{TablesNeedMore}
+use Rattle.regress_match.specs.Memory.{SearchNeedsMore}
 use Rattle.regress_match.specs.declared.matcher.Matcher.{Matcher}
 use Rattle.regress_found.specs.Repeated.{next_offset}
 use Rattle.regress.specs.Compiled.{groups_in, match_of}
@@ -91,11 +91,11 @@ pub record IsTooCostly (m : Matches) : Type 0 where
   pub linear : searched_factor m ≡ None
   pub costs : IsWithinFindCost (searched_matcher m) (searched_text m) (next_from m) (search_remaining m)
 
--- An error of the search for the next match is due: it may be out of steps, or the tables of the text take more memory than
--- they may. Out of memory it states nothing.
+-- An error of the search for the next match is due: it may be out of steps, or take more memory than it may. Out of memory it
+-- states nothing.
 pub record IsDue (m : Matches) (error : SearchError) : Type 0 where
   pub steps : error ≡ OutOfSteps → IsTooCostly m
-  pub memory : error ≡ TooMuchMemory → TablesNeedMore (searched_matcher m) (searched_text m)
+  pub memory : error ≡ TooMuchMemory → SearchNeedsMore (searched_matcher m) (searched_text m)
 
 -- What a search for the next match returns. An error leaves it where it was.
 abbrev pub Returns : Matches → Result (Option Match) SearchError → Matches → Type 0

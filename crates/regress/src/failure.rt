@@ -97,8 +97,8 @@ pub enum SearchError {
     /// The search takes more steps than [`Options`](crate::Options) allow.
     #[error("the search takes too many steps")]
     OutOfSteps,
-    /// The search needs tables, or a list of matches, that take more memory than `memory` of [`Options`](crate::Options)
-    /// allows.
+    /// The search needs more memory for its tables, for a backtrack stack, or for a list of matches, than `memory` of
+    /// [`Options`](crate::Options) allows.
     #[error("the search needs more memory than the option memory allows")]
     TooMuchMemory,
 }

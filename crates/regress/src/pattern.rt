@@ -79,7 +79,7 @@ impl Regex {
     ghost use Rattle.regress_replace.specs.Order.{AreInOrder};
     ghost use Rattle.regress.specs.Costs.{AllCostLimit, CostsLimit, factor_in, factor_of, find_factor_in, find_factor_of, limit_of, linear_steps_of, matcher_of, nonlinear_of, step_limit_of};
     ghost use Rattle.regress.specs.Kept.{Keeps};
-    ghost use Rattle.regress.specs.Memory.{AllNeedMore, TablesNeedMore, instructions_of, match_bytes, memory_of};
+    ghost use Rattle.regress.specs.Memory.{AllNeedMore, SearchNeedsMore, instructions_of, match_bytes, memory_of};
     ghost use Rattle.regress.specs.Compiled.{IsCompiledFromIn, IsCompiledIn, groups_of, outcomes_of, setting_of, source_of, tree_of, groups_in, match_of};
     ghost use Rattle.regress.specs.Unicode.{unicode_setting};
     ghost use Rattle.regress.specs.Source.{text_of};
@@ -309,7 +309,7 @@ impl Regex {
         ensures linear { IfErr result (λ error. error ≡ OutOfSteps → factor_in self.now text.now ≡ None) }
         ensures bounded { IfErr result (λ error. error ≡ OutOfSteps → find_factor_in self.now text.now ≡ None) }
         ensures costs { IfErr result (λ error. error ≡ OutOfSteps → CostsLimit self.now text.now 0) }
-        ensures too_much { IfErr result (λ error. error ≡ TooMuchMemory → TablesNeedMore self.now text.now) }
+        ensures too_much { IfErr result (λ error. error ≡ TooMuchMemory → SearchNeedsMore self.now text.now) }
     {
         let found = self.find(alloc, text)?;
         Ok(found.is_some())
@@ -326,7 +326,7 @@ impl Regex {
         ensures linear { IfErr result (λ error. error ≡ OutOfSteps → factor_in self.now text.now ≡ None) }
         ensures bounded { IfErr result (λ error. error ≡ OutOfSteps → find_factor_in self.now text.now ≡ None) }
         ensures costs { IfErr result (λ error. error ≡ OutOfSteps → CostsLimit self.now text.now 0) }
-        ensures too_much { IfErr result (λ error. error ≡ TooMuchMemory → TablesNeedMore self.now text.now) }
+        ensures too_much { IfErr result (λ error. error ≡ TooMuchMemory → SearchNeedsMore self.now text.now) }
     {
         self.find_at(alloc, text, 0)
     }
@@ -343,7 +343,8 @@ impl Regex {
     ///   [`Regex::is_find_linear`], more than `linear_steps`; then never if [`Regex::find_steps_per_byte`] for each byte of
     ///   the text, and once more, is within them.
     /// - [`SearchError::TooMuchMemory`] if the search needs tables that take more bytes than `memory` of [`Options`]:
-    ///   (n / 4 + 8) (length + 1) for a program of n instructions, with n / 4 rounded up. They are not made then.
+    ///   (n / 4 + 8) (length + 1) for a program of n instructions, with n / 4 rounded up, which are not made then; or if it only
+    ///   backtracks, and a backtrack stack needs more.
     /// - [`SearchError::Memory`] if an allocation fails.
     ///
     /// # Complexity
@@ -364,7 +365,7 @@ impl Regex {
         ensures linear { IfErr result (λ error. error ≡ OutOfSteps → factor_in self.now text.now ≡ None) }
         ensures bounded { IfErr result (λ error. error ≡ OutOfSteps → find_factor_in self.now text.now ≡ None) }
         ensures costs { IfErr result (λ error. error ≡ OutOfSteps → CostsLimit self.now text.now start) }
-        ensures too_much { IfErr result (λ error. error ≡ TooMuchMemory → TablesNeedMore self.now text.now) }
+        ensures too_much { IfErr result (λ error. error ≡ TooMuchMemory → SearchNeedsMore self.now text.now) }
     {
         let mut searcher = Searcher::new(alloc);
         searcher.find_at(alloc, self, text, start)

@@ -5,7 +5,7 @@ ghost use Rattle.regress_replace.specs.Expansion.{expansion};
 ghost use Rattle.regress_replace.specs.Order.{AreInOrder};
 ghost use Rattle.regress.specs.Compiled.{groups_of, outcomes_of, match_of};
 ghost use Rattle.regress.specs.Costs.{AllAreTooCostly, AllCostLimit, CostsLimit, IsTooCostly, factor_in, find_factor_in};
-ghost use Rattle.regress.specs.Memory.{AllNeedMore, TablesNeedMore};
+ghost use Rattle.regress.specs.Memory.{AllNeedMore, SearchNeedsMore};
 ghost use Rattle.regress.specs.Replaced.{HasReturned, IsReplacedBy, ReplacesAll, ReplacesAllWith, ReplacesFirst, ReplacesFirstN, ReplacesFirstWith};
 ghost use Rattle.regress.specs.declared.failure.SearchError.TheVariants.{OutOfSteps, TooMuchMemory};
 
@@ -40,7 +40,7 @@ impl Regex {
         ensures linear { IfErr result (λ error. error ≡ OutOfSteps → factor_in self.now text.now ≡ None) }
         ensures bounded { IfErr result (λ error. error ≡ OutOfSteps → find_factor_in self.now text.now ≡ None) }
         ensures costs { IfErr result (λ error. error ≡ OutOfSteps → CostsLimit self.now text.now 0) }
-        ensures too_much { IfErr result (λ error. error ≡ TooMuchMemory → TablesNeedMore self.now text.now) }
+        ensures too_much { IfErr result (λ error. error ≡ TooMuchMemory → SearchNeedsMore self.now text.now) }
     {
         match self.find(alloc, text)? {
             Some(m) => Ok(replace_matches(
@@ -132,7 +132,7 @@ impl Regex {
         requires { F.IsAlwaysCallable replacer }
         ensures replaced { IfOk result (λ out. ReplacesFirstWith text.now (outcomes_of self.now text.now) F.FnMut replacer (string_bytes out)) }
         ensures failed { IfErr result (λ error. error ≡ OutOfSteps → IsTooCostly self.now text.now 0 ⊎ HasReturned F.FnMut replacer error) }
-        ensures too_much { IfErr result (λ error. error ≡ TooMuchMemory → TablesNeedMore self.now text.now ⊎ HasReturned F.FnMut replacer error) }
+        ensures too_much { IfErr result (λ error. error ≡ TooMuchMemory → SearchNeedsMore self.now text.now ⊎ HasReturned F.FnMut replacer error) }
     {
         match self.find(alloc, text)? {
             Some(m) => replace_each(alloc, text, slice::from_ref(&m), replacer),

@@ -4,7 +4,7 @@ ghost use Rattle.regress_front.specs.WellFormed.{IsWellFormed};
 ghost use Rattle.regress_match.specs.AllCosts.{CostsOfMatches};
 ghost use Rattle.regress_match.specs.Costs.{IsWithinFindCost};
 ghost use Rattle.regress_match.specs.Iterated.{iterated_matcher};
-ghost use Rattle.regress_match.specs.Memory.{AllNeedMore, TablesNeedMore};
+ghost use Rattle.regress_match.specs.Memory.{AllNeedMore, SearchNeedsMore};
 ghost use Rattle.regress_found.specs.Found.{IsInside, Finds};
 ghost use Rattle.regress_match.specs.Matcher.{factor_in, find_factor_in, find_limit_in, limit_in};
 ghost use Rattle.regress_match.specs.Pattern.{matcher_outcomes, matcher_tree};
@@ -32,7 +32,7 @@ pub(crate) fn find(
     ensures linear { IfErr result (λ error. error ≡ OutOfSteps → factor_in matcher.now text.now ≡ None) }
     ensures bounded { IfErr result (λ error. error ≡ OutOfSteps → find_factor_in matcher.now text.now ≡ None) }
     ensures costs { IfErr result (λ error. error ≡ OutOfSteps → IsWithinFindCost matcher.now text.now from (find_limit_in matcher.now steps)) }
-    ensures too_much { IfErr result (λ error. error ≡ TooMuchMemory → TablesNeedMore matcher.now text.now) }
+    ensures too_much { IfErr result (λ error. error ≡ TooMuchMemory → SearchNeedsMore matcher.now text.now) }
 {
     let found = matcher.find_with(alloc, cache, text, from, steps)?;
     match found.outcome {

@@ -36,7 +36,7 @@ impl Searcher {
     ghost use Rattle.regress_found.specs.Found.{IsInside, Finds};
     ghost use Rattle.regress.specs.Compiled.{groups_in, groups_of, match_of, outcomes_of};
     ghost use Rattle.regress.specs.Costs.{CostsLimit, factor_in, find_factor_in};
-    ghost use Rattle.regress.specs.Memory.{TablesNeedMore};
+    ghost use Rattle.regress.specs.Memory.{SearchNeedsMore};
     ghost use Rattle.regress.specs.Searched.{MatchesSomewhere};
     ghost use Rattle.regress.specs.declared.failure.SearchError.TheVariants.{OutOfSteps, TooMuchMemory};
 
@@ -67,7 +67,7 @@ impl Searcher {
         ensures linear { IfErr result (λ error. error ≡ OutOfSteps → factor_in regex.now text.now ≡ None) }
         ensures bounded { IfErr result (λ error. error ≡ OutOfSteps → find_factor_in regex.now text.now ≡ None) }
         ensures costs { IfErr result (λ error. error ≡ OutOfSteps → CostsLimit regex.now text.now start) }
-        ensures too_much { IfErr result (λ error. error ≡ TooMuchMemory → TablesNeedMore regex.now text.now) }
+        ensures too_much { IfErr result (λ error. error ≡ TooMuchMemory → SearchNeedsMore regex.now text.now) }
     {
         let found = search::find(
             alloc,
@@ -100,7 +100,7 @@ impl Searcher {
         ensures linear { IfErr result (λ error. error ≡ OutOfSteps → factor_in regex.now text.now ≡ None) }
         ensures bounded { IfErr result (λ error. error ≡ OutOfSteps → find_factor_in regex.now text.now ≡ None) }
         ensures costs { IfErr result (λ error. error ≡ OutOfSteps → CostsLimit regex.now text.now 0) }
-        ensures too_much { IfErr result (λ error. error ≡ TooMuchMemory → TablesNeedMore regex.now text.now) }
+        ensures too_much { IfErr result (λ error. error ≡ TooMuchMemory → SearchNeedsMore regex.now text.now) }
     {
         match self.find_at(alloc, regex, text, 0)? {
             Some(found) => {

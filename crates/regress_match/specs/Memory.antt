@@ -3,7 +3,8 @@ use Rattle.std.specs.Prelude.{◌≡◌, ℕ, ◌+◌, ◌*◌, ◌<◌, ◌≤�
 use Rattle.regress_program.specs.Compiled.{total}
 use Rattle.regress_program.specs.Cost.{Cost}
 use Rattle.regress_program.specs.Program.{Out}
-use Rattle.regress_backtrack.specs.Memory.{entries_in}
+use Rattle.regress_backtrack.specs.Memory.{IsWithin, entries_in}
+use Rattle.regress_backtrack.specs.declared.cache.Cache.{Cache}
 use Rattle.regress_code.specs.Code.{code_groups, code_routines}
 use Rattle.regress_found.specs.Repeated.{AreMatches}
 use Rattle.regress_found.specs.declared.found.Match.{Match}
@@ -24,6 +25,10 @@ instructions_of m = total (code_routines m.code)
 -- The tables of the text take more memory than they may.
 abbrev pub TablesNeedMore : Matcher → (text : List ℕ) → Type 0
 TablesNeedMore m text = memory_of m < table_bytes (instructions_of m) text
+
+-- Each backtrack stack of a cache has room for at most as many bytes as it may take.
+abbrev pub AreStacksWithin : Matcher → Cache → Type 0
+AreStacksWithin m = IsWithin (entries_in (memory_of m))
 
 -- A search by backtracking from there on may fill a stack: 64 times its cost is at least the number of entries for which
 -- the stack may have room.

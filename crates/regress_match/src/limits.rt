@@ -16,9 +16,11 @@ pub struct Limits {
     /// more, is within this limit; for one match [`Matcher::find_steps_per_byte`](crate::Matcher::find_steps_per_byte). Any
     /// other text is searched by backtracking only, within this number of steps.
     pub linear_steps: Option<u64>,
-    /// The memory in bytes that the tables of a search may take, and also a list of matches. 256 MiB by default. A search that
-    /// needs more ends with [`MemoryFault::TooMuchMemory`](crate::MemoryFault::TooMuchMemory).
+    /// The memory in bytes that the tables of a search may take; also each backtrack stack, and a list of matches. 256 MiB by
+    /// default. A search that needs more ends with [`MemoryFault::TooMuchMemory`](crate::MemoryFault::TooMuchMemory), but one
+    /// whose stack is full goes on by tables, if it takes linear time.
     ///
+    /// There is a backtrack stack for the pattern, and one for each level of nested lookarounds, with 40 bytes for each entry.
     /// Tables take a quarter of a byte for each instruction, and 8 bytes, for each byte of the text, and once more. A
     /// lookaround takes up to 4 bytes more for each byte of the text, which do not count. A match in a list counts 56 bytes,
     /// and 24 for each group of the pattern.

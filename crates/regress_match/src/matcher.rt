@@ -27,7 +27,7 @@ pub struct Matcher {
     pub(crate) within: bool,
     /// The number of steps that a search may take that takes linear time.
     pub(crate) linear_steps: Option<u64>,
-    /// The number of bytes that the tables of a search may take.
+    /// The number of bytes that the tables of a search may take, each backtrack stack, and a list of matches.
     pub(crate) memory: usize,
     /// A byte that each match contains, if one is known.
     pub(crate) required_byte: Option<u8>,

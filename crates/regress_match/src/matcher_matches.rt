@@ -3,7 +3,7 @@ ghost use Rattle.std.specs.Prelude.{◌≤◌, ◌+◌, ◌*◌, IfSome, length}
 ghost use Rattle.std.proofs.Props.{props};
 ghost use Rattle.regress_match.specs.Kept.{IfKept, IfKept-prop};
 ghost use Rattle.regress_match.specs.Matcher.{factor_in};
-ghost use Rattle.regress_match.specs.Memory.{memory_of};
+ghost use Rattle.regress_match.specs.Memory.{AreStacksWithin, memory_of};
 ghost use Rattle.regress_tables.specs.Memory.{table_bytes};
 ghost use Rattle.regress_tables.specs.TextSearch.{searched_size};
 
@@ -31,5 +31,6 @@ pub struct MatcherMatches<'m> {
     ghost within: { remaining ≤ limit },
     ghost short: { IfSome (factor_in matcher.now text.now) (λ _. limit ≤ 64 * (length text.now + 1)) } by { Prim.hlevel props },
     ghost fits: { IfSome search (λ s. table_bytes (searched_size s) text.now ≤ memory_of matcher.now) } by { Prim.hlevel props },
+    ghost held: { IfSome cache (AreStacksWithin matcher.now) } by { Prim.hlevel props },
     ghost kept: { IfKept matcher.now text.now from searched search } by { IfKept-prop matcher.now text.now from searched search },
 }

@@ -4,7 +4,7 @@ ghost use Rattle.regress_tree.specs.WellFormed.{IsWellFormed};
 ghost use Rattle.regress_found.specs.Results.{IsSearchResult, IfMatched, IfOutOfSteps};
 ghost use Rattle.regress_found.specs.Found.{IsInside};
 ghost use Rattle.regress_found.specs.declared.fault.MemoryFault.TheVariants.{TooMuchMemory};
-ghost use Rattle.regress_match.specs.Memory.{MayFillStack, TablesNeedMore};
+ghost use Rattle.regress_match.specs.Memory.{AreStacksWithin, MayFillStack, TablesNeedMore};
 ghost use Rattle.regress_match.specs.Costs.{IsWithinFindCost};
 ghost use Rattle.regress_match.specs.Matcher.{IsLimited, IsLinear, find_factor_in};
 ghost use Rattle.regress_match.specs.Pattern.{matcher_outcomes, matcher_tree};
@@ -32,6 +32,7 @@ impl Matcher {
         ensures finds { IfOk result (λ found. IsSearchResult text.now (matcher_outcomes self.now text.now) from found.outcome) }
         ensures inside { IfOk result (λ found. IsWellFormed (matcher_tree self.now) → IfMatched found.outcome (IsInside text.now)) }
         ensures bounded { IfOk result (λ found. IfSome (find_factor_in self.now text.now) (λ n. IsLinear n text.now found.outcome found.steps)) }
+        ensures within { AreStacksWithin self.now cache.old → AreStacksWithin self.now cache.new }
         ensures too_much { IfErr result (λ fault. fault ≡ TooMuchMemory → TablesNeedMore self.now text.now) }
     {
         let first = self.find_before_tables(alloc, cache, text, from)?;
@@ -63,6 +64,7 @@ impl Matcher {
         ensures finds { IfOk result (λ found. IsSearchResult text.now (matcher_outcomes self.now text.now) from found.outcome) }
         ensures inside { IfOk result (λ found. IsWellFormed (matcher_tree self.now) → IfMatched found.outcome (IsInside text.now)) }
         ensures few { IfOk result (λ found. found.steps ≤ 64 * (length text.now + 1)) }
+        ensures within { AreStacksWithin self.now cache.old → AreStacksWithin self.now cache.new }
         ensures not_full { IfErr result (λ fault. fault ≡ TooMuchMemory → ⊥) }
     {
         let limit = self.steps_before_tables(text);
@@ -97,6 +99,7 @@ impl Matcher {
         ensures inside { IfOk result (λ found. IsWellFormed (matcher_tree self.now) → IfMatched found.outcome (IsInside text.now)) }
         ensures limited { IfOk result (λ found. IsLimited limit found.outcome found.steps) }
         ensures costs { IfOk result (λ found. IsWithinFindCost self.now text.now from found.steps) }
+        ensures within { AreStacksWithin self.now cache.old → AreStacksWithin self.now cache.new }
         ensures too_much { IfErr result (λ fault. fault ≡ TooMuchMemory → MayFillStack self.now text.now from) }
     {
         let mut remaining = limit;

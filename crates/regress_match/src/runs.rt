@@ -1,5 +1,5 @@
 //! Backtracking with the program of a matcher.
-ghost use Rattle.std.specs.Prelude.{◌≡◌, ◌≤◌, ◌+◌, ◌-◌, ℕ, IfErr, IfOk, Some};
+ghost use Rattle.std.specs.Prelude.{◌≡◌, ◌≤◌, ◌+◌, ◌-◌, ℕ, IfErr, IfOk, IfSome, Some};
 ghost use Rattle.regress_program.specs.Cost.{Cost};
 ghost use Rattle.regress_program.specs.Program.{Out};
 ghost use Rattle.regress_code.specs.Code.{captures_cost};
@@ -7,7 +7,7 @@ ghost use Rattle.regress_found.specs.Results.{IsSearchResult, IfMatched, IfOutOf
 ghost use Rattle.regress_found.specs.Tried.{positions_tried};
 ghost use Rattle.regress_found.specs.declared.fault.MemoryFault.TheVariants.{TooMuchMemory};
 ghost use Rattle.regress_match.specs.Costs.{AreCosts, find_cost};
-ghost use Rattle.regress_match.specs.Memory.{MayFillStack};
+ghost use Rattle.regress_match.specs.Memory.{AreStacksWithin, MayFillStack};
 ghost use Rattle.regress_match.specs.Pattern.{matcher_outcomes};
 
 use crate::matcher::Matcher;
@@ -37,6 +37,7 @@ impl Matcher {
             remaining.old ≤ remaining.new + find_cost self.now text.now costs from) }
         ensures tried { IfOk result (λ outcome. IfMatched outcome (λ m.
             remaining.new ≤ remaining.old - (captures_cost self.now.code + positions_tried text.now from (Some m)))) }
+        ensures within { AreStacksWithin self.now cache.old → AreStacksWithin self.now cache.new }
         ensures too_much { IfErr result (λ fault. fault ≡ TooMuchMemory → MayFillStack self.now text.now from) }
     {
         let backtracker = Backtracker::new(&self.code, self.known(), text, self.memory);
@@ -63,6 +64,7 @@ impl Matcher {
             remaining.old ≤ remaining.new + find_cost self.now text.now costs from) }
         ensures tried { IfOk result (λ outcome. IfMatched outcome (λ m.
             remaining.new ≤ remaining.old - (captures_cost self.now.code + positions_tried text.now from (Some m)))) }
+        ensures within { IfSome kept.old (AreStacksWithin self.now) → IfSome kept.new (AreStacksWithin self.now) }
         ensures too_much { IfErr result (λ fault. fault ≡ TooMuchMemory → MayFillStack self.now text.now from) }
     {
         match kept {

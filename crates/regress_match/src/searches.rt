@@ -8,7 +8,7 @@ ghost use Rattle.regress_match.specs.Iterated.{iterated_from, iterated_matcher, 
 ghost use Rattle.regress_found.specs.Results.{IsSearchResult, IfMatched, IsMatchResult};
 ghost use Rattle.regress_found.specs.Found.{IsInside};
 ghost use Rattle.regress_found.specs.declared.fault.MemoryFault.TheVariants.{TooMuchMemory};
-ghost use Rattle.regress_match.specs.Memory.{AllNeedMore, MayFillStackAt, SearchNeedsMore, match_bytes, memory_of};
+ghost use Rattle.regress_match.specs.Memory.{AllNeedMore, AreStacksWithin, MayFillStackAt, SearchNeedsMore, match_bytes, memory_of};
 ghost use Rattle.regress_match.specs.Matcher.{IsLimited, IsLinear, factor_in, find_factor_in, find_limit_in, limit_in};
 ghost use Rattle.regress_match.specs.Pattern.{matcher_outcomes, matcher_tree};
 ghost use Rattle.regress_found.specs.Repeated.{AreAllMatches};
@@ -128,6 +128,7 @@ impl Matcher {
         ensures bounded { IfOk result (λ found. IfSome (find_factor_in self.now text.now) (λ n. IsLinear n text.now found.outcome found.steps)) }
         ensures limited { IfOk result (λ found. IfNone (find_factor_in self.now text.now) (IsLimited (find_limit_in self.now steps) found.outcome found.steps)) }
         ensures costs { IfOk result (λ found. IfNone (find_factor_in self.now text.now) (IsWithinFindCost self.now text.now from found.steps)) }
+        ensures within { AreStacksWithin self.now cache.old → AreStacksWithin self.now cache.new }
         ensures too_much { IfErr result (λ fault. fault ≡ TooMuchMemory → SearchNeedsMore self.now text.now) }
     {
         if self.is_find_linear_in(text) {

@@ -13,7 +13,7 @@ use Rattle.regress_match.proofs.lemmas.Costs.{has_costs}
 use Rattle.regress_match.proofs.lemmas.Matches.{matches_cost-more}
 use Rattle.regress.specs.Compiled.{outcomes_of, match_of}
 use Rattle.regress.specs.Costs.{AllAreTooCostly, factor_in, matcher_of, step_limit_of}
-use Rattle.regress.specs.Memory.{TablesNeedMore}
+use Rattle.regress.specs.Memory.{SearchNeedsMore}
 use Rattle.regress.specs.Searched.{Advances, next_from, search_limit, search_remaining, searched_matcher, searched_text}
 use Rattle.regress.specs.declared.failure.SearchError.{SearchError}
 use Rattle.regress.specs.declared.failure.SearchError.TheVariants.{OutOfSteps, TooMuchMemory}
@@ -80,7 +80,7 @@ module _ (r : Regex) (text : List ℕ) (from : ℕ) (now : Matches) (ms : List m
       }
 
   -- a search that needs too much memory
-  pub too_much_memory : (new : Matches) (e : SearchError) → Advances now (Some (Err e)) new → e ≡ TooMuchMemory → TablesNeedMore r text
+  pub too_much_memory : (new : Matches) (e : SearchError) → Advances now (Some (Err e)) new → e ≡ TooMuchMemory → SearchNeedsMore r text
   too_much_memory new e step is =
-      subst (λ m. memory.TablesNeedMore m text) so_far.same_matcher
-      (subst (memory.TablesNeedMore (searched_matcher now)) so_far.same_text (step.yields.1.memory is))
+      subst (λ m. memory.SearchNeedsMore m text) so_far.same_matcher
+      (subst (memory.SearchNeedsMore (searched_matcher now)) so_far.same_text (step.yields.1.memory is))

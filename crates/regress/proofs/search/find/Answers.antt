@@ -1,7 +1,7 @@
 use Rattle.std.proofs.Common.{◌≡◌, None}
 use Rattle.regress_match.specs.Costs.{IsWithinFindCost}
 use Rattle.regress_match.specs.Matcher.{factor_in, find_factor_in, find_limit_in}
-use Rattle.regress_match.specs.Memory.{TablesNeedMore}
+use Rattle.regress_match.specs.Memory.{SearchNeedsMore}
 use Rattle.regress.proofs.FaultLemmas.{if_too_much, no_steps}
 use Rattle.regress.proofs.FoundLemmas.{never_out, costs_limit}
 use Rattle.regress.proofs.search.find.Goals as goal
@@ -35,5 +35,5 @@ returns-in_err-found-clause-costs c =
 
 pub returns-in_err-found-clause-too_much : goal.returns-in_err-found-clause-too_much
 returns-in_err-found-clause-too_much c =
-    if_too_much (TablesNeedMore c.args.matcher.now c.args.text.now) c.from_residual.result c.in_err-found.field-0.0 c.from_residual.ensures
+    if_too_much (SearchNeedsMore c.args.matcher.now c.args.text.now) c.from_residual.result c.in_err-found.field-0.0 c.from_residual.ensures
     c.in_err-found.ensures.too_much

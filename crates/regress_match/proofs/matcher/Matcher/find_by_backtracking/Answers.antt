@@ -1,5 +1,6 @@
 use Rattle.std.proofs.Common.{◌+◌, ◌-◌, ◌≤◌, Some, subst, ◌∙◌}
 use Rattle.std.proofs.lemmas.Result.{IfErr-weaker, IfOk-weaker}
+use Rattle.regress_backtrack.specs.Memory.{IsWithin}
 use Rattle.regress_code.specs.Code.{captures_cost}
 use Rattle.regress_found.specs.Results.{IfMatched}
 use Rattle.regress_found.specs.Tried.{positions_tried}
@@ -22,6 +23,10 @@ returns-clause-costs c =
     (λ outcome ran. run_within c.args.self.now c.args.text.now c.new-backtracker.result made.code (made.tables ∙ c.known.ensures) made.text
     c.args.from c.args.remaining.now c.find.new.remaining ran)
     c.find.ensures.costs
+
+pub returns-clause-within : goal.returns-clause-within
+returns-clause-within c =
+    subst (λ room. IsWithin room c.args.cache.now → IsWithin room c.find.new.cache) c.new-backtracker.ensures.room c.find.ensures.within
 
 pub returns-clause-too_much : goal.returns-clause-too_much
 returns-clause-too_much c =

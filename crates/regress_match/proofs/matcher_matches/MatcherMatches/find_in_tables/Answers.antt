@@ -34,6 +34,7 @@ invariant_of-self-2 c =
       within = s.within;
       short = s.short;
       fits = s.fits;
+      held = s.held;
       kept = subst (IfKept s.matcher.now s.text.now c.offset_after-from.result c.saturating_add-searched.result) (sym c.in-Some.is)
           (kept_more s.matcher.now s.text.now s.from s.searched c.in-Some.search kept c.in_ok-found.found found.solved found.inside found.steps
           c.offset_after-from.result c.saturating_add-searched.result (omega (arith, c.saturating_add-searched.ensures)) moved);

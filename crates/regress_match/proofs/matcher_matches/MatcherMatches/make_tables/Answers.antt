@@ -15,6 +15,7 @@ invariant_of-self c =
       within = s.within;
       short = s.short;
       fits = made.fits;
+      held = s.held;
       kept = tables_kept s.matcher.now s.text.now s.from c.steps-self.result c.in_ok-search.search (sym c.is_linear_in.ensures ∙ c.if-is_linear_in.true)
           s.matcher.now.compiled (made.code ∙ rw c.in-Some.is at c.new.ensures.code)
           (made.tables ∙ (rw c.in-Some.is at c.new.ensures.tables) ∙ c.known.ensures) made.text c.steps-self.ensures.within;
