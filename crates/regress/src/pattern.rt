@@ -566,6 +566,14 @@ impl Regex {
         self.matcher.find_steps_per_byte()
     }
 
+    /// Returns the number of matches that a list may have room for, by `memory` of [`Options`].
+    pub fn most_matches(&self) -> usize
+        ensures within { match_bytes self.now * result ≤ memory_of self.now }
+        ensures most { memory_of self.now < match_bytes self.now * (result + 1) }
+    {
+        self.matcher.most_matches()
+    }
+
     /// Returns the number of capture groups, without the whole match.
     pub fn group_count(&self) -> usize
         ensures { result ≡ length (groups_of self.now) }
