@@ -1,11 +1,12 @@
 -- The memory of searches with a matcher.
-use Rattle.std.specs.Prelude.{◌≡◌, ℕ, ◌+◌, ◌*◌, ◌<◌, ◌≤◌, ◌⊎◌, List, None, length}
+use Rattle.std.specs.Prelude.{◌≡◌, ℕ, ◌+◌, ◌*◌, ◌<◌, ◌≤◌, ◌⊎◌, true, List, None, length}
 use Rattle.regress_program.specs.Compiled.{total}
 use Rattle.regress_program.specs.Cost.{Cost}
 use Rattle.regress_program.specs.Program.{Out}
 use Rattle.regress_backtrack.specs.Memory.{IsWithin, entries_in}
 use Rattle.regress_backtrack.specs.declared.cache.Cache.{Cache}
-use Rattle.regress_code.specs.Code.{code_groups, code_routines}
+use Rattle.regress_program.specs.Tidy.{is_tabled}
+use Rattle.regress_code.specs.Code.{code_groups, code_routines, code_tidy}
 use Rattle.regress_found.specs.Repeated.{AreMatches}
 use Rattle.regress_found.specs.declared.found.Match.{Match}
 use Rattle.regress_tables.specs.Memory.{table_bytes}
@@ -22,9 +23,10 @@ memory_of m = m.memory
 abbrev pub instructions_of : Matcher → ℕ
 instructions_of m = total (code_routines m.code)
 
--- The tables of the text take more memory than they may.
-abbrev pub TablesNeedMore : Matcher → (text : List ℕ) → Type 0
-TablesNeedMore m text = memory_of m < table_bytes (instructions_of m) text
+-- The program is searched by tables, and those of the text take more memory than they may.
+pub record TablesNeedMore (m : Matcher) (text : List ℕ) : Type 0 where
+  pub tabled : is_tabled (code_tidy m.code) (code_routines m.code) ≡ true
+  pub more : memory_of m < table_bytes (instructions_of m) text
 
 -- Each backtrack stack of a cache has room for at most as many bytes as it may take.
 abbrev pub AreStacksWithin : Matcher → Cache → Type 0
@@ -41,7 +43,7 @@ abbrev pub MayFillStackAt : Matcher → (text : List ℕ) → (position : ℕ) �
 MayFillStackAt m text position = (outs : ℕ → Out) (costs : ℕ → Cost) → AreCosts m text outs costs →
     entries_in (memory_of m) ≤ 64 * match_cost m text costs position
 
--- A search that only backtracks may fill a stack.
+-- A search that only backtracks may fill a stack, from some offset on.
 pub record StackNeedsMore (m : Matcher) (text : List ℕ) : Type 0 where
   pub backtracks : factor_in m text ≡ None
   pub has : HasCosts m text
