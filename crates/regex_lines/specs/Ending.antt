@@ -40,8 +40,8 @@ options_in dialect = record default_options { dialect = dialect }
 abbrev pub setting_in : Dialect → Flags → Setting
 setting_in dialect flags = unicode_setting (flags_in_force dialect flags)
 
--- There is a text that searches with the regular expression are not known to take linear time in, where they cost at least
--- the step limit: one search, or those for all matches.
+-- In some text searches with the regular expression are not known to take linear time, and cost at least the step limit: one
+-- search, or those for all matches.
 pub record IsCostly (r : Regex) : Type 0 where
   pub text : List ℕ
   pub linear : factor_in r text ≡ None

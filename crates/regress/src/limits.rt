@@ -23,18 +23,17 @@ pub struct Options {
     /// always counts about m / 64 times here. The tables that this needs take up to two bits for each instruction and byte
     /// of the text. A thousand by default, so at most 250 times the length of the text.
     pub linear_instructions: usize,
-    /// The number of steps that a search may take that takes linear time; `None` by default: no limit. `steps` does not apply
-    /// to such searches. A text is searched in linear time only if the bound for it,
-    /// [`Regex::steps_per_byte`](crate::Regex::steps_per_byte) for each byte and once more, is within this limit; for one match
-    /// [`Regex::find_steps_per_byte`](crate::Regex::find_steps_per_byte). Any other text is searched by backtracking only,
-    /// within this number of steps.
+    /// The number of steps that a search may take that takes linear time; `None` by default: no limit. Where the bound for
+    /// a text exceeds it ([`Regex::steps_per_byte`](crate::Regex::steps_per_byte) for each byte and once more, for one match
+    /// [`Regex::find_steps_per_byte`](crate::Regex::find_steps_per_byte)), the search only backtracks, within this number of
+    /// steps. Searches with a pattern that is not linear have the limit `steps`.
     pub linear_steps: Option<u64>,
-    /// The memory in bytes that the tables of one search may take; also each backtrack stack, and a list of matches. 256 MiB by
-    /// default. A search that needs more ends with [`SearchError::TooMuchMemory`](crate::SearchError::TooMuchMemory), but one
-    /// whose stack is full goes on by tables, if it takes linear time.
+    /// The memory in bytes that the tables of one search may take; also each backtrack stack, and a list of matches. 256 MiB
+    /// by default. A search that needs more ends with [`SearchError::TooMuchMemory`](crate::SearchError::TooMuchMemory), but
+    /// one whose stack is full goes on by tables, if it takes linear time.
     ///
-    /// There is a backtrack stack for the pattern, and one for each level of nested lookarounds, with 40 bytes for each entry.
-    /// Tables take a quarter of a byte for each instruction, and 8 bytes, for each byte of the text, and once more. A
+    /// There is a backtrack stack for the pattern, and one for each level of nested lookarounds, with 40 bytes for each
+    /// entry. Tables take a quarter of a byte for each instruction, and 8 bytes, for each byte of the text, and once more. A
     /// lookaround takes up to 4 bytes more for each byte of the text, which do not count. A match in a list counts 56 bytes,
     /// and 24 for each group of the pattern.
     pub memory: usize,

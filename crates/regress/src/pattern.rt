@@ -60,7 +60,7 @@ pub struct Regex {
 }
 
 impl Regex {
-    ghost use Rattle.std.specs.Prelude.{◌≡◌, ◌*◌, ◌<◌, ◌≤◌, ◌↔◌, false, All, IsTrue, IfOk, IfErr, IfNone, IfSome, None, chars, is_none, is_some, length, map, min, option_map, string_bytes};
+    ghost use Rattle.std.specs.Prelude.{◌≡◌, ◌+◌, ◌*◌, ◌<◌, ◌≤◌, ◌↔◌, false, All, IsTrue, IfOk, IfErr, IfNone, IfSome, None, chars, is_none, is_some, length, map, min, option_map, string_bytes};
     ghost use Rattle.std.specs.Arc.{arc_value};
     ghost use Rattle.std.specs.Vec.{vec_capacity};
     ghost use Rattle.regress_front.specs.Bound.{HasAtMost};
@@ -339,20 +339,20 @@ impl Regex {
     /// inside `text`, on character boundaries.
     ///
     /// # Errors
-    /// - [`SearchError::OutOfSteps`] if the search takes more than `steps` of [`Options`], or if
-    ///   [`Regex::is_find_linear`], more than `linear_steps`; then never if [`Regex::find_steps_per_byte`] for each byte of
-    ///   the text, and once more, is within them.
+    /// - [`SearchError::OutOfSteps`] if the search takes more than `steps` of [`Options`]; or if
+    ///   [`Regex::is_find_linear`], more than `linear_steps`, and never where [`Regex::find_steps_per_byte`] for each byte of
+    ///   the text, and once more, is within that.
     /// - [`SearchError::TooMuchMemory`] if the search needs tables that take more bytes than `memory` of [`Options`]:
-    ///   (n / 4 + 8) (length + 1) for a program of n instructions, with n / 4 rounded up, which are not made then; or if it only
-    ///   backtracks, and a backtrack stack needs more.
+    ///   (n / 4 + 8) (length + 1) for a program of n instructions, with n / 4 rounded up, which are not made then; or if
+    ///   it only backtracks, and a backtrack stack needs more.
     /// - [`SearchError::Memory`] if an allocation fails.
     ///
     /// # Complexity
     /// If [`Regex::is_find_linear`], the steps are at most [`Regex::find_steps_per_byte`] for each byte of the text,
-    /// and once more, where that is within `linear_steps` of [`Options`]; a step takes constant time, but for literals, sets, the groups that an iteration unsets or a
-    /// lookaround sets, and the alternatives that it passes over because the next byte excludes them. Else the time is at
-    /// most the step limit and the length of `text` together, times a factor that depends only on the pattern and the
-    /// tables.
+    /// and once more, where that is within `linear_steps` of [`Options`]; a step takes constant time, but for literals,
+    /// sets, the groups that an iteration unsets or a lookaround sets, and the alternatives that it passes over because
+    /// the next byte excludes them. Else the time is at most the step limit and the length of `text` together, times a
+    /// factor that depends only on the pattern and the tables.
     pub fn find_at(
         &self,
         alloc: Global,
@@ -418,9 +418,9 @@ impl Regex {
     /// Returns all non-overlapping matches in `text`, from left to right, as [`Regex::find_iter`] finds them.
     ///
     /// # Errors
-    /// - [`SearchError::OutOfSteps`] if the matches together take more than `steps` of [`Options`], or if
-    ///   [`Regex::is_linear`], more than `linear_steps`; then never if [`Regex::steps_per_byte`] for each byte of the text, and
-    ///   once more, is within them.
+    /// - [`SearchError::OutOfSteps`] if the matches together take more than `steps` of [`Options`]; or if
+    ///   [`Regex::is_linear`], more than `linear_steps`, and never where [`Regex::steps_per_byte`] for each byte of the
+    ///   text, and once more, is within that.
     /// - [`SearchError::TooMuchMemory`] as for [`Regex::find_at`], and if the list takes more bytes than `memory` of
     ///   [`Options`]: 56 for each match, and 24 for each of its groups.
     /// - [`SearchError::Memory`] if an allocation fails.
@@ -452,6 +452,7 @@ impl Regex {
         ensures inside { IfOk result (λ all. All (IsInside text.now) all.items) }
         ensures order { IfOk result (λ all. AreInOrder 0 all.items) }
         ensures linear { IfErr result (λ error. error ≡ OutOfSteps → factor_in self.now text.now ≡ None) }
+        ensures held { IfOk result (λ all. match_bytes self.now * vec_capacity all ≤ memory_of self.now) }
         ensures costs { IfErr result (λ error. error ≡ OutOfSteps → AllCostLimit self.now text.now 0) }
         ensures too_much { IfErr result (λ error. error ≡ TooMuchMemory → AllNeedMore self.now text.now) }
     {

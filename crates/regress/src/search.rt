@@ -1,10 +1,11 @@
 //! Searches, in linear time or within a step limit.
-ghost use Rattle.std.specs.Prelude.{◌≡◌, All, IfErr, IfOk, IfSome, None};
+ghost use Rattle.std.specs.Prelude.{◌≡◌, ◌≤◌, ◌*◌, All, IfErr, IfOk, IfSome, None};
+ghost use Rattle.std.specs.Vec.{vec_capacity};
 ghost use Rattle.regress_front.specs.WellFormed.{IsWellFormed};
 ghost use Rattle.regress_match.specs.AllCosts.{CostsOfMatches};
 ghost use Rattle.regress_match.specs.Costs.{IsWithinFindCost};
 ghost use Rattle.regress_match.specs.Iterated.{iterated_matcher};
-ghost use Rattle.regress_match.specs.Memory.{AllNeedMore, SearchNeedsMore};
+ghost use Rattle.regress_match.specs.Memory.{AllNeedMore, SearchNeedsMore, match_bytes, memory_of};
 ghost use Rattle.regress_found.specs.Found.{IsInside, Finds};
 ghost use Rattle.regress_match.specs.Matcher.{factor_in, find_factor_in, find_limit_in, limit_in};
 ghost use Rattle.regress_match.specs.Pattern.{matcher_outcomes, matcher_tree};
@@ -52,6 +53,7 @@ pub(crate) fn find_all(
     ensures all { IfOk result (λ all. AreAllMatches text.now (matcher_outcomes matcher.now text.now) all.items) }
     ensures inside { IsWellFormed (matcher_tree matcher.now) → IfOk result (λ all. All (IsInside text.now) all.items) }
     ensures order { IfOk result (λ all. AreInOrder 0 all.items) }
+    ensures held { IfOk result (λ all. match_bytes matcher.now * vec_capacity all ≤ memory_of matcher.now) }
     ensures linear { IfErr result (λ error. error ≡ OutOfSteps → factor_in matcher.now text.now ≡ None) }
     ensures costs { IfErr result (λ error. error ≡ OutOfSteps → CostsOfMatches matcher.now text.now 0 (limit_in matcher.now steps)) }
     ensures too_much { IfErr result (λ error. error ≡ TooMuchMemory → AllNeedMore matcher.now text.now) }
@@ -110,7 +112,8 @@ impl<'r> Matches<'r> {
     }
 
     /// Returns the number of steps that the search took so far. Of a call of `next` that returned
-    /// [`SearchError::Memory`] or [`SearchError::TooMuchMemory`] some are not counted.
+    /// [`SearchError::Memory`] or [`SearchError::TooMuchMemory`] some are not counted, nor are those of backtracking until a
+    /// stack is full and tables are made.
     pub fn steps(&self) -> u64
         ensures taken { result ≡ min (search_taken self.now) u64.MAX }
         ensures linear { IfSome (searched_factor self.now) (λ n. result ≤ n * (length (searched_text self.now) + 1)) }

@@ -10,7 +10,8 @@ use std::alloc::Global;
 /// The memory of searches for one match, which is kept from one search to the next, with any regular expressions in any
 /// texts. It keeps what the largest search needed, so that a search that needs no more, and no tables, allocates nothing.
 ///
-/// No result depends on the searches before.
+/// No match depends on the searches before. A search may use a stack that one before has made, also where that is larger
+/// than its own `memory` allows.
 ///
 /// # Examples
 /// ```

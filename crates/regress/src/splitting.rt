@@ -1,13 +1,14 @@
 //! Splitting a text at matches.
-ghost use Rattle.std.specs.Prelude.{◌≡◌, All, ℕ, List, IfErr, IfOk, None, map};
+ghost use Rattle.std.specs.Prelude.{◌≡◌, ◌≤◌, ◌*◌, All, ℕ, List, IfErr, IfOk, None, map};
 ghost use Rattle.std.specs.Borrow.{Bor};
+ghost use Rattle.std.specs.Vec.{vec_capacity};
 ghost use Rattle.regress_found.specs.Found.{IsInside};
 ghost use Rattle.regress_found.specs.Repeated.{AreAllMatches};
 ghost use Rattle.regress_replace.specs.Order.{AreInOrder};
 ghost use Rattle.regress_replace.specs.Split.{part_texts};
 ghost use Rattle.regress.specs.Compiled.{outcomes_of};
 ghost use Rattle.regress.specs.Costs.{AllCostLimit, factor_in};
-ghost use Rattle.regress.specs.Memory.{AllNeedMore};
+ghost use Rattle.regress.specs.Memory.{AllNeedMore, match_bytes, memory_of};
 ghost use Rattle.regress.specs.Replaced.{AreFirstMatches, ArePartSpans, IsSplit, IsSplitWithCaptures, IsSplitWithin};
 ghost use Rattle.regress.specs.declared.failure.SearchError.TheVariants.{OutOfSteps, TooMuchMemory};
 
@@ -132,6 +133,7 @@ impl Regex {
         ensures first { IfOk result (λ first. AreFirstMatches text.now (outcomes_of self.now text.now) count first.items) }
         ensures inside { IfOk result (λ first. All (IsInside text.now) first.items) }
         ensures order { IfOk result (λ first. AreInOrder 0 first.items) }
+        ensures held { IfOk result (λ first. match_bytes self.now * vec_capacity first ≤ memory_of self.now) }
         ensures linear { IfErr result (λ error. error ≡ OutOfSteps → factor_in self.now text.now ≡ None) }
         ensures costs { IfErr result (λ error. error ≡ OutOfSteps → AllCostLimit self.now text.now 0) }
         ensures too_much { IfErr result (λ error. error ≡ TooMuchMemory → AllNeedMore self.now text.now) }

@@ -31,10 +31,11 @@ impl<'m> MatcherMatches<'m> {
     ///
     /// # Complexity
     /// If [`Matcher::is_linear`], all calls together take at most [`Matcher::steps_per_byte`] steps for each byte of
-    /// the text, and once more, where that is within [`Limits::linear_steps`](crate::Limits::linear_steps). Else the step limit is for all calls together, and a call takes at most
-    /// the cost of its search, and one step for each byte of the text and once more. Steps are only spent, also by a call that
-    /// returns an error; a match takes at least one for each byte offset up to its start and one for each 64 groups, or all
-    /// that remain.
+    /// the text, and once more, where that is within [`Limits::linear_steps`](crate::Limits::linear_steps). Else the step
+    /// limit is for all calls together, and a call takes at most the cost of its search, and one step for each byte of the
+    /// text and once more. Steps are only spent, also by a call that returns an error; a match takes at least one for each
+    /// byte offset up to its start and one for each 64 groups, or all that remain. A call that returns an error may not
+    /// count its steps, nor may the one in which a backtrack stack is full and tables are made.
     ///
     /// # Errors
     /// The position of the search stays as it is, so that the call may be repeated.
@@ -130,8 +131,8 @@ impl<'m> MatcherMatches<'m> {
         true
     }
 
-    /// Returns the next match by backtracking, or [`Outcome::OutOfSteps`] if its steps are used up. If a backtrack stack is full
-    /// and tables may be made, the result is the same, and the memory of the cache is given back.
+    /// Returns the next match by backtracking, or [`Outcome::OutOfSteps`] if its steps are used up, or if a backtrack stack
+    /// is full and tables may be made; then the memory of the cache is given back.
     fn backtrack_before_tables(&mut self, alloc: Global) -> Result<Outcome, MemoryFault>
         requires { IsNone self.old.search }
         ensures finds { IfOk result (IsSearchResult (iterated_text self.old) (matcher_outcomes (iterated_matcher self.old) (iterated_text self.old)) (iterated_from self.old)) }

@@ -15,7 +15,8 @@ use regress_unicode::Tables;
 use std::sync::Arc;
 
 /// A pattern that is compiled into a program, for any number of searches. Where the program is linear and within the
-/// limit on tables, searches take linear time; searches for one match also where lookarounds capture.
+/// limit on tables, searches take linear time, in texts for which their bound is within the limit on linear steps;
+/// searches for one match also where lookarounds capture.
 #[derive(Drop)]
 pub struct Matcher {
     pub(crate) regex: Regex,

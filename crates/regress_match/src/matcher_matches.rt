@@ -26,7 +26,7 @@ pub struct MatcherMatches<'m> {
     pub(crate) searched: u64,
     /// The memory of backtracking, after the first call of `next`.
     pub(crate) cache: Option<Cache>,
-    /// The tables, once backtracking has used up its steps.
+    /// The tables, once backtracking has used up its steps or filled a stack.
     pub(crate) search: Option<TextSearch<'m>>,
     ghost within: { remaining ≤ limit },
     ghost short: { IfSome (factor_in matcher.now text.now) (λ _. limit ≤ 64 * (length text.now + 1)) } by { Prim.hlevel props },

@@ -4,10 +4,10 @@ ghost use Rattle.regress_match.specs.Memory.{match_bytes, memory_of};
 
 use crate::matcher::Matcher;
 
-/// The number of bytes that a match takes in a list, with a reference to the names of its groups.
+/// The number of bytes that a match counts in a list, with a reference to the names of its groups.
 const MATCH_BYTES: usize = 56;
 
-/// The number of bytes that the capture of a group takes.
+/// The number of bytes that the capture of a group counts.
 const GROUP_BYTES: usize = 24;
 
 impl Matcher {

@@ -18,7 +18,7 @@ use std::alloc::Global;
 
 impl Matcher {
     /// Returns the leftmost match that starts at the byte offset `from` or later: by backtracking, and by tables once its
-    /// steps are used up.
+    /// steps are used up or a stack is full.
     ///
     /// # Errors
     /// As for [`Matcher::find`].
@@ -49,8 +49,8 @@ impl Matcher {
         }
     }
 
-    /// Returns the same by backtracking, within some steps for each byte. Where a backtrack stack is full, all of them count as
-    /// taken, and the memory of the cache is given back, for tables.
+    /// Returns the same by backtracking, within some steps for each byte. Where a backtrack stack is full, all of them count
+    /// as taken, and the memory of the cache is given back, for tables.
     ///
     /// # Errors
     /// Returns [`MemoryFault::Memory`] if an allocation fails.

@@ -39,19 +39,19 @@ impl Matcher {
     /// # Complexity
     /// If [`Matcher::is_find_linear`], and [`Matcher::find_steps_per_byte`] for each byte of the text, and once more, is
     /// within [`Limits::linear_steps`](crate::Limits::linear_steps), the result is never [`Outcome::OutOfSteps`], and the
-    /// steps are at most that. The search first backtracks within
-    /// some steps for each byte; once they are used up it makes tables, whose memory is proportional to the number of
-    /// instructions and the length of the text.
+    /// steps are at most that. The search first backtracks within some steps for each byte; once they are used up, or a
+    /// stack is full, it makes tables, whose memory is proportional to the number of instructions and the length of the
+    /// text.
     ///
     /// Any other search only backtracks. Its step limit is `steps`, or if [`Matcher::is_find_linear`],
-    /// [`Limits::linear_steps`](crate::Limits::linear_steps), counted as in [`Backtracker::find`](regress_backtrack::Backtracker::find).
-    /// A search takes at most its cost, the steps that following every outcome takes, and one for each byte of the text and
-    /// once more.
+    /// [`Limits::linear_steps`](crate::Limits::linear_steps), counted as in
+    /// [`Backtracker::find`](regress_backtrack::Backtracker::find). A search takes at most its cost, the steps that
+    /// following every outcome takes, and one for each byte of the text and once more.
     ///
     /// # Errors
-    /// - [`MemoryFault::TooMuchMemory`] if the search needs tables that take more memory than
-    ///   [`Limits`](crate::Limits) allow, which are not made then; or if it only backtracks, and a backtrack stack needs more.
-    ///   Then 64 times its cost is at least the number of entries for which the stack may have room.
+    /// - [`MemoryFault::TooMuchMemory`] if the search needs tables that take more memory than [`Limits`](crate::Limits)
+    ///   allow, which are not made then; or if it only backtracks, and a backtrack stack needs more. Then 64 times its
+    ///   cost is at least the number of entries for which the stack may have room.
     /// - [`MemoryFault::Memory`] if an allocation fails.
     ///
     /// # Examples
@@ -190,9 +190,10 @@ impl Matcher {
 
     /// Returns a search for the non-overlapping matches that start at the byte offset `from` or later.
     ///
-    /// If [`Matcher::is_linear`], `steps` has no meaning: the step limit is [`Limits::linear_steps`](crate::Limits::linear_steps),
-    /// and the search is never out of steps if [`Matcher::steps_per_byte`] for each byte of the text, and once more, is within
-    /// that. For any other pattern `steps` is the step limit of all calls of [`MatcherMatches::next`] together.
+    /// If [`Matcher::is_linear`], `steps` has no meaning: the step limit is
+    /// [`Limits::linear_steps`](crate::Limits::linear_steps), and the search is never out of steps if
+    /// [`Matcher::steps_per_byte`] for each byte of the text, and once more, is within that. For any other pattern `steps`
+    /// is the step limit of all calls of [`MatcherMatches::next`] together.
     pub fn find_iter<'m>(&'m self, text: &'m str, from: usize, steps: u64) -> MatcherMatches<'m>
         ensures matcher { iterated_matcher result ≡ self.now }
         ensures text { iterated_text result ≡ text.now }
@@ -216,8 +217,8 @@ impl Matcher {
 
     /// Returns all non-overlapping matches in `text`, from left to right, as [`MatcherMatches`] finds them.
     ///
-    /// The result is `None` only if the search is out of steps, as for [`Matcher::find_iter`]. Then the searches for the matches
-    /// up to there cost at least its step limit, each as [`MatcherMatches::next`] states.
+    /// The result is `None` only if the search is out of steps, as for [`Matcher::find_iter`]. Then the searches for the
+    /// matches up to there cost at least its step limit, each as [`MatcherMatches::next`] states.
     ///
     /// # Errors
     /// - [`MemoryFault::TooMuchMemory`] as for [`Matcher::find`], and if the list would have more than
@@ -265,7 +266,8 @@ impl Matcher {
         }
     }
 
-    /// Returns the step limit of backtracking: that of the caller, or if searches are linear some steps for each byte.
+    /// Returns the step limit of backtracking: that of the caller or of [`Limits`](crate::Limits), or where the search takes
+    /// linear time some steps for each byte.
     fn backtracking_steps(&self, text: &str, steps: u64) -> u64
         ensures linear { IfSome (factor_in self.now text.now) (λ _. result ≤ 64 * (length text.now + 1)) }
         ensures limited { IfNone (factor_in self.now text.now) (result ≡ limit_in self.now steps) }

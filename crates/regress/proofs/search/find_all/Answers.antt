@@ -13,6 +13,9 @@ returns-in-Some-clause-inside c = λ well_formed.
     AreAllMatches-inside (matcher_setting c.args.matcher.now) c.args.text.now c.utf8.text (matcher_tree c.args.matcher.now)
     well_formed c.in-Some.all.items (rw c.in-Some.is at c.in_ok-all.ensures.all)
 
+pub returns-in-Some-clause-held : goal.returns-in-Some-clause-held
+returns-in-Some-clause-held c = rw c.in-Some.is at c.in_ok-all.ensures.held
+
 pub returns-in-Some-clause-order : goal.returns-in-Some-clause-order
 returns-in-Some-clause-order c =
     AreAllMatches-in_order c.args.text.now (matcher_outcomes c.args.matcher.now c.args.text.now) c.in-Some.all.items

@@ -1,9 +1,10 @@
 use Rattle.std.proofs.Common.{◌<◌, Some, inl, inr, [], ◌∷◌, ap, length-append, length, subst, sym, ◌∙◌, arith}
 use Rattle.std.proofs.lemmas.Result.{err_from_is_err_and}
-use Rattle.regress_match.proofs.lemmas.Memory.{matches_need_more}
+use Rattle.std.specs.Vec.{vec_capacity}
+use Rattle.regress_match.proofs.lemmas.Memory.{is_held, matches_need_more}
 use Rattle.regress.specs.Compiled.{match_of, outcomes_of}
 use Rattle.regress.specs.Costs.{matcher_of}
-use Rattle.regress.specs.Memory.{AllNeedMore}
+use Rattle.regress.specs.Memory.{AllNeedMore, match_bytes, memory_of}
 use Rattle.regress.specs.Searched.{Advances, next_from}
 use Rattle.regress.proofs.FaultLemmas.{if_too_much}
 use Rattle.regress.proofs.FoundLemmas.{HasFound, fewer_found, in_order, one_more}
@@ -25,7 +26,18 @@ loop-matches-preserved c =
       paid = subst (HasPaid c.args.self.now text 0 new) (sym c.in_ok-push_within-in-Some.ensures.items)
           (one_more_paid c.args.self.now text 0 now c.loop-matches.first.items so_far.paid so_far.found.found new c.in_ok-found-in-Some.field-0 step);
       few = omega (arith, few, ap length c.in_ok-push_within-in-Some.ensures.items, length-append c.loop-matches.first.items (match_of c.in_ok-found-in-Some.field-0 ∷ []));
+      room = c.in_ok-push_within-in-Some.ensures.within so_far.room;
     }
+
+pub returns-clause-held : goal.returns-clause-held
+returns-clause-held c =
+    is_held (match_bytes c.args.self.now) (memory_of c.args.self.now) c.most_matches-most.result (vec_capacity c.loop-matches.first)
+    c.most_matches-most.ensures.within c.loop-matches.invariant.room
+
+pub returns-in-None-clause-held : goal.returns-in-None-clause-held
+returns-in-None-clause-held c =
+    is_held (match_bytes c.args.self.now) (memory_of c.args.self.now) c.most_matches-most.result (vec_capacity c.loop-matches.first)
+    c.most_matches-most.ensures.within c.loop-matches.invariant.room
 
 pub returns-in_err-found-in-Some-clause-costs : goal.returns-in_err-found-in-Some-clause-costs
 returns-in_err-found-in-Some-clause-costs c =
