@@ -104,11 +104,13 @@ typedef struct regress_searcher {
      about m / 64 times; by default a thousand. It takes up to two bits of memory for each instruction and byte of the
      text.
    - memory: by default 256 MiB: the bytes that the tables of one search may take, a quarter of a byte for each
-     instruction, and 8 bytes, for each byte of the text, and once more; and those of its backtrack stack, and of one
-     more for each level of nested lookarounds. A lookaround takes up to 4 bytes more for each byte of the text, which do
-     not count.
-   - linear_steps: the steps of a search that is linear. By default there is no limit. If steps_per_byte times the length
-     of the text and 1 exceeds it, the search only backtracks, within that number of steps. */
+     instruction, and 8 bytes, for each byte of the text, and once more; those of its backtrack stack, and of one more for
+     each level of nested lookarounds; and those of a list of all matches, also of one by which a text is replaced or
+     split, where a match counts 56 bytes, and 24 for each group. A lookaround takes up to 4 bytes more for each byte of
+     the text, which do not count.
+   - linear_steps: the steps of a search that is linear; by default there is no limit. If regress_steps_per_byte times
+     (length + 1) exceeds it, for one match regress_find_steps_per_byte, the search only backtracks, within that number
+     of steps. */
 typedef struct regress_limits {
     uint64_t steps;
     size_t nodes;
@@ -219,7 +221,7 @@ uint32_t regress_abi_version(void);
 REGRESS_INLINE uint32_t regress_compile(const uint8_t *pattern, size_t length, uint32_t flags,
                                         const regress_limits *limits, regress_regex *handle, uint32_t *kind,
                                         size_t *position) {
-    const regress_limits defaults = {0, 0, 0, 0, 0};
+    const regress_limits defaults = {0, 0, 0, 0, 0, 0};
     uint32_t no_kind = 0;
     size_t no_position = 0;
     uint8_t no_byte = 0;

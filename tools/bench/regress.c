@@ -41,7 +41,7 @@ static uint32_t flags_of(const char *letters) {
 }
 
 static int is_compiled(const char *pattern, uint32_t flags, regress_regex *regex) {
-    regress_limits limits = {0, 0, 0, 0, 0};
+    regress_limits limits = {0};
     uint32_t kind;
     size_t position;
     return regress_compile((const uint8_t *)pattern, strlen(pattern), flags, &limits, regex, &kind, &position)

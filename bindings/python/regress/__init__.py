@@ -35,9 +35,9 @@ a str or bytes of a bytes. A lone surrogate in a str, or bytes that are not UTF-
 A search takes linear time, unless the pattern has a back reference or more than a thousand instructions, or a group in
 a lookaround that is not negated, for a search for all matches (Pattern.nonlinear, Pattern.is_find_linear). Then it
 backtracks within a limit of steps, so that it also ends for untrusted patterns and texts: at the limit it raises the
-exception error of the kind 'OutOfSteps'. Its tables take at most 256 MiB: a search that needs more raises error of the
-kind 'TooMuchMemory'. Ctrl-C takes effect when the search has ended. Any number of threads may use
-a pattern at the same time, and other threads run while a long text is searched.
+exception error of the kind 'OutOfSteps'. Its tables, each backtrack stack and a list of all matches may take 256 MiB
+each: a search that needs more raises error of the kind 'TooMuchMemory'. Ctrl-C takes effect when the search has ended.
+Any number of threads may use a pattern at the same time, and other threads run while a long text is searched.
 
 The module calls the library in its folder by the extension module _regress, or without that by ctypes; or by ctypes the
 shared library that the environment variable REGRESS_LIBRARY names. The searches of the library are proved to be right;
@@ -142,10 +142,12 @@ def compile(pattern, flags='', *, dialect='ecma', steps=None, nodes=None, instru
                       instruction and byte of the text
         memory        the bytes that the tables of one search may take, 256 MiB by default: a quarter of a byte for each
                       instruction, and 8 bytes, for each byte of the text in UTF-8, and once more; 4 bytes more for each
-                      lookaround do not count. The same limit holds for the backtrack stack, and for one more for each
-                      level of nested lookarounds
-        linear_steps  the steps of one search that takes linear time; no limit by default. If steps_per_byte times the
-                      length of the text in UTF-8 and 1 exceeds it, the search only backtracks, within that number
+                      lookaround do not count. The same limit holds for each backtrack stack, one for the pattern and
+                      one for each level of nested lookarounds, and for a list of all matches, of findall, finditer,
+                      sub and split: 56 bytes for a match, and 24 for each group
+        linear_steps  the steps of one search that takes linear time; no limit by default. If its bound exceeds that
+                      (of a search for all matches steps_per_byte times (length + 1) of the text in UTF-8), the search
+                      only backtracks, within that number of steps
 
     Raises error if the pattern or the flags are rejected.
     """

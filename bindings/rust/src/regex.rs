@@ -90,12 +90,13 @@ pub struct Options {
     /// By default a thousand. It takes up to two bits of memory for each instruction and byte of the text.
     pub linear_instructions: usize,
     /// The memory in bytes that the tables of one search may take: a quarter of a byte for each instruction, and 8
-    /// bytes, for each byte of the text, and once more. The same limit holds for its backtrack stack, and for one more for
-    /// each level of nested lookarounds. By default 256 MiB. A lookaround takes up to 4 bytes more for each byte of the text, which do not count.
+    /// bytes, for each byte of the text, and once more. The same limit holds for each backtrack stack, one for the pattern
+    /// and one for each level of nested lookarounds, and for all matches of one call: 56 bytes for each, and 24 for each
+    /// group. By default 256 MiB. Of tables, up to 4 bytes more for each lookaround and byte of the text do not count.
     pub memory: usize,
     /// The number of steps that one search may take if it takes linear time. By default `None`: there is no limit. If
-    /// [`Regex::steps_per_byte`] times the length of the text and 1 exceeds it, the search only backtracks, within that
-    /// number of steps. `Some(0)` is `None`.
+    /// [`Regex::steps_per_byte`] times (length + 1) exceeds it, for one match [`Regex::find_steps_per_byte`], the search
+    /// only backtracks, within that number of steps. `Some(0)` is `None`.
     pub linear_steps: Option<u64>,
     pub table: Table,
 }

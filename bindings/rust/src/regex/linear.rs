@@ -141,8 +141,8 @@ fn found<T>(result: Result<T, SearchError>) -> T {
     }
 }
 
-/// Returns [`Error::Nonlinear`] if searches do not take linear time. A search that needs more memory than
-/// [`Options::memory`] of the [`Regex`] allows panics.
+/// Returns [`Error::Nonlinear`] if searches do not take linear time. The limits of the [`Regex`] stay: a search that exceeds
+/// its [`Options::memory`] or [`Options::linear_steps`] panics. [`LinearRegex::with_options`] has no such limits.
 impl TryFrom<Regex> for LinearRegex {
     type Error = Error;
 
