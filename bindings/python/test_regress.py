@@ -492,6 +492,14 @@ class Calls(unittest.TestCase):
             with self.assertRaises(regress.error) as caught:
                 call('a' * 1000)
             self.assertEqual(caught.exception.kind, 'TooMuchMemory')
+        # A backtrack stack and a list of matches are limited, too.
+        stack, listed = regress.compile(r'(?:a|b|(c))*\1d', memory=4000), regress.compile('a', memory=1000)
+        self.assertEqual(stack.search('aaad').span(), (0, 4))
+        self.assertEqual(len(listed.findall('a' * 17)), 17)
+        for call, text in (stack.search, 'a' * 200), (listed.findall, 'a' * 18):
+            with self.assertRaises(regress.error) as caught:
+                call(text)
+            self.assertEqual(caught.exception.kind, 'TooMuchMemory')
         # A linear search may have a limit of steps, too.
         limited = regress.compile('(a*)*b', linear_steps=10)
         self.assertTrue(limited.is_linear)

@@ -495,6 +495,19 @@ fn linear_searches_have_no_limit_of_steps_by_default() {
     );
     let linear = LinearRegex::with_options("(a*)*b", Flags::default(), memory).unwrap();
     assert!(!linear.is_match(&text));
+    let stack = Options {
+        memory: 4000,
+        ..Options::default()
+    };
+    let regex = within(r"(?:a|b|(c))*\1d", stack).unwrap();
+    assert_eq!(regex.is_match("aaad"), Ok(true));
+    assert_eq!(regex.is_match(&text), Err(SearchError::TooMuchMemory));
+    let listed = within("a", memory).unwrap();
+    assert_eq!(listed.find_all(&text[..17]).unwrap().len(), 17);
+    assert_eq!(
+        listed.find_all(&text[..18]).unwrap_err(),
+        SearchError::TooMuchMemory
+    );
     let limited = |linear_steps| {
         let options = Options {
             linear_steps: Some(linear_steps),
