@@ -1,6 +1,8 @@
 /* Tests of the functions for C that compile and search. Linked with --wrap=malloc, --wrap=realloc and --wrap=free, so
-   that one allocation can be made to fail, and that blocks which are not freed are counted. */
+   that one allocation can be made to fail, and that blocks which are not freed, and the bytes that are held, are
+   counted. */
 
+#include <malloc.h>
 #include <stdio.h>
 #include <stdlib.h>
 #include <string.h>
@@ -15,20 +17,37 @@ static long requests;
 static long refused = -1;
 static long blocks;
 
+/* The bytes of all blocks, and the most since `peak` was set. */
+static size_t held, peak;
+
+static size_t size_of(void *block) { return block ? malloc_usable_size(block) : 0; }
+
+static void hold(void *block) {
+    held += size_of(block);
+    peak = held > peak ? held : peak;
+}
+
 void *__wrap_malloc(size_t size) {
     void *block = requests++ == refused ? NULL : __real_malloc(size);
     blocks += block != NULL;
+    hold(block);
     return block;
 }
 
 void *__wrap_realloc(void *block, size_t size) {
+    size_t before = size_of(block);
     void *moved = requests++ == refused ? NULL : __real_realloc(block, size);
     blocks += !block && moved;
+    if (moved) {
+        held -= before;
+        hold(moved);
+    }
     return moved;
 }
 
 void __wrap_free(void *block) {
     blocks -= block != NULL;
+    held -= size_of(block);
     __real_free(block);
 }
 
@@ -270,6 +289,46 @@ static uint32_t next(regress_matches *matches, size_t room) {
 }
 
 /* Matches that are taken one after the other. */
+/* Compiles a pattern for searches of at most `memory` bytes, and returns the status of searching a text of `length` times
+   the letter for the first match, or for all. A search holds at most `most` bytes beside the pattern. */
+static uint32_t within_memory(size_t memory, const char *pattern, char letter, size_t length, int all, size_t most) {
+    regress_regex regex;
+    regress_limits limits = {.memory = memory};
+    char *text = malloc(length + 1);
+    memset(text, letter, length);
+    text[length] = 0;
+    CHECK(compiled_within(&limits, pattern, &regex) == REGRESS_OK);
+    size_t before = peak = held;
+    uint32_t status = all ? found_all(&regex, text, ROOM) : found(&regex, text, 0, ROOM);
+    CHECK(peak - before <= most);
+    CHECK(held == before);
+    regress_free(&regex);
+    free(text);
+    return status;
+}
+
+static void memory_is_limited(void) {
+    const size_t mib = 1 << 20;
+    char optional[400] = "^(?:", groups[4100] = "a(?:";
+    for (int i = 0; i < 55; i++) {
+        strcat(optional, "a\?\?");
+    }
+    strcat(optional, "a)*[bc]");
+    for (int i = 0; i < 2000; i++) {
+        strcat(groups, "()");
+    }
+    strcat(groups, "){0}");
+    /* backtracking alone would take 3.3 KB for each letter: tables take over, if there is memory for them */
+    CHECK(within_memory(mib, optional, 'a', 200000, 0, 2 * mib) == REGRESS_TOO_MUCH_MEMORY);
+    CHECK(within_memory(16 * mib, optional, 'a', 200000, 0, 17 * mib) == REGRESS_NO_MATCH);
+    /* without tables */
+    CHECK(within_memory(mib, "(?:a|b|(c))*\\1d", 'a', 1000000, 0, 2 * mib) == REGRESS_TOO_MUCH_MEMORY);
+    CHECK(within_memory(64 * mib, "(?:a|b|(c))*\\1d", 'd', 1000, 0, mib) == REGRESS_OK);
+    /* a match has 2,001 spans */
+    CHECK(within_memory(mib, groups, 'a', 10000, 1, 3 * mib) == REGRESS_TOO_MUCH_MEMORY);
+    CHECK(within_memory(mib, groups, 'a', 15, 1, 3 * mib) == REGRESS_ROOM);
+}
+
 static void lists(void) {
     regress_regex regex;
     regress_matches matches = {NULL}, none = {NULL};
@@ -1085,6 +1144,7 @@ int main(void) {
     searchers();
     errors();
     limits();
+    memory_is_limited();
     lists();
     names();
     messages();
