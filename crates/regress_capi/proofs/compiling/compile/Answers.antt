@@ -29,6 +29,7 @@ returns-clause-compiled c =
       within = made.within;
       limit = made.limit;
       memory = made.memory;
+      linear_steps = made.linear_steps;
       instructions = made.instructions;
       linear = made.linear;
       find_linear = made.find_linear;

@@ -23,7 +23,13 @@ matcher_is_send =
           search sendable,
           (
             search (sendable, crosses, core.crosses, maps.crosses, send-Node) depth 40 fits 20000,
-            (search sendable, (search sendable, (search (sendable, crosses, core.crosses, maps.crosses) depth 40 fits 20000, tt))),
+            (
+              search sendable,
+              (
+                search (sendable, crosses, core.crosses, maps.crosses) depth 40 fits 20000,
+                (search sendable, (search (sendable, crosses, core.crosses, maps.crosses) depth 40 fits 20000, tt)),
+              ),
+            ),
           ),
         ),
       ),
