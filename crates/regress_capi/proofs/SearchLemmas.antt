@@ -1,5 +1,5 @@
 -- The result of a search, from what it computed.
-use Rattle.std.proofs.Common.{◌≡◌, ◌+◌, ◌*◌, ◌++◌, ◌<◌, ℕ, arith, inr, add-one, drop-cons, false, get_or, IfNone, List, [], ◌∷◌, Option, drop, flat_map, length, length-append, append_assoc, append-nil, refl, sym, ap, ◌∙◌, subst}
+use Rattle.std.proofs.Common.{◌≡◌, ◌+◌, ◌*◌, ◌++◌, ◌<◌, ◌≤◌, ℕ, arith, inr, add-one, drop-cons, false, get_or, IfNone, List, [], ◌∷◌, Option, drop, flat_map, length, length-append, append_assoc, append-nil, refl, sym, ap, ◌∙◌, subst}
 use Rattle.std.proofs.lemmas.Grind.{flat_map-append}
 use Rattle.std.specs.Prelude.{IfErr, IfOk, MatchOption, MatchResult, None, Some, Result, Ok, Err, option_map}
 use Rattle.regress.specs.declared.failure.SearchError.{SearchError}
@@ -99,7 +99,7 @@ module _ (r : Regex) (text : List ℕ) (from : ℕ) (now : Matches) (numbers : L
       }
 
   -- one more match than a list may have room for
-  pub more-than-fit : (m : Match) (most : ℕ) → Advances now (Some (Ok m)) new → count ≡ most → memory_of r < match_bytes r * (most + 1) → AllNeedMore r text
+  pub more-than-fit : (m : Match) (most : ℕ) → Advances now (Some (Ok m)) new → most ≤ count → memory_of r < match_bytes r * (most + 1) → AllNeedMore r text
   more-than-fit m most step full few =
       let next = step.yields.0 in
       let here : one.IsLeftmost text (outcomes_of r text) (next_from now) (match_of m) =

@@ -274,7 +274,7 @@ pub(crate) fn all_ends(
     let mut ends = Vec::new(alloc);
     for found in regex.find_from(alloc, text, from) {
         let found = found?;
-        if count == most {
+        if count >= most {
             return Err(SearchError::TooMuchMemory);
         }
         count += 1;

@@ -1,4 +1,4 @@
-use Rattle.std.proofs.Common.{Some, inl, subst, sym, ◌∙◌}
+use Rattle.std.proofs.Common.{Some, arith, inl, subst, sym, ◌∙◌}
 use Rattle.std.proofs.lemmas.Result.{err_from_is_err_and}
 use Rattle.regress.specs.Searched.{Advances}
 use Rattle.regress_capi.proofs.SearchLemmas.{HasEnds, all-ends, ends-large, ends-late, more-ends, more-than-fit, no-ends}
@@ -44,4 +44,4 @@ returns-then-count-most-clause-too_much c = λ _.
     let now = c.loop-found.found-iterator in
     let new = c.next.new.self in
     more-than-fit c.args.regex.now c.args.text.now c.args.from now c.loop-found.ends.items c.loop-found.count c.loop-found.invariant new c.in_ok-found.found
-    c.most_matches-most.result (subst (λ r. Advances now (Some r) new) c.in_ok-found.was c.in-Some.ensures.steps) c.if-count-most.true c.most_matches-most.ensures.most
+    c.most_matches-most.result (subst (λ r. Advances now (Some r) new) c.in_ok-found.was c.in-Some.ensures.steps) (omega (arith, c.if-count-most.true)) c.most_matches-most.ensures.most
