@@ -13,6 +13,7 @@ returns-in-Ok-clause-own c =
       within = is.within;
       limit = is.limit;
       memory = is.memory;
+      linear_steps = is.linear_steps;
       instructions = is.instructions;
       linear = is.linear;
       find_linear = is.find_linear;
