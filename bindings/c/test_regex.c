@@ -322,8 +322,8 @@ static void memory_is_limited(void) {
     CHECK(within_memory(mib, optional, 'a', 200000, 0, 2 * mib) == REGRESS_TOO_MUCH_MEMORY);
     CHECK(within_memory(16 * mib, optional, 'a', 200000, 0, 17 * mib) == REGRESS_NO_MATCH);
     /* without tables */
-    CHECK(within_memory(mib, "(?:a|b|(c))*\\1d", 'a', 1000000, 0, 2 * mib) == REGRESS_TOO_MUCH_MEMORY);
-    CHECK(within_memory(64 * mib, "(?:a|b|(c))*\\1d", 'd', 1000, 0, mib) == REGRESS_OK);
+    CHECK(within_memory(mib, "(?:a|b|(c))*\\1[de]", 'a', 1000000, 0, 2 * mib) == REGRESS_TOO_MUCH_MEMORY);
+    CHECK(within_memory(64 * mib, "(?:a|b|(c))*\\1[de]", 'd', 1000, 0, mib) == REGRESS_OK);
     /* a match has 2,001 spans */
     CHECK(within_memory(mib, groups, 'a', 10000, 1, 3 * mib) == REGRESS_TOO_MUCH_MEMORY);
     CHECK(within_memory(mib, groups, 'a', 15, 1, 3 * mib) == REGRESS_ROOM);
