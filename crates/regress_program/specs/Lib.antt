@@ -9,6 +9,7 @@ pub mod Isolated
 pub mod Iterates
 pub mod LeavesOf
 pub mod Linear
+pub mod Listed
 pub mod Program
 pub mod Pushed
 pub mod Ranges

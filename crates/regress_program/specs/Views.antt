@@ -4,6 +4,7 @@ use Rattle.regress_leaves.specs.Leaves.{exactly}
 use Rattle.regress_leaves.specs.declared.test.Test.{Test}
 use Rattle.regress_tree.specs.Reading.{direction_if}
 use Rattle.regress_tree.specs.Tree.{Tree, tree, leaf, string_set}
+use Rattle.regress_program.specs.Listed.{listed}
 use Rattle.regress_program.specs.Program.{Op, accept, fail, part, split, begin_loop, repeat, end_loop, unsets, begin_group, end_group, look, Routine}
 use Rattle.regress_program.specs.declared.instruction.Instruction.{Instruction}
 use Rattle.regress_program.specs.declared.instruction.Instruction.TheVariants as insts
@@ -47,7 +48,7 @@ ops_in leaves = map (op_in leaves)
 
 -- what a routine does
 abbrev pub routine_in : List Test → declared.Routine → Routine
-routine_in leaves r = record { ops = ops_in leaves r.instructions.items; entry = r.entry; direction = direction_if r.backwards }
+routine_in leaves r = record { ops = ops_in leaves (listed r); entry = r.entry; direction = direction_if r.backwards }
 
 -- what the routines of a program do
 abbrev pub program_in : List Test → List declared.Routine → List Routine

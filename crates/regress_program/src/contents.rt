@@ -66,7 +66,7 @@ pub(crate) fn instruction_count(routines: &[Routine]) -> usize
 {
     let mut count: usize = 0;
     for routine in routines {
-        count = count.saturating_add(routine.instructions.len());
+        count = count.saturating_add(routine.len());
     }
     count
 }

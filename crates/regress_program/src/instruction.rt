@@ -1,4 +1,6 @@
 //! Instructions and routines.
+ghost use Rattle.std.specs.Prelude.{◌≡◌, ◌<◌, Some, length, slice_get};
+ghost use Rattle.regress_program.specs.Listed.{Begins, listed};
 
 /// An instruction of a routine. It names its leaf by the index in the list of the program, and the instructions after it
 /// by their indices in the routine.
@@ -90,9 +92,42 @@ pub enum Instruction {
 #[derive(Drop)]
 pub struct Routine {
     /// The instructions. Each but [`Instruction::Repeat`] names only instructions before it.
-    pub instructions: Vec<Instruction>,
+    pub(crate) instructions: Vec<Instruction>,
     /// The index of the instruction at which a match starts.
     pub entry: usize,
     /// Whether it matches backwards, as in a lookbehind.
     pub backwards: bool,
+}
+
+impl Routine {
+    /// Returns the number of instructions.
+    #[inline(always)]
+    #[tactic(auto, unfolding(crate::specs::Listed::listed))]
+    pub fn len(&self) -> usize
+        ensures { result ≡ length (listed self.now) }
+    {
+        self.instructions.len()
+    }
+
+    /// Returns the instruction with an index.
+    ///
+    /// # Preconditions
+    /// There is one.
+    #[inline(always)]
+    #[tactic(auto, unfolding(crate::specs::Listed::listed))]
+    pub fn at(&self, pc: usize) -> Instruction
+        requires { pc < length (listed self.now) }
+        ensures { slice_get (listed self.now) pc ≡ Some result }
+    {
+        self.instructions[pc]
+    }
+
+    /// Returns the first instructions: those that are stored one by one, today all.
+    #[inline(always)]
+    #[tactic(auto, unfolding(crate::specs::Listed::listed))]
+    pub fn leading(&self) -> &[Instruction]
+        ensures { Begins result.now (listed self.now) }
+    {
+        &self.instructions
+    }
 }

@@ -2,6 +2,7 @@ use Rattle.std.proofs.Common.{◌≡◌, ◌+◌, min, slice_get, take, Some, op
 use Rattle.std.proofs.lemmas.List.{length-map}
 use Rattle.std.proofs.lemmas.Option.{slice_get-map, slice_get_read}
 use Rattle.regress_program.specs.Compiled.{total}
+use Rattle.regress_program.specs.Listed.{listed}
 use Rattle.regress_program.specs.Views.{op_in, program_in, routine_in}
 use Rattle.regress_program.proofs.lemmas.Totals.{total-more}
 use Rattle.regress_program.proofs.contents.instruction_count.Goals as goal
@@ -16,5 +17,5 @@ loop-routine-preserved c = λ leaves.
     ∙ ap (option_map (routine_in leaves)) (slice_get_read routines _ i _ refl c.loop-routine-test.true c.routine-item.is) in
     let so_far : c.loop-routine.count ≡ min (total (take i (program_in leaves routines))) 18446744073709551615 = c.loop-routine.invariant leaves in
     let more : c.saturating_add-count.result ≡ min (total (take (i + 1) (program_in leaves routines))) 18446744073709551615 =
-    omega (arith, length-map c.routine-item.result.instructions.items (op_in leaves), total-more (program_in leaves routines) i r is, so_far, c.saturating_add-count.ensures, c.len.ensures) in
+    omega (arith, length-map (listed c.routine-item.result) (op_in leaves), total-more (program_in leaves routines) i r is, so_far, c.saturating_add-count.ensures, c.len.ensures) in
     more

@@ -1,10 +1,12 @@
 use Rattle.std.proofs.Common.{◌≡◌, ◌+◌, arith, max, refl, ap, ◌∙◌}
+use Rattle.regress_program.specs.Listed.{listed}
 use Rattle.regress_program.specs.Ranges.{captured_by_all, captured_in}
 use Rattle.regress_program.specs.Views.{ops_in, program_in, routine_in}
 use Rattle.regress_program.proofs.RangeLemmas.{drop_map-at, inner-more}
 use Rattle.regress_program.proofs.inner.inner_groups.Goals as goal
 
 pub loop-routine-preserved : goal.loop-routine-preserved
+unfolding listed
 loop-routine-preserved c = λ leaves.
     let routines = c.args.routines.now in
     let i = c.loop-routine.routine-index in

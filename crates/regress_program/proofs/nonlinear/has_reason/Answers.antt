@@ -2,12 +2,14 @@ use Rattle.std.proofs.Common.{◌≡◌, true, false, slice_get, Some, option_ma
 use Rattle.std.proofs.lemmas.Option.{slice_get-map, slice_get_read}
 use Rattle.std.specs.List.{list_any}
 use Rattle.regress_program.specs.Linear.{is_reason}
+use Rattle.regress_program.specs.Listed.{listed}
 use Rattle.regress_program.specs.Program.{Routine}
 use Rattle.regress_program.specs.Views.{ops_in, program_in, routine_in}
 use Rattle.regress_program.proofs.lemmas.Instructions.{any-at, any-more}
 use Rattle.regress_program.proofs.nonlinear.has_reason.Goals as goal
 
 pub returns-then-any_is_reason : goal.returns-then-any_is_reason
+unfolding listed
 returns-then-any_is_reason c =
     let program = program_in c.args.leaves.now c.args.routines.now in
     let i = c.loop-routine.routine-index in
@@ -21,6 +23,7 @@ returns-then-any_is_reason c =
     sym (any-at (λ (q : Routine). list_any (is_reason program c.args.why) q.ops) program i r is here)
 
 pub loop-routine-preserved : goal.loop-routine-preserved
+unfolding listed
 loop-routine-preserved c =
     let program = program_in c.args.leaves.now c.args.routines.now in
     let i = c.loop-routine.routine-index in

@@ -17,6 +17,7 @@ use Rattle.regress_program.specs.Compiled.{matching, strings, exactly, optional,
 use Rattle.regress_program.specs.Contents.{nothing, content, content_of_parts, either_of, in_iteration, in_iterations, in_loop}
 use Rattle.regress_program.specs.Iterates.{Iterates}
 use Rattle.regress_program.specs.LeavesOf.{leaves_of, leaves_of_loop, leaves_of_parts, leaves_of_strings}
+use Rattle.regress_program.specs.Listed.{listed}
 use Rattle.regress_program.specs.Program.{part, repeat}
 use Rattle.regress_program.specs.Pushed.{Pushed}
 use Rattle.regress_program.specs.declared.loops.Iterations.{Iterations}
@@ -549,6 +550,7 @@ look-returns-clause-emits t c =
     c.push.ensures.emits
 
 pub routine-returns-clause-emits : goal.routine-returns-clause-emits
+unfolding listed
 routine-returns-clause-emits t c = record {
   same = ap (λ v. length v.items) (c.replace-instructions.ensures.after ∙ c.replace-outer.ensures.value);
   means = λ leaves has.
