@@ -1,5 +1,6 @@
 pub mod lemmas
 mod CandidateLemmas
+mod LeadingLemmas
 mod NextBytesLemmas
 mod ListLemmas
 mod SkipLemmas

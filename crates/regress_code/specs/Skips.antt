@@ -7,6 +7,7 @@ use Rattle.regress_tree.specs.Reading.{Direction}
 use Rattle.regress_code.specs.declared.analysis.Analysis.{Analysis}
 use Rattle.regress_code.specs.declared.next_bytes.NextBytes.{NextBytes}
 use Rattle.regress_code.specs.declared.next_bytes.NextBytes.TheVariants as kinds
+use Rattle.regress_program.specs.Listed.{listed}
 use Rattle.regress_program.specs.declared.instruction.Instruction.{Instruction}
 use Rattle.regress_program.specs.declared.instruction.Instruction.TheVariants as insts
 use Rattle.regress_program.specs.declared.instruction.Routine as declared
@@ -44,7 +45,7 @@ AreSkips skips next_bytes instructions = (pc : ℕ) (p : Skip) → slice_get ski
 -- Each routine has its skips.
 abbrev pub HaveSkips : List declared.Routine → List Analysis → Type 0
 HaveSkips routines analyses = (i : ℕ) (a : Analysis) → slice_get analyses i ≡ Some a → (r : declared.Routine) → slice_get routines i ≡ Some r →
-    AreSkips a.skips.items a.next_bytes.items r.instructions.items
+    AreSkips a.skips.items a.next_bytes.items (listed r)
 
 -- The byte is next to the position, which is neither the start nor the end of the text.
 pub record IsBeside (d : Direction) (text : List ℕ) (position b : ℕ) : Type 0 where

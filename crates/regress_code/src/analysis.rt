@@ -1,5 +1,6 @@
 //! What is known of what follows the instructions of a routine.
 ghost use Rattle.std.specs.Prelude.{◌≡◌, ℕ, IfOk, List};
+ghost use Rattle.regress_program.specs.Listed.{listed};
 ghost use Rattle.regress_program.specs.Program.{Out};
 ghost use Rattle.regress_program.specs.Search.{routines_of};
 ghost use Rattle.regress_program.specs.Views.{ops_in};
@@ -17,9 +18,9 @@ use std::alloc::{AllocError, Global};
 /// What is known of what follows the instructions of a routine.
 #[derive(Drop)]
 pub struct Analysis {
-    /// The next bytes of the instructions.
+    /// The next bytes of the first instructions.
     pub next_bytes: Vec<NextBytes>,
-    /// The skips of the instructions.
+    /// The skips of the first instructions.
     pub skips: Vec<Skip>,
 }
 
@@ -68,17 +69,18 @@ fn analyze_routine(
     routine: &Routine,
     folds: bool,
 ) -> Result<Analysis, AllocError>
-    ensures next_bytes { IfOk result (λ a. AreNextBytesOf folds bodies.now a.next_bytes.items (direction_if routine.now.backwards) (ops_in leaves.now routine.now.instructions.items)) }
-    ensures skips { IfOk result (λ a. AreSkips a.skips.items a.next_bytes.items routine.now.instructions.items) }
+    ensures next_bytes { IfOk result (λ a. AreNextBytesOf folds bodies.now a.next_bytes.items (direction_if routine.now.backwards) (ops_in leaves.now (listed routine.now))) }
+    ensures skips { IfOk result (λ a. AreSkips a.skips.items a.next_bytes.items (listed routine.now)) }
 {
+    let instructions = routine.leading();
     let next_bytes = next_bytes_of(
         alloc,
         leaves,
         bodies,
-        &routine.instructions,
+        instructions,
         routine.backwards,
         folds,
     )?;
-    let skips = skips_of(alloc, &next_bytes, &routine.instructions)?;
+    let skips = skips_of(alloc, &next_bytes, instructions)?;
     Ok(Analysis { next_bytes, skips })
 }

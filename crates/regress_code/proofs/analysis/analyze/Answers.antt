@@ -3,6 +3,7 @@ use Rattle.std.proofs.lemmas.List.{length_push}
 use Rattle.std.proofs.lemmas.Option.{same_Some, slice_get-map, slice_get_read}
 use Rattle.regress_tree.specs.Reading.{direction_if}
 use Rattle.regress_tree.specs.Steps.{MatchState}
+use Rattle.regress_program.specs.Listed.{listed}
 use Rattle.regress_program.specs.Program.{Routine, matcher_of}
 use Rattle.regress_program.specs.Search.{routines_of}
 use Rattle.regress_program.specs.Views.{ops_in, routine_in}
@@ -36,7 +37,7 @@ loop-routine-preserved c =
     let q_here : slice_get program_routines i ≡ Some q = slice_get-map (routine_in leaves) routines i ∙ ap (option_map (routine_in leaves)) here in
     let are : AreNextBytesOf c.args.folds bodies one.next_bytes.items q.direction q.ops =
     subst (λ bs. AreNextBytesOf c.args.folds bs one.next_bytes.items q.direction q.ops) c.deref-in-loop-routine.ensures.value
-    (subst (λ xs. AreNextBytesOf c.args.folds c.deref-in-loop-routine.result.now one.next_bytes.items q.direction (ops_in xs r.instructions.items)) c.deref.ensures.value
+    (subst (λ xs. AreNextBytesOf c.args.folds c.deref-in-loop-routine.result.now one.next_bytes.items q.direction (ops_in xs (listed r))) c.deref.ensures.value
     c.in_ok-analysis.ensures.next_bytes) in
     let as_body : i ≡ length bodies = so_far.count ∙ sym so_far.body_count in
     record {
@@ -61,9 +62,9 @@ loop-routine-preserved c =
           (routine_bounds c.args.folds program_routines bodies so_far.bodies i q q_here one.next_bytes.items are setting folds text outs solution)));
       skips =
           subst (HaveSkips routines) (sym c.in_ok-push-2.ensures.items)
-          (pushed (λ i (a : Analysis). (q : declared.Routine) → slice_get routines i ≡ Some q → AreSkips a.skips.items a.next_bytes.items q.instructions.items)
+          (pushed (λ i (a : Analysis). (q : declared.Routine) → slice_get routines i ≡ Some q → AreSkips a.skips.items a.next_bytes.items (listed q))
           known one so_far.skips
           (λ q is.
-          subst (λ (x : declared.Routine). AreSkips one.skips.items one.next_bytes.items x.instructions.items) (same_Some r q (sym here ∙ is))
+          subst (λ (x : declared.Routine). AreSkips one.skips.items one.next_bytes.items (listed x)) (same_Some r q (sym here ∙ is))
           c.in_ok-analysis.ensures.skips));
     }

@@ -1,0 +1,41 @@
+-- What is known of the first instructions is known of all.
+use Rattle.std.proofs.Common.{◌≡◌, ℕ, ◌-◌, ◌<◌, Bool, true, List, length, Option, Some, None, option_map, slice_get, refl, sym, ap, ◌∙◌, subst, arith}
+use Rattle.std.proofs.lemmas.List.{length-map}
+use Rattle.std.proofs.lemmas.Option.{slice_get-map, slice_get_within}
+use Rattle.regress_tree.specs.Reading.{Direction}
+use Rattle.regress_leaves.specs.declared.test.Test.{Test}
+use Rattle.regress_program.specs.Listed.{Begins}
+use Rattle.regress_program.specs.Program.{outcomes_at}
+use Rattle.regress_program.specs.Views.{op_in, ops_in}
+use Rattle.regress_program.specs.declared.instruction.Instruction.{Instruction}
+use Rattle.regress_code.specs.declared.next_bytes.Body.{Body}
+use Rattle.regress_code.specs.declared.next_bytes.NextBytes.{NextBytes}
+use Rattle.regress_code.specs.declared.skips.Skip.{Skip}
+use Rattle.regress_code.specs.NextBytes.{AreNextBytesOf}
+use Rattle.regress_code.specs.Skips.{AreSkips, is_skipped}
+
+module _ (first all : List Instruction) (begins : Begins first all) where
+  -- an instruction that is skipped is among the first ones if it is read there
+  is_first : (next_bytes : List NextBytes) (b pc : ℕ) (o : Option Instruction) → slice_get first pc ≡ o → is_skipped next_bytes b pc o ≡ true →
+      pc < length first
+  is_first next_bytes b pc None read skipped = cc
+  is_first next_bytes b pc (Some i) read skipped = slice_get_within first pc i read
+
+  -- the next bytes
+  pub all_next_bytes : (folds : Bool) (bodies : List Body) (next_bytes : List NextBytes) (d : Direction) (leaves : List Test) →
+      AreNextBytesOf folds bodies next_bytes d (ops_in leaves first) → AreNextBytesOf folds bodies next_bytes d (ops_in leaves all)
+  all_next_bytes folds bodies next_bytes d leaves are = λ setting folded text body_of out are_bodies solves.
+      are setting folded text body_of out are_bodies
+      (λ a low high inside.
+      let lt : a.pc < length first = omega (arith, high, length-map first (op_in leaves)) in
+      let same : slice_get (ops_in leaves all) a.pc ≡ slice_get (ops_in leaves first) a.pc =
+      slice_get-map (op_in leaves) all a.pc ∙ ap (option_map (op_in leaves)) (begins.same a.pc lt) ∙ sym (slice_get-map (op_in leaves) first a.pc) in
+      solves a low (omega (arith, lt, begins.within, length-map all (op_in leaves))) inside
+      ∙ ap (λ o. outcomes_at setting text d body_of out o a) same)
+
+  -- the skips
+  pub all_skips : (skips : List Skip) (next_bytes : List NextBytes) → AreSkips skips next_bytes first → AreSkips skips next_bytes all
+  all_skips skips next_bytes are = λ pc p is b n counted j lt.
+      let skipped = are pc p is b n counted j lt in
+      subst (λ o. is_skipped next_bytes b (pc - j) o ≡ true)
+      (sym (begins.same (pc - j) (is_first next_bytes b (pc - j) (slice_get first (pc - j)) refl skipped))) skipped
