@@ -37,11 +37,8 @@ use Rattle.regress_tables.proofs.WalkLemmas.{Leads-trans, entry-none, solved-by,
 -- ---- where a walk goes
 
 -- what the instruction at an index does
-pub op-here : (tests : List Test) (items : List Instruction) (pc : ℕ) (i : Instruction) → pc < length (ops_in tests items) → i ≡ get_or items pc i →
-    slice_get (ops_in tests items) pc ≡ Some (op_in tests i)
-op-here tests items pc i lt is =
-    slice_get-map (op_in tests) items pc
-    ∙ ap (option_map (op_in tests)) (slice_get_read items _ pc i refl (omega (arith, lt, length-map items (op_in tests))) is)
+pub op-here : (tests : List Test) (items : List Instruction) (pc : ℕ) (i : Instruction) → slice_get items pc ≡ Some i → slice_get (ops_in tests items) pc ≡ Some (op_in tests i)
+op-here tests items pc i is = slice_get-map (op_in tests) items pc ∙ ap (option_map (op_in tests)) is
 
 -- where a walk is, where n groups are unset at first
 abbrev pub place_in : Input → (outs : ℕ → Out) (n : ℕ) → Walker → At

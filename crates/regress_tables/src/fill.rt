@@ -45,7 +45,7 @@ pub(crate) fn fill(
     };
     let length = input.text.len();
     let mut memo = Memo::new(alloc, input, routine)?;
-    let mut table = Table::new(alloc, routine.instructions.len(), length, routine.backwards)?;
+    let mut table = Table::new(alloc, routine.len(), length, routine.backwards)?;
     for row in 0..length + 1 {
         let position = row_of(routine.backwards, length, row);
         fill_row(&input, routine, &mut table, &mut memo, position)?;
@@ -193,15 +193,8 @@ fn fill_half(
     ensures filled { IfOk result (λ _. IsFilled input.entry table.old → IsFilled input.entry table.new) }
 {
     let read = next_read(input.text, input.rules.backwards, position);
-    for pc in 0..routine.instructions.len() {
-        let bit = evaluate(
-            input,
-            table,
-            routine.instructions[pc],
-            moved,
-            position,
-            read,
-        );
+    for pc in 0..routine.len() {
+        let bit = evaluate(input, table, routine.at(pc), moved, position, read);
         table.push(bit)?;
     }
     Ok(())

@@ -133,10 +133,10 @@ fn probes_at(
     let mut code: u64 = 0;
     for k in (0..far.len()).rev() {
         let pc = far[k];
-        if pc >= routine.instructions.len() {
+        if pc >= routine.len() {
             return None;
         }
-        let probe = probe_at(*input, table, routine.instructions[pc], position);
+        let probe = probe_at(*input, table, routine.at(pc), position);
         let next = with_digit(code, probe)?;
         code = next;
     }

@@ -1,6 +1,7 @@
 //! Rows that were filled, by what they were computed from.
 ghost use Rattle.std.specs.Prelude.{◌≡◌, ◌≢◌, ◌<◌, ℕ, ◌⊎◌, All, IfOk, IfSome, None, Some, false, slice_get, true};
 ghost use Rattle.regress_leaves.specs.Subject.{subject};
+ghost use Rattle.regress_program.specs.Listed.{listed};
 ghost use Rattle.regress_program.specs.Program.{Op};
 ghost use Rattle.regress_program.specs.Views.{op_in, ops_in};
 ghost use Rattle.regress_tables.specs.Memo.{AreBytesOf, AreFarBytes, Covers, IsDirect, IsKept, IsNear, direct_index};
@@ -70,9 +71,9 @@ impl<'t> Memo<'t> {
         input: Input<'_, 't>,
         routine: &Routine,
     ) -> Result<Memo<'t>, AllocError>
-        ensures covers { IfOk result (λ memo. Covers (ops_in input.entry.code.now.program.leaves.items routine.now.instructions.items) memo.far.items) }
+        ensures covers { IfOk result (λ memo. Covers (ops_in input.entry.code.now.program.leaves.items (listed routine.now)) memo.far.items) }
         ensures bytes { IfOk result (λ memo. (let u = subject input.entry.rules input.entry.text.now in
-            AreFarBytes u.setting u.bytes u.direction (ops_in input.entry.code.now.program.leaves.items routine.now.instructions.items) memo.far.items memo.far_bytes)) }
+            AreFarBytes u.setting u.bytes u.direction (ops_in input.entry.code.now.program.leaves.items (listed routine.now)) memo.far.items memo.far_bytes)) }
         ensures tests { IfOk result (λ memo. memo.symbols.tests.now ≡ input.entry.code.now.program.leaves.items) }
         ensures empty { IfOk result (λ memo. (key : Key) (row : ℕ) → IsKept memo (Some key) row → ⊥) }
     {
@@ -175,11 +176,11 @@ fn is_same(a: Key, b: Key) -> bool
 /// # Errors
 /// Returns [`AllocError`] if an allocation fails.
 fn far_of(alloc: Global, input: Input<'_, '_>, routine: &Routine) -> Result<Vec<usize>, AllocError>
-    ensures { IfOk result (λ far. Covers (ops_in input.entry.code.now.program.leaves.items routine.now.instructions.items) far.items) }
+    ensures { IfOk result (λ far. Covers (ops_in input.entry.code.now.program.leaves.items (listed routine.now)) far.items) }
 {
     let mut far = Vec::new(alloc);
-    for pc in 0..routine.instructions.len() {
-        if is_far(input, routine.instructions[pc]) {
+    for pc in 0..routine.len() {
+        if is_far(input, routine.at(pc)) {
             far.push(pc)?;
         }
     }
@@ -189,7 +190,7 @@ fn far_of(alloc: Global, input: Input<'_, '_>, routine: &Routine) -> Result<Vec<
 /// Returns the next bytes of these instructions, together.
 fn far_bytes_of(input: Input<'_, '_>, routine: &Routine, far: &[usize]) -> NextBytes
     ensures { let u = subject input.entry.rules input.entry.text.now in
-        AreFarBytes u.setting u.bytes u.direction (ops_in input.entry.code.now.program.leaves.items routine.now.instructions.items) far.now result }
+        AreFarBytes u.setting u.bytes u.direction (ops_in input.entry.code.now.program.leaves.items (listed routine.now)) far.now result }
 {
     let mut bytes = NextBytes::Bytes(ByteBitmap::default());
     for k in 0..far.len() {
@@ -200,10 +201,10 @@ fn far_bytes_of(input: Input<'_, '_>, routine: &Routine, far: &[usize]) -> NextB
 
 /// Returns the next bytes of an instruction, whatever follows it; none if there is no instruction with this index.
 fn bytes_at(input: Input<'_, '_>, routine: &Routine, pc: usize) -> NextBytes
-    ensures { (op : Op) → slice_get (ops_in input.entry.code.now.program.leaves.items routine.now.instructions.items) pc ≡ Some op →
+    ensures { (op : Op) → slice_get (ops_in input.entry.code.now.program.leaves.items (listed routine.now)) pc ≡ Some op →
         (let u = subject input.entry.rules input.entry.text.now in AreBytesOf u.setting u.bytes u.direction op result) }
 {
-    if pc >= routine.instructions.len() {
+    if pc >= routine.len() {
         return NextBytes::Bytes(ByteBitmap::default());
     }
     let folds = input.rules.known.has_ascii_case(input.rules.flags);
@@ -211,7 +212,7 @@ fn bytes_at(input: Input<'_, '_>, routine: &Routine, pc: usize) -> NextBytes
         &input.code.program.leaves,
         &[],
         &[],
-        routine.instructions[pc],
+        routine.at(pc),
         input.rules.backwards,
         folds,
     )

@@ -54,7 +54,7 @@ pub(crate) fn walk(
 {
     'walk: loop {
         *steps = steps.saturating_add(1);
-        let instruction = routine.instructions[walker.pc];
+        let instruction = routine.at(walker.pc);
         if let Instruction::Accept = instruction {
             return Ok(true);
         }

@@ -1,6 +1,7 @@
 use Rattle.std.proofs.Common.{◌≡◌, ◌+◌, ◌*◌, length, sym, ap, ◌∙◌, arith}
 use Rattle.std.proofs.lemmas.List.{length-map}
 use Rattle.regress_tree.specs.Reading.{direction_if}
+use Rattle.regress_program.specs.Listed.{listed}
 use Rattle.regress_program.specs.Views.{op_in}
 use Rattle.regress_tables.specs.Table.{evaluated}
 use Rattle.regress_tables.proofs.FillLemmas.{row-is}
@@ -36,7 +37,7 @@ pub loop-row-init : goal.loop-row-init
 loop-row-init c = record {
   of = record {
     width =
-        let items = c.args.routine.now.instructions.items in
+        let items = listed c.args.routine.now in
         omega (arith, c.in_ok-table.ensures.width, c.len.ensures, length-map items (op_in c.args.input.code.now.program.leaves.items));
     text = c.in_ok-table.ensures.length;
     direction = ap direction_if c.in_ok-table.ensures.backwards;

@@ -4,6 +4,7 @@ use Rattle.std.proofs.lemmas.Option.{slice_get_read}
 use Rattle.regress_leaves.specs.Subject.{subject}
 use Rattle.regress_tree.specs.Reading.{Read, direction_if, next_character, of_bytes}
 use Rattle.regress_program.specs.Below.{row_of}
+use Rattle.regress_program.specs.Listed.{listed}
 use Rattle.regress_program.specs.Program.{matcher_of, outcomes_by}
 use Rattle.regress_program.specs.Views.{routine_in}
 use Rattle.regress_code.specs.Code.{code_routines}
@@ -48,7 +49,7 @@ returns-clause-kept c =
     ∙ ap Some (let e : next ≡ next - 1 + 1 = omega (arith, c.if-next-eq0.false) in e) in
     let at : direct_index key ≡ from * 128 + symbol = omega arith in
     let alike : AreAlikeIn r.ops character (symbol + 1 - 1) =
-    alike-in leaves c.args.routine.now.instructions.items character (symbol + 1 - 1)
+    alike-in leaves (listed c.args.routine.now) character (symbol + 1 - 1)
     (let e : symbol ≡ symbol + 1 - 1 = omega arith in
     subst (AreAlike leaves character) e (subst (λ ts. AreAlike ts character symbol) c.requires.tests c.in_ok-symbol.ensures.alike)) in (
       key,

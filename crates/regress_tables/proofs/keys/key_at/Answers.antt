@@ -3,6 +3,7 @@ use Rattle.regress_leaves.specs.Leaves.{read_of}
 use Rattle.regress_leaves.specs.Subject.{subject}
 use Rattle.regress_tree.specs.Reading.{direction_if}
 use Rattle.regress_program.specs.Below.{row_of}
+use Rattle.regress_program.specs.Listed.{listed}
 use Rattle.regress_program.specs.Program.{matcher_of}
 use Rattle.regress_program.specs.Views.{routine_in}
 use Rattle.regress_code.specs.Code.{code_routines}
@@ -40,7 +41,7 @@ returns-else-row-len-clause-key c = λ outs tables right.
     let row_is : c.row_of-row.result ≡ row_of (direction_if t.backwards) t.length to = c.row_of-row.ensures.value in
     let leaves = input.code.now.program.leaves.items in
     let alike : AreAlikeIn ops c.in-Some.c (c.from.result + 1 - 1) =
-    alike-in leaves c.args.routine.now.instructions.items c.in-Some.c (c.from.result + 1 - 1)
+    alike-in leaves (listed c.args.routine.now) c.in-Some.c (c.from.result + 1 - 1)
     (let e : c.symbol_of.result ≡ c.from.result + 1 - 1 = omega (arith, c.from.ensures) in
     subst (AreAlike leaves c.in-Some.c) e (subst (λ ts. AreAlike ts c.in-Some.c c.symbol_of.result) c.requires.tests c.symbol_of.ensures.alike)) in
     let lt : c.row_of-row.result < length t.rows.items = omega (arith, c.if-row-len.false, c.len.ensures) in

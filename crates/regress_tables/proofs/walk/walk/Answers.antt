@@ -1,5 +1,6 @@
 use Rattle.std.proofs.Common.{◌||◌, ◌≡◌, true, false, slice_get, Some, refl, sym, ap, ◌∙◌, arith}
 use Rattle.std.proofs.lemmas.Bool.{and_parts}
+use Rattle.regress_program.specs.Listed.{listed}
 use Rattle.regress_program.specs.Tidy.{has_no_back_reference}
 use Rattle.regress_program.specs.Linear.{is_linear}
 use Rattle.regress_code.specs.Code.{code_routines, code_tidy}
@@ -14,9 +15,9 @@ returns-in-Accept-clause-ends c = λ outs solution full right some.
     let r = routine_in c.args.input.code.now.program.leaves.items c.args.routine.now in
     let can = c.requires.can in
     let w = c.walk.walker in
-    let i = c.index-instruction.result.now in
+    let i = c.at-instruction.result in
     let here : slice_get r.ops w.pc ≡ Some (op_in c.args.input.code.now.program.leaves.items i) =
-    op-here c.args.input.code.now.program.leaves.items c.args.routine.now.instructions.items w.pc i (omega (arith, c.walk.invariant.pc, can.of.width)) c.index-instruction.ensures in (
+    op-here c.args.input.code.now.program.leaves.items (listed c.args.routine.now) w.pc i c.at-instruction.ensures in (
       refl,
       way-ends c.args.input r c.args.table.now (op_in c.args.input.code.now.program.leaves.items i) c.args.walker.now w can here c.walk.invariant.pc c.walk.invariant.position c.walk.invariant.leads
           outs (record { solution = solution; full = full; right = right }) some (ap (op_in c.args.input.code.now.program.leaves.items) c.in-Accept.is),
@@ -28,9 +29,9 @@ step-requires c =
     let r = routine_in c.args.input.code.now.program.leaves.items c.args.routine.now in
     let can = c.requires.can in
     let w = c.walk.walker in
-    let i = c.index-instruction.result.now in
+    let i = c.at-instruction.result in
     let here : slice_get r.ops w.pc ≡ Some (op_in c.args.input.code.now.program.leaves.items i) =
-    op-here c.args.input.code.now.program.leaves.items c.args.routine.now.instructions.items w.pc i (omega (arith, c.walk.invariant.pc, can.of.width)) c.index-instruction.ensures in
+    op-here c.args.input.code.now.program.leaves.items (listed c.args.routine.now) w.pc i c.at-instruction.ensures in
     record {
       tabled = c.requires.tabled;
       can = can_walk c.args.input r c.args.table.now (op_in c.args.input.code.now.program.leaves.items i) (place_of w) (and_parts (has_no_back_reference program) (is_linear program || code_tidy c.args.input.code.now) c.requires.tabled).0 can c.walk.invariant.pc
@@ -45,9 +46,9 @@ returns-then-not-branch c = record {
       let r = routine_in c.args.input.code.now.program.leaves.items c.args.routine.now in
       let can = c.requires.can in
       let w = c.walk.walker in
-      let i = c.index-instruction.result.now in
+      let i = c.at-instruction.result in
       let here : slice_get r.ops w.pc ≡ Some (op_in c.args.input.code.now.program.leaves.items i) =
-      op-here c.args.input.code.now.program.leaves.items c.args.routine.now.instructions.items w.pc i (omega (arith, c.walk.invariant.pc, can.of.width)) c.index-instruction.ensures in
+      op-here c.args.input.code.now.program.leaves.items (listed c.args.routine.now) w.pc i c.at-instruction.ensures in
       let goes = way-goes c.args.input r c.args.table.now (op_in c.args.input.code.now.program.leaves.items i) c.args.walker.now w can here c.walk.invariant.pc c.walk.invariant.position
       c.walk.invariant.leads outs (record { solution = solution; full = full; right = right }) some c.in_ok-step.field-0 c.step.new.walker
       (λ is. c.in_default.not-Accept (accepts-only c.args.input.code.now.program.leaves.items i is)) c.walk.invariant.count
@@ -73,9 +74,9 @@ walk-preserved c = record {
       let r = routine_in c.args.input.code.now.program.leaves.items c.args.routine.now in
       let can = c.requires.can in
       let w = c.walk.walker in
-      let i = c.index-instruction.result.now in
+      let i = c.at-instruction.result in
       let here : slice_get r.ops w.pc ≡ Some (op_in c.args.input.code.now.program.leaves.items i) =
-      op-here c.args.input.code.now.program.leaves.items c.args.routine.now.instructions.items w.pc i (omega (arith, c.walk.invariant.pc, can.of.width)) c.index-instruction.ensures in
+      op-here c.args.input.code.now.program.leaves.items (listed c.args.routine.now) w.pc i c.at-instruction.ensures in
       (way-goes c.args.input r c.args.table.now (op_in c.args.input.code.now.program.leaves.items i) c.args.walker.now w can here c.walk.invariant.pc c.walk.invariant.position c.walk.invariant.leads outs
       knows some c.in_ok-step.field-0 c.step.new.walker (λ is. c.in_default.not-Accept (accepts-only c.args.input.code.now.program.leaves.items i is)) c.walk.invariant.count
       (λ o knows' other some'. c.in_ok-step.ensures.leads o knows'.solution knows'.full knows'.right other some')).1;
