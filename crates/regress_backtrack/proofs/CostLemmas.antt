@@ -27,7 +27,7 @@ use Rattle.regress_leaves.specs.declared.test.Test.{Test}
 use Rattle.regress_code.specs.Code.{code_routines}
 use Rattle.regress_backtrack.specs.Costs.{HasCost, cost_ahead, op_cost, points_cost}
 use Rattle.regress_backtrack.specs.Machine.{Chosen, Groups, Ranged, at, groups_of, points, range_points}
-use Rattle.regress_backtrack.specs.Next.{IsInput}
+use Rattle.regress_backtrack.specs.Next.{IsInput, instructions_in}
 use Rattle.regress_leaves.specs.Starts.{AreIn, IsStart}
 use Rattle.regress_backtrack.specs.Sweep.{IsSwept}
 use Rattle.regress_program.specs.Views.{characters_of, op_in, part_of}
@@ -37,7 +37,7 @@ use Rattle.regress_backtrack.proofs.StepLemmas.{Reaches}
 
 module _ (input : Input) (is : IsInput input) (outs : ℕ → Out) (costs : ℕ → Cost) (has : HasCost input outs costs) (g : Groups) where
   -- the cost at an instruction
-  pub costed : (p : Place) (i : Instruction) → p.pc < length input.instructions.now → slice_get input.instructions.now p.pc ≡ Some i →
+  pub costed : (p : Place) (i : Instruction) → p.pc < length (instructions_in input) → slice_get (instructions_in input) p.pc ≡ Some i →
       p.position ≤ length input.text.now →
       costs input.index (at p g) ≡ 1 + op_cost input outs costs (op_in input.code.now.program.leaves.items i) (at p g)
   costed p i lt read le =
@@ -48,8 +48,8 @@ module _ (input : Input) (is : IsInput input) (outs : ℕ → Out) (costs : ℕ 
       (sym is.direction) (op-is input is p i lt read)
 
   -- the other alternative of a choice
-  pub second_cost : (p : Place) (first second : ℕ) → p.pc < length input.instructions.now →
-      slice_get input.instructions.now p.pc ≡ Some (insts.Split first second) → p.position ≤ length input.text.now →
+  pub second_cost : (p : Place) (first second : ℕ) → p.pc < length (instructions_in input) →
+      slice_get (instructions_in input) p.pc ≡ Some (insts.Split first second) → p.position ≤ length input.text.now →
       costs input.index (at (record p { pc = second }) g) ≤ costs input.index (at p g)
   second_cost p first second lt read le =
       let same = costed p (insts.Split first second) lt read le in
@@ -139,7 +139,7 @@ ends_moved : (k : ℕ) → (false || not (k + 1 == k)) ≡ true
 ends_moved k = grind arith
 
 module _ (input : Input) (is : IsInput input) (looping : Looping) (set : ByteBitmap) (repeat_pc : ℕ) (swept : IsSwept input looping set repeat_pc)
-    (body_in : looping.body < length input.instructions.now) (outs : ℕ → Out) (costs : ℕ → Cost) (has : HasCost input outs costs) (g : Groups) where
+    (body_in : looping.body < length (instructions_in input)) (outs : ℕ → Out) (costs : ℕ → Cost) (has : HasCost input outs costs) (g : Groups) where
   -- an iteration
   iteration_cost : (k : ℕ) → k < length input.text.now → slice_index input.text.now k < 128 → contains set (slice_index input.text.now k) ≡ true →
       1 + costs input.index (at (record { pc = repeat_pc; moved = true; position = k + 1 }) g)

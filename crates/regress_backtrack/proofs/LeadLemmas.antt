@@ -16,7 +16,7 @@ use Rattle.regress_backtrack.specs.declared.machine.Place.{Place}
 use Rattle.regress_backtrack.specs.Lead.{BeginsAfterOne, IsBegun}
 use Rattle.regress_backtrack.specs.Sweep.{IsAsciiLeaf}
 use Rattle.regress_backtrack.specs.Machine.{Groups, at}
-use Rattle.regress_backtrack.specs.Next.{IsInput, Solve}
+use Rattle.regress_backtrack.specs.Next.{IsInput, Solve, instructions_in}
 use Rattle.regress_backtrack.specs.Searched.{IsFor}
 use Rattle.regress_backtrack.proofs.RunLemmas.{solved}
 use Rattle.regress_backtrack.proofs.SweepLemmas.{at_repeat_on, character, iteration}
@@ -80,7 +80,7 @@ module _ (input : Input) (is : IsInput input) (pc : ℕ) (set : ByteBitmap) (beg
 
   -- a leaf, and then the loop
   pub none_in_one : (leaf : ℕ) (before : ByteBitmap) → IsAsciiLeaf input leaf before →
-      input.first < length input.instructions.now → slice_get input.instructions.now input.first ≡ Some (insts.Leaf leaf pc) →
+      input.first < length (instructions_in input) → slice_get (instructions_in input) input.first ≡ Some (insts.Leaf leaf pc) →
       (low n m : ℕ) → AreIn before input.text.now low n → AreIn set input.text.now (low + 1) m →
       outs input.index (at (record { pc = input.first; moved = true; position = low }) g) ≡ [] →
       (j : ℕ) → j < n → j ≤ m → outs input.index (at (record { pc = input.first; moved = true; position = low + j }) g) ≡ []

@@ -24,7 +24,7 @@ use Rattle.regress_backtrack.specs.declared.step.Next.{Next}
 use Rattle.regress_backtrack.specs.declared.step.Next.TheVariants as nexts
 use Rattle.regress_backtrack.specs.Machine.{Groups, at, groups_of, points}
 use Rattle.regress_backtrack.specs.Memory.{AreWithin}
-use Rattle.regress_backtrack.specs.Next.{CanStep, Fails, IsInput, Inside, Solve, ahead, Leads}
+use Rattle.regress_backtrack.specs.Next.{CanStep, Fails, IsInput, Inside, Solve, ahead, Leads, instructions_in}
 use Rattle.regress_backtrack.specs.Run.{IsResponseOf, IsAfter}
 use Rattle.regress_program.specs.declared.instruction.Instruction.TheVariants as insts
 use Rattle.regress_backtrack.proofs.MachineLemmas.{points-none}
@@ -32,13 +32,13 @@ use Rattle.regress_backtrack.proofs.StepLemmas.{Goes, goes_on, goes_back, Remain
 
 -- ---- one instruction
 
-module _ (input : Input) (is : IsInput input) (p : Place) (i : Instruction) (lt : p.pc < length input.instructions.now)
-    (read : slice_get input.instructions.now p.pc ≡ Some i) where
+module _ (input : Input) (is : IsInput input) (p : Place) (i : Instruction) (lt : p.pc < length (instructions_in input))
+    (read : slice_get (instructions_in input) p.pc ≡ Some i) where
   pub op-is : slice_get is.routine.ops p.pc ≡ Some (op_in input.code.now.program.leaves.items i)
-  op-is = ap (λ xs. slice_get xs p.pc) (sym is.ops) ∙ slice_get-map (op_in input.code.now.program.leaves.items) input.instructions.now p.pc ∙ ap (option_map (op_in input.code.now.program.leaves.items)) read
+  op-is = ap (λ xs. slice_get xs p.pc) (sym is.ops) ∙ slice_get-map (op_in input.code.now.program.leaves.items) (instructions_in input) p.pc ∙ ap (option_map (op_in input.code.now.program.leaves.items)) read
 
-  pub width-is : length is.routine.ops ≡ length input.instructions.now
-  width-is = ap length (sym is.ops) ∙ length-map input.instructions.now (op_in input.code.now.program.leaves.items)
+  pub width-is : length is.routine.ops ≡ length (instructions_in input)
+  width-is = ap length (sym is.ops) ∙ length-map (instructions_in input) (op_in input.code.now.program.leaves.items)
 
   pub can_step : IsProgram (code_routines input.code.now) → p.position ≤ length input.text.now → CanStep input (op_in input.code.now.program.leaves.items i) p
   can_step program le = record {
@@ -76,9 +76,9 @@ only_second first second rest none = ap (λ xs. (xs ++ second) ++ rest) none
 -- what a lookaround names
 pub look_fits : (input : Input) (i : Instruction) (p : Place) (negate : Bool) (routine next : ℕ) → i ≡ insts.Look negate routine next →
     CanStep input (op_in input.code.now.program.leaves.items i) p →
-    (routine < length (take input.index (code_routines input.code.now))) × (next < length input.instructions.now)
+    (routine < length (take input.index (code_routines input.code.now))) × (next < length (instructions_in input))
 look_fits input i p negate routine next is can =
-    let fits = subst (Fits (take input.index (code_routines input.code.now)) (length input.instructions.now) p.pc) (ap (op_in input.code.now.program.leaves.items) is) can.fits in
+    let fits = subst (Fits (take input.index (code_routines input.code.now)) (length (instructions_in input)) p.pc) (ap (op_in input.code.now.program.leaves.items) is) can.fits in
     (fits.0, omega (arith, fits.1, can.pc))
 
 -- ---- the outcomes that remain
@@ -107,7 +107,7 @@ pub begins-inside : (input : Input) (is : IsInput input) (m : Machine) (start' :
     m.stack.entries.items ≡ [] → start' ≤ length input.text.now →
     All (Inside input) (at (record { pc = input.first; moved = true; position = start' }) (groups_of m) ∷ points m)
 begins-inside input is m start' program clear le =
-    let width : length is.routine.ops ≡ length input.instructions.now = ap length (sym is.ops) ∙ length-map input.instructions.now (op_in input.code.now.program.leaves.items) in
+    let width : length is.routine.ops ≡ length (instructions_in input) = ap length (sym is.ops) ∙ length-map (instructions_in input) (op_in input.code.now.program.leaves.items) in
     let entry = (program input.index is.routine is.is).entry in
     let p : Place = record { pc = input.first; moved = true; position = start' } in
     All-cons (Inside input) (at p (groups_of m)) (points m) (record { pc = omega (arith, is.first, entry, width); position = le })
@@ -258,7 +258,7 @@ module _ (out : Out) (m m' : Machine) (same : points m' ≡ points m) (begins : 
 
 -- the points after a lookaround
 pub look_inside : (input : Input) (m m' : Machine) (r : Response) (negate : Bool) (p : Place) (n : Next) → points m' ≡ points m → IsAfter r negate p n →
-    p.pc < length input.instructions.now → p.position ≤ length input.text.now → Remains input m m' n
+    p.pc < length (instructions_in input) → p.position ≤ length input.text.now → Remains input m m' n
 look_inside input m m' (responses.Matched k) true p n same is lt le = back_inside input m m' n is same
 look_inside input m m' (responses.Matched k) false p n same is lt le = on_inside input m m' n p is same (record { pc = lt; position = le })
 look_inside input m m' responses.NoMatch true p n same is lt le = on_inside input m m' n p is same (record { pc = lt; position = le })

@@ -17,7 +17,7 @@ use Rattle.regress_program.specs.declared.instruction.Instruction.TheVariants as
 use Rattle.regress_backtrack.specs.declared.machine.Place.{Place}
 use Rattle.regress_code.specs.NextBytes.{IsOutside, next_to}
 use Rattle.regress_backtrack.specs.Machine.{Groups, at}
-use Rattle.regress_backtrack.specs.Next.{IsInput, Solve}
+use Rattle.regress_backtrack.specs.Next.{IsInput, Solve, instructions_in}
 use Rattle.regress_code.specs.Skips.{AreSkipped, IsBeside, is_excluded, is_skipped}
 use Rattle.regress_backtrack.proofs.CostLemmas.{second_cost}
 use Rattle.regress_backtrack.proofs.RunLemmas.{solved}
@@ -104,7 +104,7 @@ module _ (input : Input) (is : IsInput input) (p : Place) (b : ℕ)
         out = ap (contains set) same ∙ out;
       }
 
-  one_skipped : (pc : ℕ) → Skipped input.next_bytes.now input.instructions.now b pc → outs_from (pc - 1) ≡ outs_from pc
+  one_skipped : (pc : ℕ) → Skipped input.next_bytes.now (instructions_in input) b pc → outs_from (pc - 1) ≡ outs_from pc
   one_skipped pc skipped =
       let u = subject input.rules input.text.now in
       let here : Place = record p { pc = pc } in
@@ -113,30 +113,30 @@ module _ (input : Input) (is : IsInput input) (p : Place) (b : ℕ)
       (outside skipped.set skipped.out) in
       let before : p.position < length input.text.now = beside.before in
       sym
-      (solved input is here i (slice_get_within input.instructions.now pc i skipped.is) skipped.is u.setting u.bytes outs u.direction g solve is.direction
+      (solved input is here i (slice_get_within (instructions_in input) pc i skipped.is) skipped.is u.setting u.bytes outs u.direction g solve is.direction
       (omega (arith, before))
       ∙ ap (λ xs. xs ++ outs input.index (goto (pc - 1) (at here g))) fails)
 
-  pub all_skipped : (pc count : ℕ) → AreSkipped input.next_bytes.now input.instructions.now b pc count → outs_from (pc - count) ≡ outs_from pc
+  pub all_skipped : (pc count : ℕ) → AreSkipped input.next_bytes.now (instructions_in input) b pc count → outs_from (pc - count) ≡ outs_from pc
   all_skipped pc zero all = ap outs_from (omega arith)
   all_skipped pc (suc n) all =
-      let last = skipped_by input.next_bytes.now input.instructions.now b (pc - n) (slice_get input.instructions.now (pc - n)) refl (all n (omega arith)) in
+      let last = skipped_by input.next_bytes.now (instructions_in input) b (pc - n) (slice_get (instructions_in input) (pc - n)) refl (all n (omega arith)) in
       let number : pc - suc n ≡ (pc - n) - 1 = omega arith in
       ap outs_from number ∙ one_skipped (pc - n) last ∙ all_skipped pc n (λ j lt. all j (omega (arith, lt)))
 
 -- the cost of a place is at least that of one that is reached by skipping choices
 pub skipped_cost : (input : Input) → IsInput input → (p : Place) (b : ℕ) (outs : ℕ → Out) (costs : ℕ → Cost) → HasCost input outs costs → (g : Groups) →
-    p.position ≤ length input.text.now → (pc count : ℕ) → AreSkipped input.next_bytes.now input.instructions.now b pc count →
+    p.position ≤ length input.text.now → (pc count : ℕ) → AreSkipped input.next_bytes.now (instructions_in input) b pc count →
     costs input.index (at (record p { pc = pc - count }) g) ≤ costs input.index (at (record p { pc = pc }) g)
 skipped_cost input is p b outs costs has g le pc zero all =
     let same : pc - zero ≡ pc = omega arith in
     let here = ap (λ k. costs input.index (at (record p { pc = k }) g)) same in
     omega (arith, here)
 skipped_cost input is p b outs costs has g le pc (suc n) all =
-    let last = skipped_by input.next_bytes.now input.instructions.now b (pc - n) (slice_get input.instructions.now (pc - n)) refl (all n (omega arith)) in
+    let last = skipped_by input.next_bytes.now (instructions_in input) b (pc - n) (slice_get (instructions_in input) (pc - n)) refl (all n (omega arith)) in
     let i = insts.Split last.first ((pc - n) - 1) in
     let one = second_cost input is outs costs has g (record p { pc = pc - n }) last.first ((pc - n) - 1)
-    (slice_get_within input.instructions.now (pc - n) i last.is) last.is le in
+    (slice_get_within (instructions_in input) (pc - n) i last.is) last.is le in
     let more = skipped_cost input is p b outs costs has g le pc n (λ j lt. all j (omega (arith, lt))) in
     let number : pc - suc n ≡ (pc - n) - 1 = omega arith in
     let here = ap (λ k. costs input.index (at (record p { pc = k }) g)) number in

@@ -23,7 +23,7 @@ use Rattle.regress_backtrack.specs.declared.step.Next.{Next}
 use Rattle.regress_backtrack.specs.declared.step.Next.TheVariants as nexts
 use Rattle.regress_backtrack.specs.Machine.{at, groups_of, points}
 use Rattle.regress_code.specs.Code.{code_routines}
-use Rattle.regress_backtrack.specs.Next.{CanStep, is_look, Inside, ahead, Leads}
+use Rattle.regress_backtrack.specs.Next.{CanStep, is_look, Inside, ahead, Leads, instructions_in}
 
 -- what the code says of a part that ends at a position
 abbrev pub Reaches : (next : ℕ) → Place → Next → Option ℕ → Type 0
@@ -58,7 +58,7 @@ module _ (input : Input) (m m' : Machine) where
 
   pub part_inside : (setting : Setting) (d : Direction) (t : Tree) (next : ℕ) (p : Place) (to : Option ℕ) (n : Next) →
       steps setting input.text.now d t (state m.captures.items p.position) ≡ put (state m.captures.items p.position) to → Reaches next p n to →
-      points m' ≡ points m → next < length input.instructions.now → p.position ≤ length input.text.now → Remains n
+      points m' ≡ points m → next < length (instructions_in input) → p.position ≤ length input.text.now → Remains n
   part_inside setting d t next p None n ends is same lt le = back_inside n is same
   part_inside setting d t next p (Some q) n ends is same lt le =
       let s = state m.captures.items p.position in
@@ -74,27 +74,27 @@ module _ (input : Input) (m : Machine) (o : Option Test) (next : ℕ) (p : Place
       steps setting input.text.now d (tree t.node) (state m.captures.items p.position) ≡ put (state m.captures.items p.position) to → Reaches next p n to →
       Remains input m m n
   leaf_inside t to setting d some can ends is =
-      let fits = subst (λ x. Fits (take input.index (code_routines input.code.now)) (length input.instructions.now) p.pc (part_of x next)) some can.fits in
-      let lt : next < length input.instructions.now = omega (arith, fits.1, can.pc) in
+      let fits = subst (λ x. Fits (take input.index (code_routines input.code.now)) (length (instructions_in input)) p.pc (part_of x next)) some can.fits in
+      let lt : next < length (instructions_in input) = omega (arith, fits.1, can.pc) in
       part_inside input m m setting d (tree t.node) next p to n ends is refl lt can.position
 
   pub characters_inside : (t : Test) (count : ℕ) (to : Option ℕ) (setting : Setting) (d : Direction) → o ≡ Some t → CanStep input (characters_of o count next) p →
       steps setting input.text.now d (exactly count (tree t.node)) (state m.captures.items p.position) ≡ put (state m.captures.items p.position) to →
       Reaches next p n to → Remains input m m n
   characters_inside t count to setting d some can ends is =
-      let fits = subst (λ x. Fits (take input.index (code_routines input.code.now)) (length input.instructions.now) p.pc (characters_of x count next)) some can.fits in
-      let lt : next < length input.instructions.now = omega (arith, fits.1, can.pc) in
+      let fits = subst (λ x. Fits (take input.index (code_routines input.code.now)) (length (instructions_in input)) p.pc (characters_of x count next)) some can.fits in
+      let lt : next < length (instructions_in input) = omega (arith, fits.1, can.pc) in
       part_inside input m m setting d (exactly count (tree t.node)) next p to n ends is refl lt can.position
 
 -- ---- instructions name leaves of the program
 
 module _ (input : Input) (o : Option Test) (next : ℕ) (p : Place) (none : o ≡ None) where
   pub leaf_named : CanStep input (part_of o next) p → ⊥
-  leaf_named can = leaf-named (take input.index (code_routines input.code.now)) (length input.instructions.now) p.pc o next none can.fits
+  leaf_named can = leaf-named (take input.index (code_routines input.code.now)) (length (instructions_in input)) p.pc o next none can.fits
 
   pub characters_named : (count : ℕ) → CanStep input (characters_of o count next) p → ⊥
   characters_named count can =
-      characters-named (take input.index (code_routines input.code.now)) (length input.instructions.now) p.pc o next none count can.fits
+      characters-named (take input.index (code_routines input.code.now)) (length (instructions_in input)) p.pc o next none count can.fits
 
 pub not_look : (tests : List Test) (i : Instruction) → ((negate : Bool) (routine next : ℕ) → i ≡ insts.Look negate routine next → ⊥) →
     is_look (op_in tests i) ≡ false

@@ -21,7 +21,7 @@ use Rattle.regress_backtrack.specs.declared.machine.Place.{Place}
 use Rattle.regress_leaves.specs.declared.start.Start.TheVariants as starts
 use Rattle.regress_code.specs.Code.{code_routines}
 use Rattle.regress_backtrack.specs.Machine.{Groups, Ranged, at, groups_of, points, range_points}
-use Rattle.regress_backtrack.specs.Next.{Inside, IsInput, Solve}
+use Rattle.regress_backtrack.specs.Next.{Inside, IsInput, Solve, instructions_in}
 use Rattle.regress_leaves.specs.Starts.{AreIn, IsStart}
 use Rattle.regress_backtrack.specs.Sweep.{IsAsciiLeaf, IsSwept}
 use Rattle.regress_program.specs.Views.{part_of}
@@ -59,7 +59,7 @@ ends_moved false k = grind arith
 module _ (input : Input) (is : IsInput input) (outs : ℕ → Out) (solve : Solve input outs) (g : Groups) where
   -- a character that a leaf matches, at an instruction that matches it
   pub character : (leaf : ℕ) (set : ByteBitmap) → (ascii : IsAsciiLeaf input leaf set) → input.rules.backwards ≡ false → (pc next : ℕ) (moved : Bool) →
-      pc < length input.instructions.now → slice_get input.instructions.now pc ≡ Some (insts.Leaf leaf next) →
+      pc < length (instructions_in input) → slice_get (instructions_in input) pc ≡ Some (insts.Leaf leaf next) →
       (k : ℕ) → k < length input.text.now → slice_index input.text.now k < 128 → contains set (slice_index input.text.now k) ≡ true →
       outs input.index (at (record { pc = pc; moved = moved; position = k }) g)
       ≡ outs input.index (at (record { pc = next; moved = true; position = k + 1 }) g)
@@ -80,7 +80,7 @@ module _ (input : Input) (is : IsInput input) (outs : ℕ → Out) (solve : Solv
       ∙ ap (λ b. out (at (record { pc = next; moved = b; position = k + 1 }) g)) (ends_moved moved k)
 
 module _ (input : Input) (is : IsInput input) (looping : Looping) (set : ByteBitmap) (repeat_pc : ℕ) (swept : IsSwept input looping set repeat_pc)
-    (body_in : looping.body < length input.instructions.now) (outs : ℕ → Out) (solve : Solve input outs) (g : Groups) where
+    (body_in : looping.body < length (instructions_in input)) (outs : ℕ → Out) (solve : Solve input outs) (g : Groups) where
   -- an iteration
   pub iteration : (k : ℕ) → k < length input.text.now → slice_index input.text.now k < 128 → contains set (slice_index input.text.now k) ≡ true →
       outs input.index (at (record { pc = looping.body; moved = false; position = k }) g)
@@ -155,15 +155,15 @@ swept_leads out m m' first to more states ranged is =
     ∙ ap (λ xs. out (at to (groups_of m)) ++ xs) (sym (flat_map-append out (range_points first more (groups_of m)) (points m)))
     ∙ ap₂ (λ g ps. out (at to g) ++ flat_map out ps) (sym ranged.groups) (sym ranged.points)
 
-range_inside : (input : Input) (g : Groups) (p : Place) (more : ℕ) → p.pc < length input.instructions.now → p.position + more ≤ length input.text.now →
+range_inside : (input : Input) (g : Groups) (p : Place) (more : ℕ) → p.pc < length (instructions_in input) → p.position + more ≤ length input.text.now →
     All (Inside input) (range_points p more g)
 range_inside input g p zero lt le = All-cons (Inside input) (at p g) [] (record { pc = lt; position = omega (arith, le) }) (All-nil (Inside input))
 range_inside input g p (suc more) lt le =
     All-cons (Inside input) (at (record { pc = p.pc; moved = true; position = p.position + suc more }) g) (range_points p more g)
     (record { pc = lt; position = le }) (range_inside input g p more lt (omega (arith, le)))
 
-pub swept_inside : (input : Input) (m m' : Machine) (first to : Place) (more : ℕ) → Ranged first more m m' → first.pc < length input.instructions.now →
-    first.position + more ≤ length input.text.now → to.pc < length input.instructions.now → to.position ≤ length input.text.now →
+pub swept_inside : (input : Input) (m m' : Machine) (first to : Place) (more : ℕ) → Ranged first more m m' → first.pc < length (instructions_in input) →
+    first.position + more ≤ length input.text.now → to.pc < length (instructions_in input) → to.position ≤ length input.text.now →
     All (Inside input) (points m) → All (Inside input) (at to (groups_of m') ∷ points m')
 swept_inside input m m' first to more ranged lt le lt' le' all =
     All-cons (Inside input) (at to (groups_of m')) (points m') (record { pc = lt'; position = le' })

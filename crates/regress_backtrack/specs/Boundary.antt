@@ -6,14 +6,15 @@ use Rattle.regress_leaves.specs.declared.test.Test.{Test}
 use Rattle.regress_program.specs.declared.instruction.Instruction.TheVariants as insts
 use Rattle.regress_tree.specs.Tree.{leaf as leaf_of, tree, word_boundary}
 use Rattle.regress_backtrack.specs.declared.input.Input.{Input}
+use Rattle.regress_backtrack.specs.Next.{instructions_in}
 
 -- The first instruction matches a `\b`, for which word characters are those of ASCII.
 pub record BeginsAtBoundary (input : Input) : Type 0 where
   pub leaf : ℕ
   pub next : ℕ
   pub test : Test
-  pub first_in : input.first < length input.instructions.now
-  pub first : slice_get input.instructions.now input.first ≡ Some (insts.Leaf leaf next)
+  pub first_in : input.first < length (instructions_in input)
+  pub first : slice_get (instructions_in input) input.first ≡ Some (insts.Leaf leaf next)
   pub is_test : slice_get input.code.now.program.leaves.items leaf ≡ Some test
   pub boundary : tree test.node ≡ leaf_of (word_boundary false false)
 

@@ -3,6 +3,7 @@ use Rattle.std.specs.Prelude.{◌≡◌, ℕ, ◌≤◌, ◌<◌, Bool, true, fa
 use Rattle.regress_tree.specs.Reading.{direction_if}
 use Rattle.regress_tree.specs.Steps.{MatchState}
 use Rattle.regress_found.specs.Found.{state}
+use Rattle.regress_program.specs.Listed.{listed}
 use Rattle.regress_program.specs.Program.{At, IsSolution, Op, look, Out, Routine}
 use Rattle.regress_program.specs.Shape.{Fits}
 use Rattle.regress_leaves.specs.Subject.{subject}
@@ -10,6 +11,7 @@ use Rattle.regress_code.specs.Code.{code_routines}
 use Rattle.regress_code.specs.NextBytes.{AreNextBytes}
 use Rattle.regress_code.specs.Skips.{AreSkips}
 use Rattle.regress_program.specs.Views.{ops_in}
+use Rattle.regress_program.specs.declared.instruction.Instruction.{Instruction}
 use Rattle.regress_backtrack.specs.declared.input.Input.{Input}
 use Rattle.regress_backtrack.specs.declared.machine.Machine.{Machine}
 use Rattle.regress_backtrack.specs.declared.machine.Place.{Place}
@@ -35,25 +37,29 @@ Solve input outs = IsSolution (subject input.rules input.text.now).setting input
 abbrev pub Fails : Input → Place → Type 0
 Fails input p = (outs : ℕ → Out) (g : Groups) → Solve input outs → outs input.index (at p g) ≡ []
 
+-- the instructions of the routine
+abbrev pub instructions_in : Input → List Instruction
+instructions_in input = listed input.routine.now
+
 -- inside the routine and the text
 abbrev pub Inside : Input → At → Type 0
-Inside input = Within (length input.instructions.now) (length input.text.now)
+Inside input = Within (length (instructions_in input)) (length input.text.now)
 
 -- The input is for the routine with its index.
 pub record IsInput (input : Input) : Type 0 where
   pub routine : Routine
   pub is : slice_get (code_routines input.code.now) input.index ≡ Some routine
-  pub ops : ops_in input.code.now.program.leaves.items input.instructions.now ≡ routine.ops
+  pub ops : ops_in input.code.now.program.leaves.items (instructions_in input) ≡ routine.ops
   pub direction : direction_if input.rules.backwards ≡ routine.direction
   pub first : input.first ≡ routine.entry
   pub next_bytes : (outs : ℕ → Out) → Solve input outs → AreNextBytes input.next_bytes.now routine.direction input.text.now (outs input.index)
-  pub skips : AreSkips input.skips.now input.next_bytes.now input.instructions.now
+  pub skips : AreSkips input.skips.now input.next_bytes.now (instructions_in input)
 
 -- A run is at this instruction.
 pub record CanStep (input : Input) (op : Op) (p : Place) : Type 0 where
-  pub pc : p.pc < length input.instructions.now
+  pub pc : p.pc < length (instructions_in input)
   pub position : p.position ≤ length input.text.now
-  pub fits : Fits (take input.index (code_routines input.code.now)) (length input.instructions.now) p.pc op
+  pub fits : Fits (take input.index (code_routines input.code.now)) (length (instructions_in input)) p.pc op
 
 -- the points from which a run goes on, the first one first
 abbrev pub ahead : Machine → Next → List At

@@ -6,14 +6,15 @@ use Rattle.regress_backtrack.specs.declared.input.Input.{Input}
 use Rattle.regress_program.specs.declared.instruction.Instruction.TheVariants as insts
 use Rattle.regress_leaves.specs.declared.start.Start.TheVariants as starts
 use Rattle.regress_leaves.specs.declared.test.Test.{Test}
+use Rattle.regress_backtrack.specs.Next.{instructions_in}
 
 -- The body of the greedy loop is a leaf that matches one character, forwards, and goes on at the end of an iteration.
 pub record IsSwept (input : Input) (looping : Looping) (set : ByteBitmap) (repeat_pc : ℕ) : Type 0 where
   pub leaf : ℕ
   pub test : Test
-  pub body : slice_get input.instructions.now looping.body ≡ Some (insts.Leaf leaf repeat_pc)
-  pub repeat_in : repeat_pc < length input.instructions.now
-  pub repeats : slice_get input.instructions.now repeat_pc ≡ Some (insts.Repeat true looping.body looping.next)
+  pub body : slice_get (instructions_in input) looping.body ≡ Some (insts.Leaf leaf repeat_pc)
+  pub repeat_in : repeat_pc < length (instructions_in input)
+  pub repeats : slice_get (instructions_in input) repeat_pc ≡ Some (insts.Repeat true looping.body looping.next)
   pub is_test : slice_get input.code.now.program.leaves.items leaf ≡ Some test
   pub starts : test.start ≡ starts.Ascii set
   pub forwards : input.rules.backwards ≡ false

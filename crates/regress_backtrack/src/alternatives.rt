@@ -6,7 +6,7 @@ ghost use Rattle.regress_backtrack.specs.Costs.{HasCost, cost_ahead, points_cost
 ghost use Rattle.regress_backtrack.specs.Machine.{Groups, at, groups_of, points, rewound};
 ghost use Rattle.regress_found.specs.declared.fault.MemoryFault.TheVariants.{TooMuchMemory};
 ghost use Rattle.regress_backtrack.specs.Memory.{AreWithin, entry_count};
-ghost use Rattle.regress_backtrack.specs.Next.{Fails, Inside, IsInput, Leads, Solve, ahead};
+ghost use Rattle.regress_backtrack.specs.Next.{Fails, Inside, IsInput, Leads, Solve, ahead, instructions_in};
 ghost use Rattle.regress_code.specs.Skips.{AreSkipped, IsBeside};
 ghost use Rattle.regress_tree.specs.Reading.{direction_if};
 ghost use Rattle.regress_backtrack.specs.declared.step.Next.TheVariants.{OutOfSteps};
@@ -89,8 +89,8 @@ pub fn iterate(
     remaining: &mut u64,
 ) -> Result<Next, MemoryFault>
     requires input { IsInput input.now }
-    requires body { looping.body < length input.now.instructions.now }
-    requires next { looping.next < length input.now.instructions.now }
+    requires body { looping.body < length (instructions_in input.now) }
+    requires next { looping.next < length (instructions_in input.now) }
     requires position { here.position ≤ length input.now.text.now }
     ensures leads { IfOk result (λ to. (outs : ℕ → Out) → Solve input.now outs → (let out = outs input.now.index in
         let again : Place = record { pc = looping.body; moved = false; position = here.position } in
@@ -156,9 +156,9 @@ fn on(input: &Input<'_, '_>, place: Place) -> Next
 #[inline(always)]
 pub fn skip(input: &Input<'_, '_>, place: Place) -> Place
     requires input { IsInput input.now }
-    requires pc { place.pc < length input.now.instructions.now }
+    requires pc { place.pc < length (instructions_in input.now) }
     requires position { place.position ≤ length input.now.text.now }
-    ensures pc { result.pc < length input.now.instructions.now }
+    ensures pc { result.pc < length (instructions_in input.now) }
     ensures position { result.position ≡ place.position }
     ensures same { (outs : ℕ → Out) (g : Groups) → Solve input.now outs → outs input.now.index (at result g) ≡ outs input.now.index (at place g) }
     ensures costs { (outs : ℕ → Out) (costs : ℕ → Cost) (g : Groups) → HasCost input.now outs costs →
@@ -179,7 +179,7 @@ pub fn skip(input: &Input<'_, '_>, place: Place) -> Place
 #[inline(always)]
 fn other_alternative(input: &Input<'_, '_>, place: Place) -> Option<usize>
     requires input { IsInput input.now }
-    requires pc { place.pc < length input.now.instructions.now }
+    requires pc { place.pc < length (instructions_in input.now) }
     requires position { place.position ≤ length input.now.text.now }
     ensures earlier { IfSome result (λ other. other < place.pc) }
     ensures same { IfSome result (λ other. (outs : ℕ → Out) (g : Groups) → Solve input.now outs →
@@ -204,7 +204,7 @@ fn other_alternative(input: &Input<'_, '_>, place: Place) -> Option<usize>
 fn skipped_at(input: &Input<'_, '_>, place: Place) -> Option<usize>
     requires input { IsInput input.now }
     ensures skipped { IfSome result (λ count. (b : ℕ) × IsBeside (direction_if input.now.rules.backwards) input.now.text.now place.position b
-        × AreSkipped input.now.next_bytes.now input.now.instructions.now b place.pc count) }
+        × AreSkipped input.now.next_bytes.now (instructions_in input.now) b place.pc count) }
     ensures within { IfSome result (λ count. count ≤ place.pc) }
 {
     let counts = counts_at(input, place.pc);
@@ -235,7 +235,7 @@ fn byte_beside(text: &str, backwards: bool, position: usize) -> Option<u8>
 #[inline(always)]
 fn next_alternative(input: &Input<'_, '_>, place: Place) -> Option<usize>
     requires input { IsInput input.now }
-    requires pc { place.pc < length input.now.instructions.now }
+    requires pc { place.pc < length (instructions_in input.now) }
     requires position { place.position ≤ length input.now.text.now }
     ensures earlier { IfSome result (λ second. second < place.pc) }
     ensures same { IfSome result (λ second. (outs : ℕ → Out) (g : Groups) → Solve input.now outs →

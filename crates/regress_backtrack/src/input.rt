@@ -4,7 +4,7 @@ ghost use Rattle.regress_leaves.specs.Subject.{subject};
 ghost use Rattle.regress_unicode.specs.TableOf.{table_of};
 ghost use Rattle.regress_code.specs.Code.{code_routines};
 ghost use Rattle.regress_code.specs.NextBytes.{FoldsIf};
-ghost use Rattle.regress_backtrack.specs.Next.{IsInput};
+ghost use Rattle.regress_backtrack.specs.Next.{IsInput, instructions_in};
 ghost use Rattle.regress_code.specs.Skips.{AreCounts};
 
 use regress_code::Code;
@@ -13,7 +13,7 @@ use regress_code::next_bytes::NextBytes;
 use regress_code::skips::Skip;
 use regress_leaves::rules::MatchContext;
 use regress_leaves::test::Test;
-use regress_program::instruction::Instruction;
+use regress_program::instruction::{Instruction, Routine};
 
 /// The text, the program, and the routine that is run.
 #[derive(Clone, Copy)]
@@ -26,11 +26,11 @@ pub struct Input<'c, 'x> {
     pub code: &'c Code,
     /// The index of the routine.
     pub index: usize,
-    /// The instructions of the routine.
-    pub instructions: &'c [Instruction],
-    /// The next bytes of the instructions.
+    /// The routine.
+    pub routine: &'c Routine,
+    /// The next bytes of the first instructions.
     pub next_bytes: &'c [NextBytes],
-    /// The skips of the instructions.
+    /// The skips of the first instructions.
     pub skips: &'c [Skip],
     /// The index of the instruction at which a match starts.
     pub first: usize,
@@ -66,7 +66,7 @@ pub fn input_for<'c, 'x>(
         },
         code,
         index,
-        instructions: &routine.instructions,
+        routine,
         next_bytes: &[],
         skips: &[],
         first: routine.entry,
@@ -109,18 +109,18 @@ fn uses_next_bytes(code: &Code, rules: MatchContext<'_>) -> bool
 /// There is an instruction with this index.
 #[inline(always)]
 pub fn instruction_at(input: &Input<'_, '_>, pc: usize) -> Instruction
-    requires { pc < length input.now.instructions.now }
-    ensures { slice_get input.now.instructions.now pc ≡ Some result }
+    requires { pc < length (instructions_in input.now) }
+    ensures { slice_get (instructions_in input.now) pc ≡ Some result }
 {
-    input.instructions[pc]
+    input.routine.at(pc)
 }
 
 /// Returns an instruction of the routine, or `None` if it has none with this index.
 pub(crate) fn instruction_in(input: &Input<'_, '_>, pc: usize) -> Option<Instruction>
-    ensures { IfSome result (λ instruction. (pc < length input.now.instructions.now)
-        × (slice_get input.now.instructions.now pc ≡ Some instruction)) }
+    ensures { IfSome result (λ instruction. (pc < length (instructions_in input.now))
+        × (slice_get (instructions_in input.now) pc ≡ Some instruction)) }
 {
-    if pc < input.instructions.len() {
+    if pc < input.routine.len() {
         Some(instruction_at(input, pc))
     } else {
         None
@@ -161,7 +161,7 @@ pub fn next_bytes_at<'c>(input: &Input<'c, '_>, pc: usize) -> Option<&'c NextByt
 #[inline(always)]
 pub fn counts_at<'c>(input: &Input<'c, '_>, pc: usize) -> &'c [u8]
     requires { IsInput input.now }
-    ensures { AreCounts input.now.next_bytes.now input.now.instructions.now pc result.now }
+    ensures { AreCounts input.now.next_bytes.now (instructions_in input.now) pc result.now }
 {
     if pc < input.skips.len() {
         &input.skips[pc].counts

@@ -53,7 +53,7 @@ fn loop_at<'c>(input: &Input<'c, '_>, pc: usize) -> Option<&'c ByteBitmap>
     let Instruction::BeginLoop { greedy, body, next } = instruction_in(input, pc)? else {
         return None;
     };
-    if !greedy || body >= input.instructions.len() {
+    if !greedy || body >= input.routine.len() {
         return None;
     }
     let swept = sole_leaf(input, Looping { greedy, body, next })?;

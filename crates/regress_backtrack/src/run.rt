@@ -10,7 +10,7 @@ ghost use Rattle.regress_backtrack.specs.Costs.{HasCost, cost_ahead, op_cost, po
 ghost use Rattle.regress_found.specs.declared.fault.MemoryFault.TheVariants.{TooMuchMemory};
 ghost use Rattle.regress_backtrack.specs.Memory.{AreWithin, entry_count};
 ghost use Rattle.regress_backtrack.specs.Machine.{at, groups_of, points, rewound};
-ghost use Rattle.regress_backtrack.specs.Next.{Inside, IsInput, Leads, Solve, ahead};
+ghost use Rattle.regress_backtrack.specs.Next.{Inside, IsInput, Leads, Solve, ahead, instructions_in};
 ghost use Rattle.regress_backtrack.specs.Run.{IsResponseOf, IsAfter};
 ghost use Rattle.regress_backtrack.specs.declared.run.Response.TheVariants.{NoMatch, OutOfSteps};
 ghost use Rattle.regress_backtrack.specs.declared.step.Next.TheVariants as nexts;
@@ -231,7 +231,7 @@ fn look(
         Leads (outcomes_by u.setting u.bytes u.direction (matcher_of u.setting u.bytes program outs) out
         (look looking.negate looking.routine looking.next) (at here (groups_of machine.old)) ++ flat_map out (points machine.old))
         out machine.new next)) }
-    ensures inside { IfOk result (λ next. looking.next < length input.now.instructions.now →
+    ensures inside { IfOk result (λ next. looking.next < length (instructions_in input.now) →
         All (Inside input.now) (points machine.old) → All (Inside input.now) (ahead machine.new next)) }
     ensures rewound { IfOk result (λ _. rewound machine.new ≡ rewound machine.old) }
     ensures remaining { IfOk result (λ _. remaining.new ≤ remaining.old) }

@@ -6,7 +6,7 @@ ghost use Rattle.regress_backtrack.specs.Costs.{HasCost, points_cost};
 ghost use Rattle.regress_backtrack.specs.Machine.{Groups, at, groups_of, points, rewound};
 ghost use Rattle.regress_found.specs.declared.fault.MemoryFault.TheVariants.{TooMuchMemory};
 ghost use Rattle.regress_backtrack.specs.Memory.{AreWithin, entry_count};
-ghost use Rattle.regress_backtrack.specs.Next.{Fails, Inside, IsInput, Solve};
+ghost use Rattle.regress_backtrack.specs.Next.{Fails, Inside, IsInput, Solve, instructions_in};
 ghost use Rattle.regress_backtrack.specs.Sweep.{IsSwept};
 
 use crate::alternatives::{Looping, fails, skip};
@@ -48,8 +48,8 @@ pub fn sweep(
     remaining: &mut u64,
 ) -> Result<Option<Place>, MemoryFault>
     requires input { IsInput input.now }
-    requires body { looping.body < length input.now.instructions.now }
-    requires next { looping.next < length input.now.instructions.now }
+    requires body { looping.body < length (instructions_in input.now) }
+    requires next { looping.next < length (instructions_in input.now) }
     requires position { here.position ≤ length input.now.text.now }
     requires greedy { looping.greedy ≡ true }
     ensures leads { IfOk result (λ found. MatchOption found (machine.new ≡ machine.old)
@@ -162,12 +162,12 @@ fn fails_after(input: &Input<'_, '_>, first: Place, more: usize) -> bool
 fn leave(input: &Input<'_, '_>, swept: Swept<'_>, looping: Looping, to: Place) -> Place
     requires input { IsInput input.now }
     requires swept { IsSwept input.now looping swept.set.now swept.repeat_pc }
-    requires body { looping.body < length input.now.instructions.now }
-    requires next { looping.next < length input.now.instructions.now }
+    requires body { looping.body < length (instructions_in input.now) }
+    requires next { looping.next < length (instructions_in input.now) }
     requires pc { to.pc ≡ swept.repeat_pc }
     requires moved { to.moved ≡ true }
     requires position { to.position ≤ length input.now.text.now }
-    ensures pc { result.pc < length input.now.instructions.now }
+    ensures pc { result.pc < length (instructions_in input.now) }
     ensures position { result.position ≡ to.position }
     ensures same { (outs : ℕ → Out) (g : Groups) → Solve input.now outs → outs input.now.index (at result g) ≡ outs input.now.index (at to g) }
     ensures costs { (outs : ℕ → Out) (costs : ℕ → Cost) (g : Groups) → HasCost input.now outs costs →
@@ -192,7 +192,7 @@ fn leave(input: &Input<'_, '_>, swept: Swept<'_>, looping: Looping, to: Place) -
 /// Returns the leaf of a loop and the end of an iteration, if the body is a leaf that matches one character forwards.
 #[inline(always)]
 pub(crate) fn sole_leaf<'c>(input: &Input<'c, '_>, looping: Looping) -> Option<Swept<'c>>
-    requires { looping.body < length input.now.instructions.now }
+    requires { looping.body < length (instructions_in input.now) }
     ensures { IfSome result (λ s. IsSwept input.now looping s.set.now s.repeat_pc) }
 {
     if input.rules.backwards {
@@ -205,7 +205,7 @@ pub(crate) fn sole_leaf<'c>(input: &Input<'c, '_>, looping: Looping) -> Option<S
     else {
         return None;
     };
-    if repeat_pc >= input.instructions.len() {
+    if repeat_pc >= input.routine.len() {
         return None;
     }
     let Instruction::Repeat { greedy, body, next } = instruction_at(input, repeat_pc) else {

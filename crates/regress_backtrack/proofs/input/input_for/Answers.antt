@@ -6,7 +6,8 @@ use Rattle.regress_tree.specs.Steps.{Setting}
 use Rattle.regress_unicode.specs.TableOf.{table_of}
 use Rattle.regress_code.specs.NextBytes.{AreNextBytes}
 use Rattle.regress_code.specs.Skips.{AreSkips}
-use Rattle.regress_program.specs.Views.{ops_in, routine_in}
+use Rattle.regress_program.specs.Listed.{listed}
+use Rattle.regress_program.specs.Views.{routine_in}
 use Rattle.regress_backtrack.proofs.input.input_for.Goals as goal
 
 pub index-routine-requires : goal.index-routine-requires
@@ -29,15 +30,14 @@ returns-in-Some-clause-input c =
     record {
       routine = routine_in leaves r;
       is = in_program;
-      ops = ap (ops_in leaves) c.deref.ensures.value;
+      ops = refl;
       direction = refl;
       first = refl;
       next_bytes = λ outs solve.
-          subst (λ fs. AreNextBytes fs (direction_if r.backwards) c.args.text.now (outs i)) (sym c.deref-in-Some.ensures.value)
+          subst (λ fs. AreNextBytes fs (direction_if r.backwards) c.args.text.now (outs i)) (sym c.deref.ensures.value)
           (code.bounded setting c.in-Some.ensures.folds c.args.text.now outs solve i a known (routine_in leaves r) in_program);
-      skips = subst (λ ps. AreSkips ps c.deref-in-Some.result.now c.deref.result.now) (sym c.deref-in-Some-2.ensures.value)
-          (subst (λ fs. AreSkips a.skips.items fs c.deref.result.now) (sym c.deref-in-Some.ensures.value)
-          (subst (AreSkips a.skips.items a.next_bytes.items) (sym c.deref.ensures.value) (code.counted i a known r here)));
+      skips = subst (λ ps. AreSkips ps c.deref.result.now (listed r)) (sym c.deref-in-Some.ensures.value)
+          (subst (λ fs. AreSkips a.skips.items fs (listed r)) (sym c.deref.ensures.value) (code.counted i a known r here));
     }
 
 pub returns-in-None-clause-input : goal.returns-in-None-clause-input
@@ -52,7 +52,7 @@ returns-in-None-clause-input c =
     record {
       routine = routine_in leaves r;
       is = slice_get-map (routine_in leaves) routines i ∙ ap (option_map (routine_in leaves)) here;
-      ops = ap (ops_in leaves) c.deref.ensures.value;
+      ops = refl;
       direction = refl;
       first = refl;
       next_bytes = λ outs solve pc next_byte is. let bad : ⊥ = cc in absurd bad;

@@ -9,7 +9,7 @@ returns-in-Ascii c =
       leaf = c.in-Leaf.leaf;
       test = c.in_ok-set.field-0.now;
       body = c.instruction_at.ensures ∙ ap Some c.in-Leaf.is;
-      repeat_in = omega (arith, c.if-repeat_pc-input.false);
+      repeat_in = omega (arith, c.if-repeat_pc-len.false, c.len.ensures);
       repeats = c.instruction_at-2.ensures ∙ ap Some c.in-Repeat.is
           ∙ turn_is c.in-Repeat.greedy c.in-Repeat.body c.args.looping.body c.in-Repeat.next c.args.looping.next greedy (omega (arith, c.if-body-looping.false))
           (omega (arith, c.if-next-looping.false));
