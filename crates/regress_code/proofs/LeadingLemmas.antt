@@ -12,6 +12,7 @@ use Rattle.regress_code.specs.declared.next_bytes.Body.{Body}
 use Rattle.regress_code.specs.declared.next_bytes.NextBytes.{NextBytes}
 use Rattle.regress_code.specs.declared.skips.Skip.{Skip}
 use Rattle.regress_code.specs.NextBytes.{AreNextBytesOf}
+use Rattle.regress_code.specs.Possessive.{ArePossessive}
 use Rattle.regress_code.specs.Skips.{AreSkips, is_skipped}
 
 module _ (first all : List Instruction) (begins : Begins first all) where
@@ -39,3 +40,27 @@ module _ (first all : List Instruction) (begins : Begins first all) where
       let skipped = are pc p is b n counted j lt in
       subst (λ o. is_skipped next_bytes b (pc - j) o ≡ true)
       (sym (begins.same (pc - j) (is_first next_bytes b (pc - j) (slice_get first (pc - j)) refl skipped))) skipped
+
+  -- the loops that are possessive
+  pub all_possessive : (possessive : List Bool) (next_bytes : List NextBytes) (leaves : List Test) →
+      ArePossessive possessive next_bytes leaves first → ArePossessive possessive next_bytes leaves all
+  all_possessive possessive next_bytes leaves are = λ pc here.
+      let is = are pc here in
+      let same : slice_get first pc ≡ slice_get all pc = sym (begins.same pc is.inside) in
+      record {
+        inside = omega (arith, is.inside, begins.within);
+        body = λ body next ends. omega (arith, is.body body next (same ∙ ends), begins.within);
+        excludes = λ next set loop.
+            let ends = same ∙ loop.is in
+            is.excludes next set (record {
+              body = loop.body;
+              is = ends;
+              character = record {
+                leaf = loop.character.leaf;
+                test = loop.character.test;
+                is = sym (begins.same loop.body (is.body loop.body next ends)) ∙ loop.character.is;
+                is_test = loop.character.is_test;
+                starts = loop.character.starts;
+              };
+            });
+      }

@@ -6,9 +6,11 @@ ghost use Rattle.regress_program.specs.Search.{routines_of};
 ghost use Rattle.regress_program.specs.Views.{ops_in};
 ghost use Rattle.regress_tree.specs.Reading.{Direction, direction_if};
 ghost use Rattle.regress_code.specs.NextBytes.{AreNextBytes, AreNextBytesAt, AreNextBytesOf, HaveNextBytes};
+ghost use Rattle.regress_code.specs.Possessive.{ArePossessive, HavePossessive};
 ghost use Rattle.regress_code.specs.Skips.{AreSkips, HaveSkips};
 
 use crate::next_bytes::{Body, NextBytes, next_bytes_at, next_bytes_of};
+use crate::possessive::possessive_of;
 use crate::skips::{Skip, skips_of};
 use regress_leaves::test::Test;
 use regress_program::Program;
@@ -22,6 +24,9 @@ pub struct Analysis {
     pub next_bytes: Vec<NextBytes>,
     /// The skips of the first instructions.
     pub skips: Vec<Skip>,
+    /// For each instruction whether it ends an iteration of a loop that matches one character, which is not among the next
+    /// bytes of what follows.
+    pub possessive: Vec<bool>,
 }
 
 /// Returns the analysis of each routine of a program.
@@ -35,6 +40,7 @@ pub(crate) fn analyze(
 ) -> Result<Vec<Analysis>, AllocError>
     ensures next_bytes { IfOk result (λ analyses. HaveNextBytes folds (routines_of program.now) analyses.items) }
     ensures skips { IfOk result (λ analyses. HaveSkips program.now.routines.items analyses.items) }
+    ensures possessive { IfOk result (λ analyses. HavePossessive program.now.leaves.items program.now.routines.items analyses.items) }
 {
     let mut analyses = Vec::with_capacity(alloc, program.routines.len())?;
     let mut bodies = Vec::with_capacity(alloc, program.routines.len())?;
@@ -71,6 +77,7 @@ fn analyze_routine(
 ) -> Result<Analysis, AllocError>
     ensures next_bytes { IfOk result (λ a. AreNextBytesOf folds bodies.now a.next_bytes.items (direction_if routine.now.backwards) (ops_in leaves.now (listed routine.now))) }
     ensures skips { IfOk result (λ a. AreSkips a.skips.items a.next_bytes.items (listed routine.now)) }
+    ensures possessive { IfOk result (λ a. ArePossessive a.possessive.items a.next_bytes.items leaves.now (listed routine.now)) }
 {
     let instructions = routine.leading();
     let next_bytes = next_bytes_of(
@@ -82,5 +89,10 @@ fn analyze_routine(
         folds,
     )?;
     let skips = skips_of(alloc, &next_bytes, instructions)?;
-    Ok(Analysis { next_bytes, skips })
+    let possessive = possessive_of(alloc, &next_bytes, leaves, instructions)?;
+    Ok(Analysis {
+        next_bytes,
+        skips,
+        possessive,
+    })
 }

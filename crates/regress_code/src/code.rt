@@ -10,6 +10,7 @@ ghost use Rattle.regress_program.specs.Tidy.{has_no_back_reference, table_groups
 ghost use Rattle.regress_program.specs.declared.fault.CompileFault.TheVariants.{TooLong};
 ghost use Rattle.regress_code.specs.Candidates.{BeginsAt, BeginsAt-prop};
 ghost use Rattle.regress_code.specs.NextBytes.{HaveNextBytes, HaveNextBytes-prop};
+ghost use Rattle.regress_code.specs.Possessive.{HavePossessive, HavePossessive-prop};
 ghost use Rattle.regress_code.specs.Skips.{HaveSkips, HaveSkips-prop};
 
 use crate::analysis::{Analysis, analyze};
@@ -32,6 +33,7 @@ pub struct Code {
     ghost begins: { BeginsAt candidates (routines_of program) } by { BeginsAt-prop candidates (routines_of program) },
     ghost bounded: { HaveNextBytes folds (routines_of program) analyses.items } by { HaveNextBytes-prop folds (routines_of program) analyses.items },
     ghost counted: { HaveSkips program.routines.items analyses.items } by { HaveSkips-prop program.routines.items analyses.items },
+    ghost excluded: { HavePossessive program.leaves.items program.routines.items analyses.items } by { HavePossessive-prop program.leaves.items program.routines.items analyses.items },
 }
 
 impl Code {

@@ -4,6 +4,7 @@
 pub mod analysis;
 mod code;
 pub mod next_bytes;
+pub mod possessive;
 pub mod skips;
 
 pub use code::Code;

@@ -11,6 +11,7 @@ use Rattle.regress_program.specs.declared.instruction.Routine as declared
 use Rattle.regress_code.specs.declared.analysis.Analysis.{Analysis}
 use Rattle.regress_code.specs.declared.next_bytes.Body.{Body}
 use Rattle.regress_code.specs.NextBytes.{AreNextBytes, AreNextBytesOf, Bounds, HaveNextBytes}
+use Rattle.regress_code.specs.Possessive.{ArePossessive, HavePossessive}
 use Rattle.regress_code.specs.Skips.{AreSkips, HaveSkips}
 use Rattle.regress_code.proofs.ListLemmas.{pushed}
 use Rattle.regress_code.proofs.NextBytesLemmas.{HaveBodies, entry_bounds, routine_bounds}
@@ -67,4 +68,12 @@ loop-routine-preserved c =
           (λ q is.
           subst (λ (x : declared.Routine). AreSkips one.skips.items one.next_bytes.items (listed x)) (same_Some r q (sym here ∙ is))
           c.in_ok-analysis.ensures.skips));
+      possessive =
+          subst (HavePossessive leaves routines) (sym c.in_ok-push-2.ensures.items)
+          (pushed
+          (λ i (a : Analysis). (q : declared.Routine) → slice_get routines i ≡ Some q → ArePossessive a.possessive.items a.next_bytes.items leaves (listed q))
+          known one so_far.possessive
+          (λ q is.
+          subst (λ (x : declared.Routine). ArePossessive one.possessive.items one.next_bytes.items leaves (listed x)) (same_Some r q (sym here ∙ is))
+          (subst (λ xs. ArePossessive one.possessive.items one.next_bytes.items xs (listed r)) c.deref.ensures.value c.in_ok-analysis.ensures.possessive)));
     }

@@ -1,8 +1,9 @@
 use Rattle.std.proofs.Common.{subst}
 use Rattle.regress_tree.specs.Reading.{direction_if}
 use Rattle.regress_program.specs.Listed.{listed}
+use Rattle.regress_code.specs.Possessive.{ArePossessive}
 use Rattle.regress_code.specs.Skips.{AreSkips}
-use Rattle.regress_code.proofs.LeadingLemmas.{all_next_bytes, all_skips}
+use Rattle.regress_code.proofs.LeadingLemmas.{all_next_bytes, all_possessive, all_skips}
 use Rattle.regress_code.proofs.analysis.analyze_routine.Goals as goal
 
 pub returns-clause-next_bytes : goal.returns-clause-next_bytes
@@ -16,3 +17,11 @@ returns-clause-skips c =
     let first = c.leading-instructions.result.now in
     all_skips first (listed c.args.routine.now) c.leading-instructions.ensures c.in_ok-skips.skips.items c.in_ok-next_bytes.next_bytes.items
     (subst (λ next_bytes. AreSkips c.in_ok-skips.skips.items next_bytes first) c.deref.ensures.value c.in_ok-skips.ensures)
+
+pub returns-clause-possessive : goal.returns-clause-possessive
+returns-clause-possessive c =
+    let first = c.leading-instructions.result.now in
+    let possessive = c.in_ok-possessive.possessive.items in
+    let leaves = c.args.leaves.now in
+    all_possessive first (listed c.args.routine.now) c.leading-instructions.ensures possessive c.in_ok-next_bytes.next_bytes.items leaves
+    (subst (λ next_bytes. ArePossessive possessive next_bytes leaves first) c.deref-2.ensures.value c.in_ok-possessive.ensures)
