@@ -3,6 +3,7 @@ pub mod CostLemmas
 pub mod NextBytesLemmas
 pub mod MachineLemmas
 pub mod MemoryLemmas
+pub mod PossessiveLemmas
 pub mod SkipLemmas
 pub mod StepLemmas
 pub mod RunLemmas

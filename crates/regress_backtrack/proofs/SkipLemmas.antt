@@ -46,7 +46,7 @@ not_true false is = refl
 same_number : (a b : ℕ) → (a == b) ≡ true → a ≡ b
 same_number a b is = grind arith
 
-excluded_set : (o : Option NextBytes) (b : ℕ) → is_excluded o b ≡ true → (set : ByteBitmap) × (o ≡ Some (kinds.Bytes set)) × (contains set b ≡ false)
+pub excluded_set : (o : Option NextBytes) (b : ℕ) → is_excluded o b ≡ true → (set : ByteBitmap) × (o ≡ Some (kinds.Bytes set)) × (contains set b ≡ false)
 excluded_set None b is = let bad : ⊥ = cc in absurd bad
 excluded_set (Some kinds.Any) b is = let bad : ⊥ = cc in absurd bad
 excluded_set (Some (kinds.Bytes set)) b is = (set, refl, not_true _ is)
@@ -93,7 +93,7 @@ module _ (input : Input) (is : IsInput input) (p : Place) (b : ℕ)
   abbrev pub outs_from : ℕ → List MatchState
   outs_from pc = outs input.index (at (record p { pc = pc }) g)
 
-  outside : (set : ByteBitmap) → contains set b ≡ false → IsOutside is.routine.direction set input.text.now p.position
+  pub outside : (set : ByteBitmap) → contains set b ≡ false → IsOutside is.routine.direction set input.text.now p.position
   outside set out =
       let same : get_or input.text.now (next_to is.routine.direction p.position) 0 ≡ b =
       ap (λ d. get_or input.text.now (next_to d p.position) 0) (sym is.direction) ∙ beside.is in

@@ -9,6 +9,7 @@ use Rattle.regress_program.specs.Shape.{Fits}
 use Rattle.regress_leaves.specs.Subject.{subject}
 use Rattle.regress_code.specs.Code.{code_routines}
 use Rattle.regress_code.specs.NextBytes.{AreNextBytes}
+use Rattle.regress_code.specs.Possessive.{ArePossessive}
 use Rattle.regress_code.specs.Skips.{AreSkips}
 use Rattle.regress_program.specs.Views.{ops_in}
 use Rattle.regress_program.specs.declared.instruction.Instruction.{Instruction}
@@ -54,6 +55,7 @@ pub record IsInput (input : Input) : Type 0 where
   pub first : input.first ≡ routine.entry
   pub next_bytes : (outs : ℕ → Out) → Solve input outs → AreNextBytes input.next_bytes.now routine.direction input.text.now (outs input.index)
   pub skips : AreSkips input.skips.now input.next_bytes.now (instructions_in input)
+  pub possessive : ArePossessive input.possessive.now input.next_bytes.now input.code.now.program.leaves.items (instructions_in input)
 
 -- A run is at this instruction.
 pub record CanStep (input : Input) (op : Op) (p : Place) : Type 0 where

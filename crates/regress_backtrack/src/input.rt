@@ -5,6 +5,7 @@ ghost use Rattle.regress_unicode.specs.TableOf.{table_of};
 ghost use Rattle.regress_code.specs.Code.{code_routines};
 ghost use Rattle.regress_code.specs.NextBytes.{FoldsIf};
 ghost use Rattle.regress_backtrack.specs.Next.{IsInput, instructions_in};
+ghost use Rattle.regress_code.specs.Possessive.{IsPossessive};
 ghost use Rattle.regress_code.specs.Skips.{AreCounts};
 
 use regress_code::Code;
@@ -32,6 +33,9 @@ pub struct Input<'c, 'x> {
     pub next_bytes: &'c [NextBytes],
     /// The skips of the first instructions.
     pub skips: &'c [Skip],
+    /// For each instruction whether it ends an iteration of a loop that matches one character, which is not among the next
+    /// bytes of what follows.
+    pub possessive: &'c [bool],
     /// The index of the instruction at which a match starts.
     pub first: usize,
     /// The number of entries for which each backtrack stack may have room.
@@ -69,6 +73,7 @@ pub fn input_for<'c, 'x>(
         routine,
         next_bytes: &[],
         skips: &[],
+        possessive: &[],
         first: routine.entry,
         room,
     };
@@ -76,6 +81,7 @@ pub fn input_for<'c, 'x>(
         Some(analysis) => Input {
             next_bytes: &analysis.next_bytes,
             skips: &analysis.skips,
+            possessive: &analysis.possessive,
             ..input
         },
         None => input,
@@ -168,4 +174,17 @@ pub fn counts_at<'c>(input: &Input<'c, '_>, pc: usize) -> &'c [u8]
     } else {
         &[]
     }
+}
+
+/// Returns whether an instruction ends an iteration of a greedy loop that matches one character, and the next bytes of what
+/// follows the loop exclude each ASCII character that it matches.
+///
+/// # Preconditions
+/// The input is one that `input_for` returns.
+#[inline(always)]
+pub(crate) fn is_possessive(input: &Input<'_, '_>, pc: usize) -> bool
+    requires { IsInput input.now }
+    ensures { result ≡ true → IsPossessive input.now.next_bytes.now input.now.code.now.program.leaves.items (instructions_in input.now) pc }
+{
+    pc < input.possessive.len() && input.possessive[pc]
 }

@@ -8,9 +8,10 @@ ghost use Rattle.regress_found.specs.declared.fault.MemoryFault.TheVariants.{Too
 ghost use Rattle.regress_backtrack.specs.Memory.{AreWithin, entry_count};
 ghost use Rattle.regress_backtrack.specs.Next.{Fails, Inside, IsInput, Solve, instructions_in};
 ghost use Rattle.regress_backtrack.specs.Sweep.{IsSwept};
+ghost use Rattle.regress_leaves.specs.Starts.{AreIn};
 
 use crate::alternatives::{Looping, fails, skip};
-use crate::input::{Input, instruction_at, test_at};
+use crate::input::{Input, instruction_at, is_possessive, test_at};
 use crate::machine::{Machine, Place};
 use regress_base::bytesearch::ByteBitmap;
 use regress_found::MemoryFault;
@@ -30,6 +31,9 @@ pub(crate) struct Swept<'c> {
 /// Consumes the ASCII characters at a place at once, if the body of a greedy loop is a leaf that matches one character.
 /// Each is an iteration, and what follows the loop is tried after each of them, the last one first. Returns where the run
 /// goes on after the last iteration, or `None` if there is none, where nothing has changed.
+///
+/// Where the next bytes of what follows exclude the characters of the loop, what follows fails after each iteration but the
+/// last one, and no backtrack point is added. At the start of the text one is, since next bytes say nothing there.
 ///
 /// # Preconditions
 /// The loop is greedy, its body and what follows are inside the routine, and the position is inside the text.
@@ -89,25 +93,43 @@ pub fn sweep(
         position: here.position + count,
     };
     let to = leave(input, swept, looping, end);
-    let more = points_kept(input, to, after, count - 1);
-    machine.choose_range(after, more, input.room)?;
     *remaining = remaining.saturating_sub(count as u64);
+    if here.position > 0 && is_possessive(input, swept.repeat_pc) {
+        return Ok(Some(to));
+    }
+    let more = points_kept(input, swept, looping, to, after, count - 1);
+    machine.choose_range(after, more, input.room)?;
     Ok(Some(to))
 }
 
 /// Returns how many of the `more` positions after the place `first` are kept as backtrack points, if the run goes on at
-/// `to`. If it is known to fail there, the last positions at which it is known to fail, too, are left out.
+/// `to`. If it is known to fail there, the last positions at which it is known to fail, too, are left out, and so are all
+/// where the next bytes of what follows the loop exclude its characters.
 ///
 /// # Preconditions
-/// The routines are a program, and the last position is at most `usize::MAX`.
+/// The routines are a program, the characters from the place `first` to the last position match the leaf of the loop, what
+/// follows it is at this place, and the last position is at most `usize::MAX`.
 #[inline(always)]
-fn points_kept(input: &Input<'_, '_>, to: Place, first: Place, more: usize) -> usize
+fn points_kept(
+    input: &Input<'_, '_>,
+    swept: Swept<'_>,
+    looping: Looping,
+    to: Place,
+    first: Place,
+    more: usize,
+) -> usize
     requires input { IsInput input.now }
+    requires swept { IsSwept input.now looping swept.set.now swept.repeat_pc }
+    requires follows { first.pc ≡ looping.next }
+    requires are_in { AreIn swept.set.now input.now.text.now first.position (more + 1) }
     requires last { first.position + more ≤ usize.MAX }
     ensures within { result ≤ more }
     ensures fails { (k : ℕ) → result < k → k ≤ more →
         Fails input.now (record { pc = first.pc; moved = true; position = first.position + k }) }
 {
+    if is_possessive(input, swept.repeat_pc) {
+        return 0;
+    }
     if fails(input, to) {
         points_that_may_match(input, first, more)
     } else {

@@ -3,6 +3,7 @@ use Rattle.regress_backtrack.specs.declared.machine.Place.{Place}
 use Rattle.regress_backtrack.specs.Machine.{at, groups_of, range_points}
 use Rattle.regress_leaves.specs.Starts.{AreIn}
 use Rattle.regress_backtrack.proofs.CostLemmas.{fewer_cost, iterations_cost, swept_ahead}
+use Rattle.regress_backtrack.proofs.PossessiveLemmas.{kept_leads, no_outcomes}
 use Rattle.regress_backtrack.proofs.SweepLemmas.{fewer_outcomes, iterations, swept_inside, swept_leads}
 use Rattle.regress_backtrack.proofs.sweep.sweep.Goals as goal
 
@@ -68,3 +69,43 @@ returns-clause-costs c = λ outs costs has.
     let grown = ap (λ n. sum_by cost (range_points first n g)) split in
     let ahead = swept_ahead cost m c.choose_range.new.self first to kept count before c.in_ok-choose_range.ensures.ranged (omega (arith, all, end, less, same, fewer, grown)) in
     omega (arith, ahead, same, c.saturating_sub.ensures)
+
+pub returns-then-is_possessive-clause-leads : goal.returns-then-is_possessive-clause-leads
+returns-then-is_possessive-clause-leads c = λ outs solve.
+    let input = c.args.input.now in
+    let looping = c.args.looping in
+    let here = c.args.here in
+    let m = c.args.machine.now in
+    let g = groups_of m in
+    let set = c.in-Some.swept.set.now in
+    let repeat_pc = c.in-Some.swept.repeat_pc in
+    let count = c.count_of-count.result in
+    let more = count - 1 in
+    let same : count ≡ suc more = omega (arith, c.if-count-eq0.false) in
+    let are : AreIn set input.text.now here.position (suc more) = λ k lt. c.count_of-count.ensures.are_in k (omega (arith, lt, same)) in
+    let first : Place = record { pc = looping.next; moved = here.moved; position = here.position } in
+    let to = c.leave-to.result in
+    let out = outs input.index in
+    kept_leads out m first to more (out (at (record { pc = looping.body; moved = false; position = here.position }) g) ++ out (at first g))
+    (iterations input c.requires.input looping set repeat_pc c.in-Some.ensures c.requires.body outs solve g here more are
+    ∙ ap (λ n. out (at (record { pc = repeat_pc; moved = true; position = here.position + n }) g) ++ flat_map out (range_points first more g)) (sym same)
+    ∙ ap (λ xs. xs ++ flat_map out (range_points first more g)) (sym (c.leave-to.ensures.same outs g solve)))
+    (no_outcomes input c.requires.input looping set repeat_pc c.in-Some.ensures (c.is_possessive.ensures c.if-is_possessive.true) here more c.if-here-gt0.true are outs g
+    solve)
+
+pub returns-then-is_possessive-clause-costs : goal.returns-then-is_possessive-clause-costs
+returns-then-is_possessive-clause-costs c = λ outs costs has.
+    let input = c.args.input.now in
+    let here = c.args.here in
+    let g = groups_of c.args.machine.now in
+    let set = c.in-Some.swept.set.now in
+    let repeat_pc = c.in-Some.swept.repeat_pc in
+    let count = c.count_of-count.result in
+    let more = count - 1 in
+    let same : count ≡ suc more = omega (arith, c.if-count-eq0.false) in
+    let are : AreIn set input.text.now here.position (suc more) = λ k lt. c.count_of-count.ensures.are_in k (omega (arith, lt, same)) in
+    let cost = costs input.index in
+    let all = iterations_cost input c.requires.input c.args.looping set repeat_pc c.in-Some.ensures c.requires.body outs costs has g here more are in
+    let end = ap (λ n. cost (at (record { pc = repeat_pc; moved = true; position = here.position + n }) g)) same in
+    let less = c.leave-to.ensures.costs outs costs g has in
+    omega (arith, all, end, less, same, c.saturating_sub.ensures)
