@@ -33,8 +33,8 @@ pub struct Input<'c, 'x> {
     pub next_bytes: &'c [NextBytes],
     /// The skips of the first instructions.
     pub skips: &'c [Skip],
-    /// For each instruction whether it ends an iteration of a loop that matches one character, which is not among the next
-    /// bytes of what follows.
+    /// For each instruction whether it ends an iteration of a greedy loop over one character, and the next bytes of what
+    /// follows the loop exclude the ASCII characters of the loop.
     pub possessive: &'c [bool],
     /// The index of the instruction at which a match starts.
     pub first: usize,
@@ -176,8 +176,8 @@ pub fn counts_at<'c>(input: &Input<'c, '_>, pc: usize) -> &'c [u8]
     }
 }
 
-/// Returns whether an instruction ends an iteration of a greedy loop that matches one character, and the next bytes of what
-/// follows the loop exclude each ASCII character that it matches.
+/// Returns whether an instruction ends an iteration of a greedy loop over one character, and the next bytes of what follows
+/// the loop exclude the ASCII characters of the loop.
 ///
 /// # Preconditions
 /// The input is one that `input_for` returns.

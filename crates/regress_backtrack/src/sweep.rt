@@ -32,8 +32,8 @@ pub(crate) struct Swept<'c> {
 /// Each is an iteration, and what follows the loop is tried after each of them, the last one first. Returns where the run
 /// goes on after the last iteration, or `None` if there is none, where nothing has changed.
 ///
-/// Where the next bytes of what follows exclude the characters of the loop, what follows fails after each iteration but the
-/// last one, and no backtrack point is added. At the start of the text one is, since next bytes say nothing there.
+/// Where the next bytes of what follows exclude the characters of the loop, it fails after each iteration but the last one,
+/// and no backtrack point is added. At the start of the text one is, since next bytes say nothing there.
 ///
 /// # Preconditions
 /// The loop is greedy, its body and what follows are inside the routine, and the position is inside the text.
@@ -103,12 +103,12 @@ pub fn sweep(
 }
 
 /// Returns how many of the `more` positions after the place `first` are kept as backtrack points, if the run goes on at
-/// `to`. If it is known to fail there, the last positions at which it is known to fail, too, are left out, and so are all
-/// where the next bytes of what follows the loop exclude its characters.
+/// `to`. If it is known to fail there, the last positions at which it is known to fail, too, are left out. All are left
+/// out where the next bytes of what follows the loop exclude its characters.
 ///
 /// # Preconditions
-/// The routines are a program, the characters from the place `first` to the last position match the leaf of the loop, what
-/// follows it is at this place, and the last position is at most `usize::MAX`.
+/// The routines are a program, the leaf of the loop matches each character from the place `first` to the last position,
+/// what follows the loop is at this place, and the last position is at most `usize::MAX`.
 #[inline(always)]
 fn points_kept(
     input: &Input<'_, '_>,

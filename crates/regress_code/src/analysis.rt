@@ -24,8 +24,8 @@ pub struct Analysis {
     pub next_bytes: Vec<NextBytes>,
     /// The skips of the first instructions.
     pub skips: Vec<Skip>,
-    /// For each instruction whether it ends an iteration of a loop that matches one character, which is not among the next
-    /// bytes of what follows.
+    /// For each instruction whether it ends an iteration of a greedy loop over one character, and the next bytes of what
+    /// follows the loop exclude the ASCII characters of the loop.
     pub possessive: Vec<bool>,
 }
 

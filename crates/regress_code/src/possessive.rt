@@ -1,4 +1,4 @@
-//! Loops whose characters what follows them excludes.
+//! Loops that give back no iteration, since what follows excludes their characters: possessive loops.
 ghost use Rattle.std.specs.Prelude.{◌≡◌, ◌<◌, ℕ, IfOk, IfSome, false, length, true};
 ghost use Rattle.regress_base.specs.ByteBitmap.{contains};
 ghost use Rattle.regress_code.specs.Possessive.{ArePossessive, ExcludesAscii, IsCharacter, IsPossessive};
@@ -11,8 +11,8 @@ use regress_program::instruction::Instruction;
 use std::alloc::{AllocError, Global};
 
 /// Returns for each instruction of a routine whether it ends an iteration of a greedy loop over a leaf that matches one
-/// character, and the next bytes of what follows the loop exclude each ASCII character that the leaf matches. Between two
-/// such characters what follows has no outcome, unless at the start of the text.
+/// character, and the next bytes of what follows the loop exclude each ASCII character that the leaf matches. Before such
+/// a character what follows has no outcome, unless at the start of the text.
 ///
 /// # Errors
 /// Returns [`AllocError`] if an allocation fails.
@@ -56,8 +56,8 @@ fn is_possessive(
     }
 }
 
-/// Returns the ASCII characters that an instruction matches, if it matches a leaf that matches one character, and goes on
-/// at `next`.
+/// Returns the ASCII characters that an instruction matches, if it matches a leaf that matches one character, and goes
+/// on at `next`.
 fn character_at(
     leaves: &[Test],
     instructions: &[Instruction],
