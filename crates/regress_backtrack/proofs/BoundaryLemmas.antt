@@ -1,13 +1,14 @@
--- No match begins between two word characters if the pattern begins at a word boundary.
-use Rattle.std.proofs.Common.{◌≡◌, ◌⊎◌, inl, inr, ℕ, ◌+◌, ◌-◌, ◌<◌, ◌≤◌, Bool, true, false, if◌then◌else◌, List, [], ◌∷◌, flat_map, length, replicate, slice_index, Option, Some, None, refl, sym, ap, ap₂, ◌∙◌, subst, arith}
+-- No match begins where the assertion fails with which the pattern begins.
+use Rattle.std.proofs.Common.{◌≡◌, ◌⊎◌, inl, inr, ℕ, ◌+◌, ◌-◌, ◌<◌, ◌≤◌, ◌==◌, ◌&&◌, ◌||◌, Bool, true, false, if◌then◌else◌, List, [], ◌∷◌, flat_map, length, replicate, slice_index, Option, Some, None, refl, sym, ap, ap₂, ◌∙◌, subst, arith}
 use Rattle.std.proofs.Math.Nat.{eq-or-lt_of_le}
-use Rattle.std.proofs.lemmas.Bool.{cases_lt}
+use Rattle.std.proofs.lemmas.Bool.{cases_lt, ne_eqb}
 use Rattle.regress_base.specs.Table.{Table}
-use Rattle.regress_tree.specs.Assertions.{at_boundary, differ, is_word_character, passes}
+use Rattle.regress_base.specs.declared.types.AnchorType.TheVariants.{StartOfLine}
+use Rattle.regress_tree.specs.Assertions.{at_anchor, at_boundary, differ, is_line_terminator, is_word_character, passes}
 use Rattle.regress_tree.specs.Matching.{steps}
 use Rattle.regress_tree.specs.Reading.{Direction, of_bytes, read_after, read_before}
 use Rattle.regress_tree.specs.Steps.{MatchState, Setting, hold_at}
-use Rattle.regress_tree.specs.Tree.{leaf as leaf_of, word_boundary}
+use Rattle.regress_tree.specs.Tree.{leaf as leaf_of}
 use Rattle.regress_leaves.proofs.ReadingLemmas.{ascii_after, ascii_before}
 use Rattle.regress_leaves.specs.Subject.{subject}
 use Rattle.regress_program.specs.Program.{IsSolution, Out, matcher_of, outcomes_by, reach}
@@ -16,7 +17,9 @@ use Rattle.regress_program.specs.declared.instruction.Instruction.TheVariants as
 use Rattle.regress_unicode.specs.declared.Tables.{Tables}
 use Rattle.regress_code.specs.Code.{code_groups, code_routines, outcomes_from, setting_with}
 use Rattle.regress_code.specs.declared.code.Code.{Code}
-use Rattle.regress_backtrack.specs.Boundary.{BeginsAtBoundary, IsInsideWord}
+use Rattle.regress_backtrack.specs.Boundary.{BeginsWith, IsExcluded, IsInsideLine, IsInsideWord, assertion}
+use Rattle.regress_backtrack.specs.declared.boundary.Beginning.{Beginning}
+use Rattle.regress_backtrack.specs.declared.boundary.Beginning.TheVariants.{WordBoundary, LineStart}
 use Rattle.regress_backtrack.specs.Machine.{Groups, at}
 use Rattle.regress_backtrack.specs.Next.{IsInput, Solve}
 use Rattle.regress_backtrack.specs.Searched.{IsFor, Skipped}
@@ -41,13 +44,25 @@ no_boundary table bytes k inside =
     ap₂ (λ x y. differ false (differ (passes word x) (passes word y))) before after
     ∙ ap₂ (λ x y. differ false (differ x y)) inside.before.word inside.after.word
 
-no_steps : (setting : Setting) (bytes : List ℕ) (d : Direction) (s : MatchState) → IsInsideWord bytes s.position →
-    steps setting bytes d (leaf_of (word_boundary false false)) s ≡ []
-unfolding hold_at
-no_steps setting bytes d s inside = ap (λ b. if b then s ∷ [] else []) (no_boundary setting.table bytes s.position inside)
+-- No line begins after a character that does not end one.
+no_line : (bytes : List ℕ) (k : ℕ) → IsInsideLine bytes k → at_anchor (of_bytes bytes) StartOfLine true k ≡ false
+no_line bytes k inside =
+    let b = slice_index bytes (k - 1) in
+    let same : (k - 1) + 1 ≡ k = omega (arith, inside.some) in
+    let not_first : (k == 0) ≡ false = ne_eqb k 0 (λ e. absurd (omega (arith, e, inside.some))) in
+    let before : read_before bytes k ≡ Some (record { character = b; position = k - 1 }) =
+    subst (λ n. read_before bytes n ≡ Some (record { character = b; position = k - 1 })) same
+    (ascii_before bytes (k - 1) b inside.ascii inside.inside refl) in
+    ap₂ (λ x y. x || (true && passes is_line_terminator y)) not_first before ∙ inside.goes_on
 
-module _ (input : Input) (is : IsInput input) (begins : BeginsAtBoundary input) (outs : ℕ → Out) (solve : Solve input outs) (g : Groups) where
-  none_here : (k : ℕ) → k ≤ length input.text.now → IsInsideWord input.text.now k →
+no_steps : (setting : Setting) (bytes : List ℕ) (d : Direction) (beginning : Beginning) (s : MatchState) → IsExcluded beginning bytes s.position →
+    steps setting bytes d (leaf_of (assertion beginning)) s ≡ []
+unfolding hold_at
+no_steps setting bytes d WordBoundary s inside = ap (λ b. if b then s ∷ [] else []) (no_boundary setting.table bytes s.position inside)
+no_steps setting bytes d LineStart s inside = ap (λ b. if b then s ∷ [] else []) (no_line bytes s.position inside)
+
+module _ (input : Input) (is : IsInput input) (beginning : Beginning) (begins : BeginsWith input beginning) (outs : ℕ → Out) (solve : Solve input outs) (g : Groups) where
+  none_here : (k : ℕ) → k ≤ length input.text.now → IsExcluded beginning input.text.now k →
       outs input.index (at (record { pc = input.first; moved = true; position = k }) g) ≡ []
   none_here k le inside =
       let u = subject input.rules input.text.now in
@@ -57,16 +72,16 @@ module _ (input : Input) (is : IsInput input) (begins : BeginsAtBoundary input) 
       let next = begins.next in
       solved input is p (insts.Leaf begins.leaf next) begins.first_in begins.first u.setting u.bytes outs u.direction g solve is.direction le
       ∙ ap (λ o. outcomes_by u.setting u.bytes u.direction body_of out (part_of o next) (at p g)) begins.is_test
-      ∙ ap (λ t. flat_map (λ s. out (reach next (at p g) s)) (steps u.setting u.bytes u.direction t (at p g).state)) begins.boundary
-      ∙ ap (flat_map (λ s. out (reach next (at p g) s))) (no_steps u.setting u.bytes u.direction (at p g).state inside)
+      ∙ ap (λ t. flat_map (λ s. out (reach next (at p g) s)) (steps u.setting u.bytes u.direction t (at p g).state)) begins.asserts
+      ∙ ap (flat_map (λ s. out (reach next (at p g) s))) (no_steps u.setting u.bytes u.direction beginning (at p g).state inside)
 
-pub none_inside_word : (code : Code) (tables : Tables) (text : List ℕ) (input : Input) → IsFor code tables text input → BeginsAtBoundary input →
-    (outs : ℕ → Out) → IsSolution (setting_with code tables) text (code_routines code) outs → (k : ℕ) → k ≤ length text → IsInsideWord text k →
+none_excluded : (code : Code) (tables : Tables) (text : List ℕ) (input : Input) → IsFor code tables text input → (beginning : Beginning) → BeginsWith input beginning →
+    (outs : ℕ → Out) → IsSolution (setting_with code tables) text (code_routines code) outs → (k : ℕ) → k ≤ length text → IsExcluded beginning text k →
     outcomes_from code tables text outs k ≡ []
-none_inside_word code tables text input for begins outs solution k le inside =
+none_excluded code tables text input for beginning begins outs solution k le excluded =
     entry_is code tables text input for outs k
-    ∙ none_here input for.is begins outs (solves_for code tables text input for outs solution) (record { captures = replicate (code_groups code) None; begins = [] }) k
-    (subst (λ x. k ≤ length x) (sym for.same_text) le) (subst (λ x. IsInsideWord x k) (sym for.same_text) inside)
+    ∙ none_here input for.is beginning begins outs (solves_for code tables text input for outs solution) (record { captures = replicate (code_groups code) None; begins = [] }) k
+    (subst (λ x. k ≤ length x) (sym for.same_text) le) (subst (λ x. IsExcluded beginning x k) (sym for.same_text) excluded)
 
 -- what holds up to a number, and of that one
 pub holds_up_to : (P : ℕ → Type 0) (low high : ℕ) → ((k : ℕ) → low ≤ k → k < high → P k) → P high → (k : ℕ) → low ≤ k → k < high + 1 → P k
@@ -76,15 +91,16 @@ holds_up_to P low high below last k le lt = by (eq-or-lt_of_le (omega (arith, lt
     by (inl same) = subst P (sym same) last
     by (inr less) = below k le less
 
--- Positions are skipped up to one that is inside a word, then those inside the word, and then further ones.
-pub skipped_on : (code : Code) (text : List ℕ) (input : Input) (from position outside : ℕ) (result : Option ℕ) → BeginsAtBoundary input →
-    Skipped code text input from (Some position) → ((k : ℕ) → position ≤ k → k < outside → IsInsideWord text k) →
-    Skipped code text input outside result → Skipped code text input from result
-skipped_on code text input from position outside result begins first inside next = λ tables for outs solution k low le before.
+-- Positions are skipped up to one at which the assertion fails, then those at which it fails, and then further ones.
+pub skipped_on : (code : Code) (text : List ℕ) (input : Input) (from position possible : ℕ) (result : Option ℕ) (beginning : Beginning) →
+    BeginsWith input beginning → Skipped code text input from (Some position) →
+    ((k : ℕ) → position ≤ k → k < possible → IsExcluded beginning text k) →
+    Skipped code text input possible result → Skipped code text input from result
+skipped_on code text input from position possible result beginning begins first excluded next = λ tables for outs solution k low le before.
     elim (cases_lt k position) [
       | inl less ↦ first tables for outs solution k low le less
-      | inr more ↦ elim (cases_lt k outside) [
-        | inl less ↦ none_inside_word code tables text input for begins outs solution k le (inside k more less)
+      | inr more ↦ elim (cases_lt k possible) [
+        | inl less ↦ none_excluded code tables text input for beginning begins outs solution k le (excluded k more less)
         | inr after ↦ next tables for outs solution k after le before
       ]
     ]

@@ -1,37 +1,67 @@
-//! Patterns that begin at a word boundary.
-ghost use Rattle.std.specs.Prelude.{◌≡◌, ◌≤◌, ◌<◌, ℕ, false, length, true};
+//! Assertions at the start of a pattern.
+ghost use Rattle.std.specs.Prelude.{◌≡◌, ◌≤◌, ◌<◌, ℕ, IfSome, false, length, true};
 ghost use Rattle.regress_base.specs.Classes.{word_characters};
 ghost use Rattle.regress_base.specs.Intervals.{is_member};
-ghost use Rattle.regress_tree.specs.Tree.{leaf, tree, word_boundary};
-ghost use Rattle.regress_backtrack.specs.Boundary.{BeginsAtBoundary, IsInsideWord};
+ghost use Rattle.regress_tree.specs.Assertions.{is_line_terminator};
+ghost use Rattle.regress_tree.specs.Tree.{leaf, tree};
+ghost use Rattle.regress_backtrack.specs.Boundary.{BeginsWith, IsExcluded, IsInsideLine, IsInsideWord, assertion};
 
 use crate::input::{Input, instruction_in, test_at};
 use regress_program::instruction::Instruction;
-use regress_tree::ir::Node;
+use regress_tree::ir::{AnchorType, Node};
 
-/// Returns whether the pattern begins with `\b`, for which word characters are those of ASCII.
-pub(crate) fn begins_at_boundary(input: &Input<'_, '_>) -> bool
-    ensures { result ≡ true → BeginsAtBoundary input.now }
-{
-    let Some(Instruction::Leaf { leaf, .. }) = instruction_in(input, input.first) else {
-        return false;
-    };
-    match test_at(input, leaf) {
-        Some(test) => is_boundary(&test.node),
-        None => false,
-    }
+/// An assertion with which a pattern begins.
+#[derive(Clone, Copy)]
+pub(crate) enum Beginning {
+    /// A `\b`, for which word characters are those of ASCII.
+    WordBoundary,
+    /// A multiline `^`.
+    LineStart,
 }
 
-/// Returns whether a node is a `\b` for which word characters are those of ASCII.
-fn is_boundary(node: &Node) -> bool
-    ensures { result ≡ true → tree node.now ≡ leaf (word_boundary false false) }
+/// Returns the assertion with which the pattern begins, if there is one.
+pub(crate) fn beginning_of(input: &Input<'_, '_>) -> Option<Beginning>
+    ensures { IfSome result (BeginsWith input.now) }
+{
+    let Instruction::Leaf { leaf, .. } = instruction_in(input, input.first)? else {
+        return None;
+    };
+    assertion_of(&test_at(input, leaf)?.node)
+}
+
+/// Returns the assertion that a node is, if it is one of these.
+fn assertion_of(node: &Node) -> Option<Beginning>
+    ensures { IfSome result (λ beginning. tree node.now ≡ leaf (assertion beginning)) }
 {
     match node {
         Node::WordBoundary {
-            invert,
-            unicode_icase,
-        } => !*invert && !*unicode_icase,
-        _ => false,
+            invert: false,
+            unicode_icase: false,
+        } => Some(Beginning::WordBoundary),
+        Node::Anchor {
+            anchor_type: AnchorType::StartOfLine,
+            multiline: true,
+        } => Some(Beginning::LineStart),
+        _ => None,
+    }
+}
+
+/// Returns the least position, `from` or later, at which the assertion is not known to fail by the bytes next to it.
+///
+/// # Preconditions
+/// `from` is inside the text.
+///
+/// # Complexity
+/// Linear in the number of bytes from `from` to the result.
+pub(crate) fn next_possible(beginning: Beginning, text: &str, from: usize) -> usize
+    requires { from ≤ length text.now }
+    ensures low { from ≤ result }
+    ensures high { result ≤ length text.now }
+    ensures excluded { (k : ℕ) → from ≤ k → k < result → IsExcluded beginning text.now k }
+{
+    match beginning {
+        Beginning::WordBoundary => outside_word(text, from),
+        Beginning::LineStart => outside_line(text, from),
     }
 }
 
@@ -39,32 +69,40 @@ fn is_boundary(node: &Node) -> bool
 ///
 /// # Preconditions
 /// `from` is inside the text.
-///
-/// # Complexity
-/// Linear in the number of bytes from `from` to the result.
-pub(crate) fn outside_word(text: &str, from: usize) -> usize
+fn outside_word(text: &str, from: usize) -> usize
     requires { from ≤ length text.now }
     ensures low { from ≤ result }
     ensures high { result ≤ length text.now }
     ensures inside { (k : ℕ) → from ≤ k → k < result → IsInsideWord text.now k }
 {
+    let bytes = text.as_bytes();
+    if from == 0 || !is_word(bytes[from - 1]) {
+        return from;
+    }
     let mut position = from;
-    while is_inside_word(text, position) {
+    while position < bytes.len() && is_word(bytes[position]) {
         position += 1;
     }
     position
 }
 
-/// Returns whether a position is between two word characters of ASCII.
-#[inline(always)]
-fn is_inside_word(text: &str, position: usize) -> bool
-    ensures { result ≡ true → IsInsideWord text.now position }
+/// Returns the least position, `from` or later, that is at the end of the text or not after a character of ASCII that goes
+/// on in its line.
+///
+/// # Preconditions
+/// `from` is inside the text.
+fn outside_line(text: &str, from: usize) -> usize
+    requires { from ≤ length text.now }
+    ensures low { from ≤ result }
+    ensures high { result ≤ length text.now }
+    ensures inside { (k : ℕ) → from ≤ k → k < result → IsInsideLine text.now k }
 {
     let bytes = text.as_bytes();
-    if position == 0 || position >= bytes.len() {
-        return false;
+    let mut position = from;
+    while position > 0 && position < bytes.len() && is_in_line(bytes[position - 1]) {
+        position += 1;
     }
-    is_word(bytes[position - 1]) && is_word(bytes[position])
+    position
 }
 
 /// Returns whether a byte is a word character of ASCII.
@@ -75,4 +113,14 @@ fn is_word(b: u8) -> bool
     ensures ascii { result ≡ true → b < 128 }
 {
     matches!(b, 0x30..=0x39 | 0x41..=0x5A | 0x5F | 0x61..=0x7A)
+}
+
+/// Returns whether a byte is a character of ASCII that does not end a line.
+#[inline(always)]
+#[tactic(auto, unfolding(regress_base::specs::Intervals::is_member, regress_base::specs::Intervals::is_within))]
+fn is_in_line(b: u8) -> bool
+    ensures ascii { result ≡ true → b < 128 }
+    ensures goes_on { result ≡ true → is_line_terminator b ≡ false }
+{
+    matches!(b, 0..=9 | 11..=12 | 14..=127)
 }

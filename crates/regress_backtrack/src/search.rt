@@ -11,13 +11,13 @@ ghost use Rattle.regress_found.specs.Results.{IfMatched, IsSearchResult, IsMatch
 ghost use Rattle.regress_found.specs.Tried.{positions_tried};
 ghost use Rattle.regress_found.specs.declared.fault.MemoryFault.TheVariants.{TooMuchMemory};
 ghost use Rattle.regress_backtrack.specs.Memory.{IsWithin, entries_in};
-ghost use Rattle.regress_backtrack.specs.Boundary.{BeginsAtBoundary};
+ghost use Rattle.regress_backtrack.specs.Boundary.{BeginsWith};
 ghost use Rattle.regress_backtrack.specs.Searched.{IsFor, Skipped};
 ghost use Rattle.regress_code.specs.declared.code.Code.{Code};
 ghost use Rattle.regress_found.specs.declared.outcome.Outcome.TheVariants.{OutOfSteps};
 
 use crate::backtracker::Backtracker;
-use crate::boundary::{begins_at_boundary, outside_word};
+use crate::boundary::{Beginning, beginning_of, next_possible};
 use crate::cache::Cache;
 use crate::input::{Input, next_bytes_at};
 use crate::lead::{lead_of, next_after};
@@ -159,14 +159,14 @@ impl Backtracker<'_, '_> {
         let input = self.input();
         cache.machine.unset_all(code.program.groups)?;
         let lead = lead_of(&input);
-        let at_boundary = begins_at_boundary(&input);
+        let beginning = beginning_of(&input);
         let mut counted = from;
         let mut start = from;
         while start <= text.len() {
             if *remaining == 0 {
                 return Ok(Outcome::OutOfSteps);
             }
-            let Some(position) = next_start(code, &input, text, start, at_boundary) else {
+            let Some(position) = next_start(code, &input, text, start, beginning) else {
                 return Ok(Outcome::NoMatch);
             };
             // the bytes that are skipped, and the position that is tried
@@ -185,8 +185,7 @@ impl Backtracker<'_, '_> {
     }
 }
 
-/// Returns the least byte offset, `from` or later, at which a match is not known to fail, or `None`. If the pattern begins
-/// `at_boundary`, none begins between two word characters.
+/// Returns the least byte offset, `from` or later, at which a match is not known to fail, or `None`.
 ///
 /// # Preconditions
 /// `from` is inside the text.
@@ -196,25 +195,37 @@ fn next_start(
     input: &Input<'_, '_>,
     text: &str,
     from: usize,
-    at_boundary: bool,
+    beginning: Option<Beginning>,
 ) -> Option<usize>
     requires from { from ≤ length text.now }
-    requires boundary { at_boundary ≡ true → BeginsAtBoundary input.now }
+    requires beginning { IfSome beginning (BeginsWith input.now) }
     ensures within { IfSome result (λ position. (from ≤ position) × (position ≤ length text.now)) }
     ensures skipped { Skipped code.now text.now input.now from result }
 {
-    let Some(mut position) = next_by_bytes(code, input, text, from) else {
-        return None;
-    };
-    if at_boundary {
-        let mut outside = outside_word(text, position);
-        while position < outside {
-            match next_by_bytes(code, input, text, outside) {
-                Some(next) => position = next,
-                None => return None,
-            }
-            outside = outside_word(text, position);
-        }
+    match beginning {
+        Some(assertion) => next_after_assertion(code, input, text, from, assertion),
+        None => next_by_bytes(code, input, text, from),
+    }
+}
+
+/// Returns the same, if the pattern begins with an assertion.
+fn next_after_assertion(
+    code: &Code,
+    input: &Input<'_, '_>,
+    text: &str,
+    from: usize,
+    beginning: Beginning,
+) -> Option<usize>
+    requires from { from ≤ length text.now }
+    requires beginning { BeginsWith input.now beginning }
+    ensures within { IfSome result (λ position. (from ≤ position) × (position ≤ length text.now)) }
+    ensures skipped { Skipped code.now text.now input.now from result }
+{
+    let mut position = next_by_bytes(code, input, text, from)?;
+    let mut possible = next_possible(beginning, text, position);
+    while position < possible {
+        position = next_by_bytes(code, input, text, possible)?;
+        possible = next_possible(beginning, text, position);
     }
     Some(position)
 }

@@ -1,12 +1,14 @@
 -- The positions that were passed are between two word characters.
 use Rattle.std.proofs.Common.{ℕ, ◌-◌, ◌≤◌, ◌<◌, length}
-use Rattle.regress_backtrack.specs.Boundary.{IsInsideWord}
+use Rattle.regress_backtrack.specs.Boundary.{IsInsideWord, IsWordAt}
 use Rattle.regress_backtrack.proofs.boundary.outside_word.Given as goal
 
 abbrev pub invariant-loop-position : goal.invariant-loop-position
 invariant-loop-position l = record {
   low : l.from ≤ l.position;
+  some : 0 < l.position;
   high : l.position ≤ length l.text;
+  before : IsWordAt l.text (l.position - 1);
   inside : (k : ℕ) → l.from ≤ k → k < l.position → IsInsideWord l.text k;
 }
 

@@ -1,15 +1,15 @@
 -- The positions that were passed have no outcome.
 use Rattle.std.proofs.Common.{ℕ, ◌-◌, ◌≤◌, ◌<◌, Some, length}
-use Rattle.regress_backtrack.specs.Boundary.{IsInsideWord}
+use Rattle.regress_backtrack.specs.Boundary.{IsExcluded}
 use Rattle.regress_backtrack.specs.Searched.{Skipped}
-use Rattle.regress_backtrack.proofs.search.next_start.Given as goal
+use Rattle.regress_backtrack.proofs.search.next_after_assertion.Given as goal
 
 abbrev pub invariant-loop-position : goal.invariant-loop-position
 invariant-loop-position l = record {
   low : l.from ≤ l.position;
-  order : l.position ≤ l.outside;
-  high : l.outside ≤ length l.text;
-  inside : (k : ℕ) → l.position ≤ k → k < l.outside → IsInsideWord l.text k;
+  order : l.position ≤ l.possible;
+  high : l.possible ≤ length l.text;
+  excluded : (k : ℕ) → l.position ≤ k → k < l.possible → IsExcluded l.beginning l.text k;
   skipped : Skipped l.code l.text l.input l.from (Some l.position);
 }
 
