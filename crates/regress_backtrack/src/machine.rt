@@ -252,7 +252,7 @@ impl Machine {
     /// The latest entry is backtrack points from there on, at no fewer positions, and the last one is at most `usize::MAX`.
     #[inline(always)]
     pub fn keep_range(&mut self, first: Place, more: usize)
-        requires latest { (all : ℕ) × EndsIn self.old first all }
+        requires latest { (all : ℕ) × EndsIn self.old first all × (more ≤ all) }
         requires within { first.position + more ≤ usize.MAX }
         ensures shortened { (all : ℕ) → EndsIn self.old first all → Shortened first all more self.old self.new }
         ensures count { entry_count self.new ≡ entry_count self.old }
