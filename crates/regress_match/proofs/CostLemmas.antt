@@ -58,23 +58,16 @@ module _ (m : Matcher) (text : List ℕ) (b : Backtracker) (code : run_code b �
 -- ---- searches
 
 -- A search that only backtracks, and fills a stack.
-pub stack_needs_more : (m : Matcher) (text : List ℕ) (from : ℕ) → is_some (factor_in m text) ≡ false → MayFillStack m text from → StackNeedsMore m text
+pub stack_needs_more : (m : Matcher) (text : List ℕ) (from : ℕ) → is_some (factor_in m text) ≡ false → MayFillStack m text from → StackNeedsMore m text from
 stack_needs_more m text from none fills = record {
   backtracks = by (factor_in m text) none;
   has = has_costs m text;
-  from = from;
   fills = fills;
 }
   where
     by : (o : Option ℕ) → is_some o ≡ false → o ≡ None
     by None none = refl
     by (Some n) none = absurd (cc)
-
--- the same matcher and text
-pub same_stack : (old mid : MatcherMatches) → IsSameIteration old mid → StackNeedsMore (iterated_matcher mid) (iterated_text mid) →
-    StackNeedsMore (iterated_matcher old) (iterated_text old)
-same_stack old mid same needs =
-    subst (λ m. StackNeedsMore m (iterated_text old)) same.matcher (subst (StackNeedsMore (iterated_matcher mid)) same.text needs)
 
 -- A search that first looks for a byte that each match contains.
 pub within_both : (old mid : MatcherMatches) (after : ℕ) → IsSameIteration old mid → iterated_from mid ≡ iterated_from old →

@@ -3,6 +3,7 @@ use Rattle.std.proofs.Common.{◌≡◌, ◌∙◌, ℕ, List, [], ◌∷◌, �
 use Rattle.regress_found.specs.declared.found.Match.{Match}
 use Rattle.regress_match.specs.Iterated.{IsSameIteration, iterated_from, iterated_matcher, iterated_text}
 use Rattle.regress_found.specs.Results.{IsSearchResult}
+use Rattle.regress_match.specs.Memory.{NextNeedsMore, SearchNeedsMore}
 use Rattle.regress_match.specs.Pattern.{matcher_outcomes}
 use Rattle.regress_found.specs.Repeated.{AreAllMatches, AreMatches, next_offset}
 use Rattle.regress_match.specs.declared.matcher.Matcher.{Matcher}
@@ -42,3 +43,13 @@ module _ (matcher : Matcher) (text : List ℕ) (now : MatcherMatches) (ms : List
   pub all_found : IsSearchResult (iterated_text now) (matcher_outcomes (iterated_matcher now) (iterated_text now)) (iterated_from now) outcomes.NoMatch →
       AreAllMatches text (matcher_outcomes matcher text) ms
   all_found none = record { to = iterated_from now; found = sofar.found; none = none_left none }
+
+  -- the search for the next match takes more memory than it may
+  pub next_needs_more : SearchNeedsMore (iterated_matcher now) (iterated_text now) (iterated_from now) → NextNeedsMore matcher text 0
+  next_needs_more needs = record {
+    ms = ms;
+    to = iterated_from now;
+    found = sofar.found;
+    more = subst (λ t. SearchNeedsMore matcher t (iterated_from now)) sofar.same_text
+        (subst (λ m. SearchNeedsMore m (iterated_text now) (iterated_from now)) sofar.same_matcher needs);
+  }

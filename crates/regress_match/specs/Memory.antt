@@ -43,29 +43,35 @@ abbrev pub MayFillStackAt : Matcher → (text : List ℕ) → (position : ℕ) �
 MayFillStackAt m text position = (outs : ℕ → Out) (costs : ℕ → Cost) → AreCosts m text outs costs →
     entries_in (memory_of m) ≤ 64 * match_cost m text costs position
 
--- A search that only backtracks may fill a stack, from some offset on.
-pub record StackNeedsMore (m : Matcher) (text : List ℕ) : Type 0 where
+-- A search from there on that only backtracks may fill a stack.
+pub record StackNeedsMore (m : Matcher) (text : List ℕ) (from : ℕ) : Type 0 where
   pub backtracks : factor_in m text ≡ None
   pub has : HasCosts m text
-  pub from : ℕ
   pub fills : MayFillStack m text from
 
--- A search takes more memory than it may: its tables, or a backtrack stack.
-abbrev pub SearchNeedsMore : Matcher → (text : List ℕ) → Type 0
-SearchNeedsMore m text = TablesNeedMore m text ⊎ StackNeedsMore m text
+-- A search from there on takes more memory than it may: its tables, or a backtrack stack.
+abbrev pub SearchNeedsMore : Matcher → (text : List ℕ) → (from : ℕ) → Type 0
+SearchNeedsMore m text from = TablesNeedMore m text ⊎ StackNeedsMore m text from
+
+-- The search for one more match than the first ones from `from` on takes more memory than it may.
+pub record NextNeedsMore (m : Matcher) (text : List ℕ) (from : ℕ) : Type 0 where
+  pub ms : List Match
+  pub to : ℕ
+  pub found : AreMatches text (matcher_outcomes m text) from to ms
+  pub more : SearchNeedsMore m text to
 
 -- the number of bytes that a match counts in a list
 abbrev pub match_bytes : Matcher → ℕ
 match_bytes m = 56 + 24 * code_groups m.code
 
--- The matches from an offset up to one of them take more memory than a list may.
-pub record MatchesNeedMore (m : Matcher) (text : List ℕ) : Type 0 where
-  pub from : ℕ
+-- The first matches from `from` on, up to one of them, take more memory than a list may.
+pub record MatchesNeedMore (m : Matcher) (text : List ℕ) (from : ℕ) : Type 0 where
   pub ms : List Match
   pub to : ℕ
   pub found : AreMatches text (matcher_outcomes m text) from to ms
   pub more : memory_of m < match_bytes m * length ms
 
--- A search for all matches takes more memory than it may: its tables, a backtrack stack, or the list of the matches.
-abbrev pub AllNeedMore : Matcher → (text : List ℕ) → Type 0
-AllNeedMore m text = SearchNeedsMore m text ⊎ MatchesNeedMore m text
+-- A search for all matches from `from` on takes more memory than it may: the tables or a backtrack stack of the search for
+-- one of them, or the list of the matches.
+abbrev pub AllNeedMore : Matcher → (text : List ℕ) → (from : ℕ) → Type 0
+AllNeedMore m text from = NextNeedsMore m text from ⊎ MatchesNeedMore m text from

@@ -68,7 +68,7 @@ impl<'m> MatcherMatches<'m> {
         ensures costs { IfOk result (λ _. IsWithinFindCost (iterated_matcher self.old) (iterated_text self.old) (iterated_from self.old) (steps_remaining self.old - steps_remaining self.new)) }
         ensures spent { Spends self.old self.new }
         ensures counted { IfOk result (λ outcome. IfMatched outcome (HasCounted self.old self.new)) }
-        ensures too_much { IfErr result (λ fault. fault ≡ TooMuchMemory → SearchNeedsMore (iterated_matcher self.old) (iterated_text self.old)) }
+        ensures too_much { IfErr result (λ fault. fault ≡ TooMuchMemory → SearchNeedsMore (iterated_matcher self.old) (iterated_text self.old) (iterated_from self.old)) }
     {
         if self.search.is_some() {
             return self.find_in_tables(alloc);
@@ -149,7 +149,7 @@ impl<'m> MatcherMatches<'m> {
         ensures tried { IfOk result (λ outcome. IfMatched outcome (λ m.
             steps_remaining self.new ≤ steps_remaining self.old
             - (captures_cost (iterated_matcher self.old).code + positions_tried (iterated_text self.old) (iterated_from self.old) (Some m)))) }
-        ensures too_much { IfErr result (λ fault. fault ≡ TooMuchMemory → StackNeedsMore (iterated_matcher self.old) (iterated_text self.old)) }
+        ensures too_much { IfErr result (λ fault. fault ≡ TooMuchMemory → StackNeedsMore (iterated_matcher self.old) (iterated_text self.old) (iterated_from self.old)) }
     {
         let matcher = self.matcher;
         let text = self.text;

@@ -83,7 +83,7 @@ impl Matcher {
         ensures bounded { IfOk result (λ found. IfSome (find_factor_in self.now text.now) (λ n. IsLinear n text.now found.outcome found.steps)) }
         ensures limited { IfOk result (λ found. IfNone (find_factor_in self.now text.now) (IsLimited (find_limit_in self.now steps) found.outcome found.steps)) }
         ensures costs { IfOk result (λ found. IfNone (find_factor_in self.now text.now) (IsWithinFindCost self.now text.now from found.steps)) }
-        ensures too_much { IfErr result (λ fault. fault ≡ TooMuchMemory → SearchNeedsMore self.now text.now) }
+        ensures too_much { IfErr result (λ fault. fault ≡ TooMuchMemory → SearchNeedsMore self.now text.now from) }
     {
         let mut cache = Cache::new(alloc);
         self.find_with(alloc, &mut cache, text, from, steps)
@@ -129,7 +129,7 @@ impl Matcher {
         ensures limited { IfOk result (λ found. IfNone (find_factor_in self.now text.now) (IsLimited (find_limit_in self.now steps) found.outcome found.steps)) }
         ensures costs { IfOk result (λ found. IfNone (find_factor_in self.now text.now) (IsWithinFindCost self.now text.now from found.steps)) }
         ensures within { AreStacksWithin self.now cache.old → AreStacksWithin self.now cache.new }
-        ensures too_much { IfErr result (λ fault. fault ≡ TooMuchMemory → SearchNeedsMore self.now text.now) }
+        ensures too_much { IfErr result (λ fault. fault ≡ TooMuchMemory → SearchNeedsMore self.now text.now from) }
     {
         if self.is_find_linear_in(text) {
             self.find_in_linear_time(alloc, cache, text, from)
@@ -252,7 +252,7 @@ impl Matcher {
         ensures linear { IfOk result (λ found. IfSome (factor_in self.now text.now) (λ _. IsSome found)) }
         ensures costs { IfOk result (λ found. IsNone found → CostsOfMatches self.now text.now 0 (limit_in self.now steps)) }
         ensures held { IfOk result (λ found. IfSome found (λ all. match_bytes self.now * vec_capacity all ≤ memory_of self.now)) }
-        ensures too_much { IfErr result (λ fault. fault ≡ TooMuchMemory → AllNeedMore self.now text.now) }
+        ensures too_much { IfErr result (λ fault. fault ≡ TooMuchMemory → AllNeedMore self.now text.now 0) }
     {
         let most = self.most_matches();
         let mut all = Vec::new(alloc);

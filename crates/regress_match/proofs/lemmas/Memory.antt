@@ -14,19 +14,13 @@ is_held bytes memory most room within few = let more = mul-le-mul_left bytes few
 takes_more : (bytes memory most n : ℕ) → memory < bytes * (most + 1) → most + 1 ≤ n → memory < bytes * n
 takes_more bytes memory most n few many = let more = mul-le-mul_left bytes many in omega (arith, more, few)
 
--- A list of matches that has as many as it may, and one more match.
-pub matches_need_more_from : (m : Matcher) (text : List ℕ) (from to : ℕ) (ms : List Match) (x : Match) →
+-- A list of matches from `from` on that has as many as it may, and one more match.
+pub matches_need_more : (m : Matcher) (text : List ℕ) (from to : ℕ) (ms : List Match) (x : Match) →
     AreMatches text (matcher_outcomes m text) from to (ms ++ x ∷ []) →
-    (most : ℕ) → most ≤ length ms → memory_of m < match_bytes m * (most + 1) → MatchesNeedMore m text
-matches_need_more_from m text from to ms x found most full few = record {
-  from = from;
+    (most : ℕ) → most ≤ length ms → memory_of m < match_bytes m * (most + 1) → MatchesNeedMore m text from
+matches_need_more m text from to ms x found most full few = record {
   ms = ms ++ x ∷ [];
   to = to;
   found = found;
   more = takes_more (match_bytes m) (memory_of m) most (length (ms ++ x ∷ [])) few (omega (arith, full, length-append ms (x ∷ [])));
 }
-
--- the same from the start of the text
-pub matches_need_more : (m : Matcher) (text : List ℕ) (to : ℕ) (ms : List Match) (x : Match) → AreMatches text (matcher_outcomes m text) 0 to (ms ++ x ∷ []) →
-    (most : ℕ) → most ≤ length ms → memory_of m < match_bytes m * (most + 1) → MatchesNeedMore m text
-matches_need_more m text = matches_need_more_from m text 0

@@ -1,10 +1,10 @@
-use Rattle.std.proofs.Common.{◌≡◌, ℕ, Some, None, IfNone, IfSome, IsSome, inr, ap₂, arith, refl, subst, sym, ◌∙◌}
+use Rattle.std.proofs.Common.{◌≡◌, ℕ, Some, None, IfNone, IfSome, IsSome, inl, inr, ap₂, arith, refl, subst, sym, ◌∙◌}
 use Rattle.std.specs.Vec.{vec_capacity}
 use Rattle.std.proofs.lemmas.Result.{err_from_is_err_and}
 use Rattle.regress_match.specs.Iterated.{iterated_from}
 use Rattle.regress_match.specs.Matcher.{factor_in, limit_in}
 use Rattle.regress_match.specs.Memory.{match_bytes, memory_of}
-use Rattle.regress_match.proofs.IterationLemmas.{all_found, one_more}
+use Rattle.regress_match.proofs.IterationLemmas.{all_found, next_needs_more, one_more}
 use Rattle.regress_match.proofs.PaidLemmas.{costs_of_matches, one_more_paid}
 use Rattle.regress_match.proofs.lemmas.Iterated.{remaining-falls}
 use Rattle.regress_match.proofs.lemmas.Memory.{is_held, matches_need_more}
@@ -68,6 +68,12 @@ returns-in-OutOfSteps-clause-costs c = λ _.
     costs_of_matches c.args.self.now c.args.text.now c.loop-matches.matches c.next.new.self c.loop-matches.all.items so_far.has next.costs (limit_in c.args.self.now c.args.steps)
     so_far.limit (rw c.in-OutOfSteps.is at next.linear) (rw c.in-OutOfSteps.is at next.limited)
 
+pub returns-in_err-found-clause-too_much : goal.returns-in_err-found-clause-too_much
+returns-in_err-found-clause-too_much c =
+    let p = err_from_is_err_and c.from_residual.result c.from_residual.ensures.1 in
+    rw p.1 (λ is. inl (next_needs_more _ _ c.loop-matches.matches c.loop-matches.all.items c.loop-matches.invariant.has.found
+    (c.in_err-found.ensures.too_much (sym p.2 ∙ is))))
+
 pub returns-in_err-push_within-in-Matched-clause-too_much : goal.returns-in_err-push_within-in-Matched-clause-too_much
 returns-in_err-push_within-in-Matched-clause-too_much c =
     let now = c.loop-matches.matches in
@@ -76,5 +82,5 @@ returns-in_err-push_within-in-Matched-clause-too_much c =
     one_more _ _ now c.loop-matches.all.items c.loop-matches.invariant.has.found c.next.new.self c.in-Matched.found
     (rw c.in-Matched.is at next.finds) (rw c.in-Matched.is at next.goes_on) next.same in
     let p = err_from_is_err_and c.from_residual-in_err-push_within-in-Matched.result c.from_residual-in_err-push_within-in-Matched.ensures.1 in
-    rw p.1 (λ is. inr (matches_need_more c.args.self.now c.args.text.now (iterated_from c.next.new.self) c.loop-matches.all.items c.in-Matched.found
+    rw p.1 (λ is. inr (matches_need_more c.args.self.now c.args.text.now 0 (iterated_from c.next.new.self) c.loop-matches.all.items c.in-Matched.found
     found.found c.most_matches-most.result (c.in_err-push_within-in-Matched.ensures.too_much (sym p.2 ∙ is)) c.most_matches-most.ensures.most))
