@@ -6,7 +6,7 @@ use Rattle.regress_found.specs.declared.fault.MemoryFault.TheVariants as faults
 use Rattle.regress_match.specs.Memory.{SearchNeedsMore}
 use Rattle.regress.specs.Failures.{search_error_of}
 use Rattle.regress.specs.declared.failure.SearchError.{SearchError}
-use Rattle.regress.specs.Searched.{IsDue, IsTooCostly, searched_matcher, searched_text}
+use Rattle.regress.specs.Searched.{IsDue, IsTooCostly, next_from, searched_matcher, searched_text}
 use Rattle.regress.specs.declared.search.Matches.{Matches}
 use Rattle.regress.specs.declared.failure.SearchError.TheVariants.{OutOfSteps, TooMuchMemory}
 
@@ -33,7 +33,7 @@ if_too_much P (Err error) fault given known = λ is. known (too_much fault (sym 
 
 -- The error of a search for the next match is due.
 pub due_next : (m : Matches) (fault : MemoryFault) (error : SearchError) → error ≡ search_error_of fault →
-    (fault ≡ faults.TooMuchMemory → SearchNeedsMore (searched_matcher m) (searched_text m)) → IsDue m error
+    (fault ≡ faults.TooMuchMemory → SearchNeedsMore (searched_matcher m) (searched_text m) (next_from m)) → IsDue m error
 due_next m fault error same known = record {
   steps = λ is. absurd (never_steps fault (sym same ∙ is));
   memory = λ is. known (too_much fault (sym same ∙ is));

@@ -11,15 +11,15 @@ memory_of r = matcher.memory_of r.matcher
 abbrev pub instructions_of : Regex → ℕ
 instructions_of r = matcher.instructions_of r.matcher
 
--- A search in the text takes more memory than it may: its tables, or a backtrack stack.
-abbrev pub SearchNeedsMore : Regex → (text : List ℕ) → Type 0
-SearchNeedsMore r text = matcher.SearchNeedsMore r.matcher text
+-- A search in the text from there on takes more memory than it may: its tables, or a backtrack stack.
+abbrev pub SearchNeedsMore : Regex → (text : List ℕ) → (from : ℕ) → Type 0
+SearchNeedsMore r text from = matcher.SearchNeedsMore r.matcher text from
 
 -- the number of bytes that a match counts in a list
 abbrev pub match_bytes : Regex → ℕ
 match_bytes r = matcher.match_bytes r.matcher
 
--- A search for all matches in the text takes more memory than it may: its tables, a backtrack stack, or the list of the
--- matches.
-abbrev pub AllNeedMore : Regex → (text : List ℕ) → Type 0
-AllNeedMore r text = matcher.AllNeedMore r.matcher text
+-- A search for all matches in the text from there on takes more memory than it may: the tables or a backtrack stack of the
+-- search for one of them, or the list of the matches.
+abbrev pub AllNeedMore : Regex → (text : List ℕ) → (from : ℕ) → Type 0
+AllNeedMore r text from = matcher.AllNeedMore r.matcher text from

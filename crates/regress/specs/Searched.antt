@@ -95,7 +95,7 @@ pub record IsTooCostly (m : Matches) : Type 0 where
 -- states nothing.
 pub record IsDue (m : Matches) (error : SearchError) : Type 0 where
   pub steps : error ≡ OutOfSteps → IsTooCostly m
-  pub memory : error ≡ TooMuchMemory → SearchNeedsMore (searched_matcher m) (searched_text m)
+  pub memory : error ≡ TooMuchMemory → SearchNeedsMore (searched_matcher m) (searched_text m) (next_from m)
 
 -- What a search for the next match returns. An error leaves it where it was.
 abbrev pub Returns : Matches → Result (Option Match) SearchError → Matches → Type 0

@@ -40,7 +40,7 @@ impl Regex {
         ensures linear { IfErr result (λ error. error ≡ OutOfSteps → factor_in self.now text.now ≡ None) }
         ensures bounded { IfErr result (λ error. error ≡ OutOfSteps → find_factor_in self.now text.now ≡ None) }
         ensures costs { IfErr result (λ error. error ≡ OutOfSteps → CostsLimit self.now text.now 0) }
-        ensures too_much { IfErr result (λ error. error ≡ TooMuchMemory → SearchNeedsMore self.now text.now) }
+        ensures too_much { IfErr result (λ error. error ≡ TooMuchMemory → SearchNeedsMore self.now text.now 0) }
     {
         match self.find(alloc, text)? {
             Some(m) => Ok(replace_matches(
@@ -72,7 +72,7 @@ impl Regex {
             (λ m. expansion text.now m (groups_of self.now) template.now) (string_bytes out)) }
         ensures linear { IfErr result (λ error. error ≡ OutOfSteps → factor_in self.now text.now ≡ None) }
         ensures costs { IfErr result (λ error. error ≡ OutOfSteps → AllCostLimit self.now text.now 0) }
-        ensures too_much { IfErr result (λ error. error ≡ TooMuchMemory → AllNeedMore self.now text.now) }
+        ensures too_much { IfErr result (λ error. error ≡ TooMuchMemory → AllNeedMore self.now text.now 0) }
     {
         let matches = self.all_matches(alloc, text)?;
         Ok(replace_matches(alloc, text, &matches, template, &self.groups)?)
@@ -102,7 +102,7 @@ impl Regex {
             (λ m. expansion text.now m (groups_of self.now) template.now) (string_bytes out.0) out.1) }
         ensures linear { IfErr result (λ error. error ≡ OutOfSteps → factor_in self.now text.now ≡ None) }
         ensures costs { IfErr result (λ error. error ≡ OutOfSteps → AllCostLimit self.now text.now 0) }
-        ensures too_much { IfErr result (λ error. error ≡ TooMuchMemory → AllNeedMore self.now text.now) }
+        ensures too_much { IfErr result (λ error. error ≡ TooMuchMemory → AllNeedMore self.now text.now 0) }
     {
         let matches = self.first_matches(alloc, text, limit)?;
         let replaced = replace_matches(alloc, text, &matches, template, &self.groups)?;
@@ -132,7 +132,7 @@ impl Regex {
         requires { F.IsAlwaysCallable replacer }
         ensures replaced { IfOk result (λ out. ReplacesFirstWith text.now (outcomes_of self.now text.now) F.FnMut replacer (string_bytes out)) }
         ensures failed { IfErr result (λ error. error ≡ OutOfSteps → IsTooCostly self.now text.now 0 ⊎ HasReturned F.FnMut replacer error) }
-        ensures too_much { IfErr result (λ error. error ≡ TooMuchMemory → SearchNeedsMore self.now text.now ⊎ HasReturned F.FnMut replacer error) }
+        ensures too_much { IfErr result (λ error. error ≡ TooMuchMemory → SearchNeedsMore self.now text.now 0 ⊎ HasReturned F.FnMut replacer error) }
     {
         match self.find(alloc, text)? {
             Some(m) => replace_each(alloc, text, slice::from_ref(&m), replacer),
@@ -168,7 +168,7 @@ impl Regex {
         requires { F.IsAlwaysCallable replacer }
         ensures replaced { IfOk result (λ out. ReplacesAllWith text.now (outcomes_of self.now text.now) F.FnMut replacer (string_bytes out)) }
         ensures failed { IfErr result (λ error. error ≡ OutOfSteps → AllAreTooCostly self.now text.now 0 ⊎ HasReturned F.FnMut replacer error) }
-        ensures too_much { IfErr result (λ error. error ≡ TooMuchMemory → AllNeedMore self.now text.now ⊎ HasReturned F.FnMut replacer error) }
+        ensures too_much { IfErr result (λ error. error ≡ TooMuchMemory → AllNeedMore self.now text.now 0 ⊎ HasReturned F.FnMut replacer error) }
     {
         let matches = self.find_all(alloc, text)?;
         replace_each(alloc, text, &matches, replacer)

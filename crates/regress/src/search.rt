@@ -33,7 +33,7 @@ pub(crate) fn find(
     ensures linear { IfErr result (λ error. error ≡ OutOfSteps → factor_in matcher.now text.now ≡ None) }
     ensures bounded { IfErr result (λ error. error ≡ OutOfSteps → find_factor_in matcher.now text.now ≡ None) }
     ensures costs { IfErr result (λ error. error ≡ OutOfSteps → IsWithinFindCost matcher.now text.now from (find_limit_in matcher.now steps)) }
-    ensures too_much { IfErr result (λ error. error ≡ TooMuchMemory → SearchNeedsMore matcher.now text.now) }
+    ensures too_much { IfErr result (λ error. error ≡ TooMuchMemory → SearchNeedsMore matcher.now text.now from) }
 {
     let found = matcher.find_with(alloc, cache, text, from, steps)?;
     match found.outcome {
@@ -56,7 +56,7 @@ pub(crate) fn find_all(
     ensures held { IfOk result (λ all. match_bytes matcher.now * vec_capacity all ≤ memory_of matcher.now) }
     ensures linear { IfErr result (λ error. error ≡ OutOfSteps → factor_in matcher.now text.now ≡ None) }
     ensures costs { IfErr result (λ error. error ≡ OutOfSteps → CostsOfMatches matcher.now text.now 0 (limit_in matcher.now steps)) }
-    ensures too_much { IfErr result (λ error. error ≡ TooMuchMemory → AllNeedMore matcher.now text.now) }
+    ensures too_much { IfErr result (λ error. error ≡ TooMuchMemory → AllNeedMore matcher.now text.now 0) }
 {
     match matcher.find_all(alloc, text, steps)? {
         Some(all) => Ok(all),

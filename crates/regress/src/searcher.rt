@@ -68,7 +68,7 @@ impl Searcher {
         ensures linear { IfErr result (λ error. error ≡ OutOfSteps → factor_in regex.now text.now ≡ None) }
         ensures bounded { IfErr result (λ error. error ≡ OutOfSteps → find_factor_in regex.now text.now ≡ None) }
         ensures costs { IfErr result (λ error. error ≡ OutOfSteps → CostsLimit regex.now text.now start) }
-        ensures too_much { IfErr result (λ error. error ≡ TooMuchMemory → SearchNeedsMore regex.now text.now) }
+        ensures too_much { IfErr result (λ error. error ≡ TooMuchMemory → SearchNeedsMore regex.now text.now start) }
     {
         let found = search::find(
             alloc,
@@ -101,7 +101,7 @@ impl Searcher {
         ensures linear { IfErr result (λ error. error ≡ OutOfSteps → factor_in regex.now text.now ≡ None) }
         ensures bounded { IfErr result (λ error. error ≡ OutOfSteps → find_factor_in regex.now text.now ≡ None) }
         ensures costs { IfErr result (λ error. error ≡ OutOfSteps → CostsLimit regex.now text.now 0) }
-        ensures too_much { IfErr result (λ error. error ≡ TooMuchMemory → SearchNeedsMore regex.now text.now) }
+        ensures too_much { IfErr result (λ error. error ≡ TooMuchMemory → SearchNeedsMore regex.now text.now 0) }
     {
         match self.find_at(alloc, regex, text, 0)? {
             Some(found) => {

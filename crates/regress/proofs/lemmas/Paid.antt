@@ -8,12 +8,11 @@ use Rattle.regress_found.specs.declared.found.Match as matcher
 use Rattle.regress_match.specs.AllCosts.{matches_cost}
 use Rattle.regress_match.specs.Costs.{AreCosts, IsWithinFindCost}
 use Rattle.regress_match.specs.Matcher as program
-use Rattle.regress_match.specs.Memory as memory
+use Rattle.regress_match.specs.Memory.{NextNeedsMore, SearchNeedsMore}
 use Rattle.regress_match.proofs.lemmas.Costs.{has_costs}
 use Rattle.regress_match.proofs.lemmas.Matches.{matches_cost-more}
 use Rattle.regress.specs.Compiled.{outcomes_of, match_of}
 use Rattle.regress.specs.Costs.{AllAreTooCostly, factor_in, matcher_of, step_limit_of}
-use Rattle.regress.specs.Memory.{SearchNeedsMore}
 use Rattle.regress.specs.Searched.{Advances, next_from, search_limit, search_remaining, searched_matcher, searched_text}
 use Rattle.regress.specs.declared.failure.SearchError.{SearchError}
 use Rattle.regress.specs.declared.failure.SearchError.TheVariants.{OutOfSteps, TooMuchMemory}
@@ -80,7 +79,11 @@ module _ (r : Regex) (text : List ℕ) (from : ℕ) (now : Matches) (ms : List m
       }
 
   -- a search that needs too much memory
-  pub too_much_memory : (new : Matches) (e : SearchError) → Advances now (Some (Err e)) new → e ≡ TooMuchMemory → SearchNeedsMore r text
-  too_much_memory new e step is =
-      subst (λ m. memory.SearchNeedsMore m text) so_far.same_matcher
-      (subst (memory.SearchNeedsMore (searched_matcher now)) so_far.same_text (step.yields.1.memory is))
+  pub too_much_memory : (new : Matches) (e : SearchError) → Advances now (Some (Err e)) new → e ≡ TooMuchMemory → NextNeedsMore (matcher_of r) text from
+  too_much_memory new e step is = record {
+    ms = ms;
+    to = next_from now;
+    found = found;
+    more = subst (λ m. SearchNeedsMore m text (next_from now)) so_far.same_matcher
+        (subst (λ t. SearchNeedsMore (searched_matcher now) t (next_from now)) so_far.same_text (step.yields.1.memory is));
+  }

@@ -35,5 +35,5 @@ returns-in_err-found-clause-costs c =
 
 pub returns-in_err-found-clause-too_much : goal.returns-in_err-found-clause-too_much
 returns-in_err-found-clause-too_much c =
-    if_too_much (SearchNeedsMore c.args.matcher.now c.args.text.now) c.from_residual.result c.in_err-found.field-0.0 c.from_residual.ensures
+    if_too_much (SearchNeedsMore c.args.matcher.now c.args.text.now c.args.from) c.from_residual.result c.in_err-found.field-0.0 c.from_residual.ensures
     c.in_err-found.ensures.too_much

@@ -38,5 +38,5 @@ returns-in_err-all-clause-costs c =
 
 pub returns-in_err-all-clause-too_much : goal.returns-in_err-all-clause-too_much
 returns-in_err-all-clause-too_much c =
-    if_too_much (AllNeedMore c.args.matcher.now c.args.text.now) c.from_residual.result c.in_err-all.field-0.0 c.from_residual.ensures
+    if_too_much (AllNeedMore c.args.matcher.now c.args.text.now 0) c.from_residual.result c.in_err-all.field-0.0 c.from_residual.ensures
     c.in_err-all.ensures.too_much

@@ -76,8 +76,8 @@ returns-in_err-push_within-clause-too_much c =
     let more =
     one_more text (outcomes_of r text) c.loop-found.found-iterator (map match_of items) c.loop-found.invariant.has.found c.next.new.self
     c.in_ok-found.found step in
-    if_too_much (AllNeedMore r text) c.from_residual-in_err-push_within.result c.in_err-push_within.field-0.0 c.from_residual-in_err-push_within.ensures
-    (λ is. inr (matches_need_more (matcher_of r) text (next_from c.next.new.self) (map match_of items) (match_of c.in_ok-found.found) more.found
+    if_too_much (AllNeedMore r text 0) c.from_residual-in_err-push_within.result c.in_err-push_within.field-0.0 c.from_residual-in_err-push_within.ensures
+    (λ is. inr (matches_need_more (matcher_of r) text 0 (next_from c.next.new.self) (map match_of items) (match_of c.in_ok-found.found) more.found
     c.most_matches-most.result (omega (arith, c.in_err-push_within.ensures.too_much is, length-map items match_of)) c.most_matches-most.ensures.most))
 
 pub returns-clause-held : goal.returns-clause-held

@@ -65,9 +65,9 @@ returns-in_err-push_within-in-Some-clause-too_much c =
     let found = c.in_ok-found-in-Some.field-0 in
     let step = subst (λ x. Advances c.loop-matches.matches (Some x) c.next.new.self) c.in_ok-found-in-Some.was c.in-Some.ensures.steps in
     let more = one_more text (outcomes_of r text) c.loop-matches.matches items c.loop-matches.invariant.found c.next.new.self found step in
-    if_too_much (AllNeedMore r text) c.from_residual-in_err-push_within-in-Some.result c.in_err-push_within-in-Some.field-0.0
+    if_too_much (AllNeedMore r text 0) c.from_residual-in_err-push_within-in-Some.result c.in_err-push_within-in-Some.field-0.0
     c.from_residual-in_err-push_within-in-Some.ensures
-    (λ is. inr (matches_need_more (matcher_of r) text (next_from c.next.new.self) items (match_of found) more.found
+    (λ is. inr (matches_need_more (matcher_of r) text 0 (next_from c.next.new.self) items (match_of found) more.found
     c.most_matches-most.result (c.in_err-push_within-in-Some.ensures.too_much is) c.most_matches-most.ensures.most))
 
 pub returns-in-None-clause-first : goal.returns-in-None-clause-first
