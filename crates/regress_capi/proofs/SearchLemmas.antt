@@ -1,5 +1,5 @@
 -- The result of a search, from what it computed.
-use Rattle.std.proofs.Common.{◌≡◌, ◌+◌, ◌*◌, ◌++◌, ◌<◌, ◌≤◌, ℕ, arith, inr, add-one, drop-cons, false, get_or, IfNone, List, [], ◌∷◌, Option, drop, flat_map, length, length-append, append_assoc, append-nil, refl, sym, ap, ◌∙◌, subst}
+use Rattle.std.proofs.Common.{◌≡◌, ◌+◌, ◌*◌, ◌++◌, ◌<◌, ◌≤◌, ℕ, arith, inl, inr, add-one, drop-cons, false, get_or, IfNone, List, [], ◌∷◌, Option, drop, flat_map, length, length-append, append_assoc, append-nil, refl, sym, ap, ◌∙◌, subst}
 use Rattle.std.proofs.lemmas.Grind.{flat_map-append}
 use Rattle.std.specs.Prelude.{IfErr, IfOk, MatchOption, MatchResult, None, Some, Result, Ok, Err, option_map}
 use Rattle.regress.specs.declared.failure.SearchError.{SearchError}
@@ -8,12 +8,12 @@ use Rattle.regress_front.specs.Steps.{CaptureSpan, MatchState}
 use Rattle.regress_found.specs.Found as one
 use Rattle.regress_found.specs.declared.found.Match as found
 use Rattle.regress_found.specs.Repeated.{AreMatches, next_offset}
-use Rattle.regress_match.proofs.lemmas.Memory.{matches_need_more_from}
+use Rattle.regress_match.proofs.lemmas.Memory.{matches_need_more}
 use Rattle.regress_match.proofs.lemmas.Searched.{AreMatches-more}
 use Rattle.regress.proofs.lemmas.Paid.{HasPaid, none_paid, one_more_paid, out_of_steps as too_costly, too_much_memory as too_large}
 use Rattle.regress.specs.Compiled.{outcomes_of, match_of}
 use Rattle.regress.specs.Costs.{AllAreTooCostly, CostsLimit, IsTooCostly, factor_in, find_factor_in, matcher_of, step_limit_of}
-use Rattle.regress.specs.Memory.{AllNeedMore, SearchNeedsMore, match_bytes, memory_of}
+use Rattle.regress.specs.Memory.{AllNeedMore, match_bytes, memory_of}
 use Rattle.regress.specs.Searched.{Advances, has_failed, next_from, search_limit, search_remaining, searched_matcher, searched_outcomes, searched_text}
 use Rattle.regress.specs.declared.pattern.Regex.{Regex}
 use Rattle.regress.specs.declared.found.Match.{Match}
@@ -99,13 +99,13 @@ module _ (r : Regex) (text : List ℕ) (from : ℕ) (now : Matches) (numbers : L
       }
 
   -- one more match than a list may have room for
-  pub more-than-fit : (m : Match) (most : ℕ) → Advances now (Some (Ok m)) new → most ≤ count → memory_of r < match_bytes r * (most + 1) → AllNeedMore r text
+  pub more-than-fit : (m : Match) (most : ℕ) → Advances now (Some (Ok m)) new → most ≤ count → memory_of r < match_bytes r * (most + 1) → AllNeedMore r text from
   more-than-fit m most step full few =
       let next = step.yields.0 in
       let here : one.IsLeftmost text (outcomes_of r text) (next_from now) (match_of m) =
       subst (λ t. one.IsLeftmost t (outcomes_of r text) (next_from now) (match_of m)) sofar.same_text
       (subst (λ f. one.IsLeftmost (searched_text now) f (next_from now) (match_of m)) sofar.same_outcomes next.leftmost) in
-      inr (matches_need_more_from (matcher_of r) text from (next_offset (match_of m)) sofar.ms (match_of m)
+      inr (matches_need_more (matcher_of r) text from (next_offset (match_of m)) sofar.ms (match_of m)
       (AreMatches-more text (outcomes_of r text) from (next_from now) sofar.ms (match_of m) sofar.found here)
       most (omega (arith, full, sofar.counted)) few)
 
@@ -124,8 +124,8 @@ module _ (r : Regex) (text : List ℕ) (from : ℕ) (now : Matches) (numbers : L
   pub ends-late : (e : SearchError) → Advances now (Some (Err e)) new → e ≡ OutOfSteps → AllAreTooCostly r text from
   ends-late e step is = too_costly r text from now sofar.ms sofar.paid sofar.found new e step is
 
-  pub ends-large : (e : SearchError) → Advances now (Some (Err e)) new → e ≡ TooMuchMemory → SearchNeedsMore r text
-  ends-large e step is = too_large r text from now sofar.ms sofar.paid sofar.found new e step is
+  pub ends-large : (e : SearchError) → Advances now (Some (Err e)) new → e ≡ TooMuchMemory → AllNeedMore r text from
+  ends-large e step is = inl (too_large r text from now sofar.ms sofar.paid sofar.found new e step is)
 
 -- -- of a search that may fail
 

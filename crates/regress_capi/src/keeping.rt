@@ -27,7 +27,7 @@ pub fn keep_replaced(
 ) -> u32
     ensures status { ReplacedResult (IsUtf8 replaced.entry.text.now × IsUtf8 replaced.entry.template.now)
         (HasFirstsReplaced regex.now replaced.entry.text.now replaced.entry.template.now replaced.entry.limit)
-        (AllAreTooCostly regex.now replaced.entry.text.now 0) (AllNeedMore regex.now replaced.entry.text.now)
+        (AllAreTooCostly regex.now replaced.entry.text.now 0) (AllNeedMore regex.now replaced.entry.text.now 0)
         handle.old.value result handle.new.value }
 {
     match decode(replaced.text, replaced.template) {
@@ -52,7 +52,7 @@ fn kept(
 ) -> Result<Box<ReplacedText>, SearchError>
     ensures replaced { IfOk result (λ kept. HasFirstsReplaced regex.now text.now template.now limit (count_of kept.value) (bytes_of kept.value)) }
     ensures failed { IfErr result (λ error. error ≡ OutOfSteps → AllAreTooCostly regex.now text.now 0) }
-    ensures too_much { IfErr result (λ error. error ≡ TooMuchMemory → AllNeedMore regex.now text.now) }
+    ensures too_much { IfErr result (λ error. error ≡ TooMuchMemory → AllNeedMore regex.now text.now 0) }
 {
     let (text, count) = regex.replacen(alloc, text, template, limit)?;
     Ok(Box::new(alloc, ReplacedText { text, count })?)

@@ -27,7 +27,7 @@ pub fn write_list(
 ) -> u32
     ensures status { ListResult (IsUtf8 searched.entry.text.now)
         (AreEndsOfAll searched.entry.text.now (outcomes_of regex.now searched.entry.text.now) searched.entry.from) (width_of (groups_of regex.now))
-        (AllAreTooCostly regex.now searched.entry.text.now searched.entry.from) (AllNeedMore regex.now searched.entry.text.now)
+        (AllAreTooCostly regex.now searched.entry.text.now searched.entry.from) (AllNeedMore regex.now searched.entry.text.now searched.entry.from)
         handle.old.value result handle.new.value }
 {
     match str::from_utf8(searched.text) {
@@ -51,7 +51,7 @@ fn list(
 ) -> Result<Box<MatchList>, SearchError>
     ensures listed { IfOk result (λ list. IsListOf (AreEndsOfAll text.now (outcomes_of regex.now text.now) from) (width_of (groups_of regex.now)) list.value) }
     ensures failed { IfErr result (λ error. error ≡ OutOfSteps → AllAreTooCostly regex.now text.now from) }
-    ensures too_much { IfErr result (λ error. error ≡ TooMuchMemory → AllNeedMore regex.now text.now) }
+    ensures too_much { IfErr result (λ error. error ≡ TooMuchMemory → AllNeedMore regex.now text.now from) }
 {
     let Some(ends) = all_ends(alloc, regex, text, from)? else {
         unreachable!()

@@ -33,7 +33,7 @@ pub fn write_first_replaced(
 ) -> u32
     ensures status { SearchResult (IsUtf8 replaced.entry.text.now × IsUtf8 replaced.entry.template.now)
         (HasFirstReplaced regex.now replaced.entry.text.now replaced.entry.template.now) ⊥
-        (IsTooCostly regex.now replaced.entry.text.now 0) (SearchNeedsMore regex.now replaced.entry.text.now) out.old result needed.new out.new }
+        (IsTooCostly regex.now replaced.entry.text.now 0) (SearchNeedsMore regex.now replaced.entry.text.now 0) out.old result needed.new out.new }
 {
     *needed = 0;
     match decode(replaced.text, replaced.template) {
@@ -55,7 +55,7 @@ pub fn write_all_replaced(
 ) -> u32
     ensures status { SearchResult (IsUtf8 replaced.entry.text.now × IsUtf8 replaced.entry.template.now)
         (HasAllReplaced regex.now replaced.entry.text.now replaced.entry.template.now) ⊥
-        (AllAreTooCostly regex.now replaced.entry.text.now 0) (AllNeedMore regex.now replaced.entry.text.now) out.old result needed.new out.new }
+        (AllAreTooCostly regex.now replaced.entry.text.now 0) (AllNeedMore regex.now replaced.entry.text.now 0) out.old result needed.new out.new }
 {
     *needed = 0;
     match decode(replaced.text, replaced.template) {
@@ -93,7 +93,7 @@ pub fn write_replaced(
 ) -> Counted
     ensures status { SearchResult (IsUtf8 replaced.entry.text.now × IsUtf8 replaced.entry.template.now)
         (HasFirstsReplaced regex.now replaced.entry.text.now replaced.entry.template.now replaced.entry.limit result.count) ⊥
-        (AllAreTooCostly regex.now replaced.entry.text.now 0) (AllNeedMore regex.now replaced.entry.text.now) out.old result.status result.needed out.new }
+        (AllAreTooCostly regex.now replaced.entry.text.now 0) (AllNeedMore regex.now replaced.entry.text.now 0) out.old result.status result.needed out.new }
     ensures none { result.status ≢ 0 → result.status ≢ 3 → result.count ≡ 0 }
 {
     match decode(replaced.text, replaced.template) {

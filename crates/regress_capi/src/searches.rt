@@ -66,7 +66,7 @@ pub fn write_first(
     ensures status { SearchResult (IsUtf8 searched.entry.text.now)
         (AreEndsOfFirst searched.entry.text.now (outcomes_of regex.now searched.entry.text.now) searched.entry.from)
         (Finds searched.entry.text.now (outcomes_of regex.now searched.entry.text.now) searched.entry.from None)
-        (IsTooCostly regex.now searched.entry.text.now searched.entry.from) (SearchNeedsMore regex.now searched.entry.text.now) spans.old result needed.new spans.new }
+        (IsTooCostly regex.now searched.entry.text.now searched.entry.from) (SearchNeedsMore regex.now searched.entry.text.now searched.entry.from) spans.old result needed.new spans.new }
 {
     let mut searcher = Searcher::new(alloc);
     write_first_with(alloc, &mut searcher, regex, searched, spans, needed)
@@ -90,7 +90,7 @@ pub fn write_first_with(
     ensures status { SearchResult (IsUtf8 searched.entry.text.now)
         (AreEndsOfFirst searched.entry.text.now (outcomes_of regex.now searched.entry.text.now) searched.entry.from)
         (Finds searched.entry.text.now (outcomes_of regex.now searched.entry.text.now) searched.entry.from None)
-        (IsTooCostly regex.now searched.entry.text.now searched.entry.from) (SearchNeedsMore regex.now searched.entry.text.now) spans.old result needed.new spans.new }
+        (IsTooCostly regex.now searched.entry.text.now searched.entry.from) (SearchNeedsMore regex.now searched.entry.text.now searched.entry.from) spans.old result needed.new spans.new }
 {
     *needed = 0;
     match str::from_utf8(searched.text) {
@@ -115,7 +115,7 @@ pub fn write_all(
 ) -> u32
     ensures status { SearchResult (IsUtf8 searched.entry.text.now)
         (AreEndsOfAll searched.entry.text.now (outcomes_of regex.now searched.entry.text.now) searched.entry.from) ⊥
-        (AllAreTooCostly regex.now searched.entry.text.now searched.entry.from) (AllNeedMore regex.now searched.entry.text.now) spans.old result needed.new spans.new }
+        (AllAreTooCostly regex.now searched.entry.text.now searched.entry.from) (AllNeedMore regex.now searched.entry.text.now searched.entry.from) spans.old result needed.new spans.new }
 {
     *needed = 0;
     match str::from_utf8(searched.text) {
@@ -132,7 +132,7 @@ pub fn write_all(
 pub fn test(alloc: Global, regex: &Regex, text: &[u8]) -> u32
     ensures status { TestResult (IsUtf8 text.now) (MatchesSomewhere text.now (outcomes_of regex.now text.now))
         (MatchesSomewhere text.now (outcomes_of regex.now text.now) → ⊥) (IsTooCostly regex.now text.now 0)
-        (SearchNeedsMore regex.now text.now) result }
+        (SearchNeedsMore regex.now text.now 0) result }
 {
     let mut searcher = Searcher::new(alloc);
     test_with(alloc, &mut searcher, regex, text)
@@ -145,7 +145,7 @@ pub fn test(alloc: Global, regex: &Regex, text: &[u8]) -> u32
 pub fn test_with(alloc: Global, searcher: &mut Searcher, regex: &Regex, text: &[u8]) -> u32
     ensures status { TestResult (IsUtf8 text.now) (MatchesSomewhere text.now (outcomes_of regex.now text.now))
         (MatchesSomewhere text.now (outcomes_of regex.now text.now) → ⊥) (IsTooCostly regex.now text.now 0)
-        (SearchNeedsMore regex.now text.now) result }
+        (SearchNeedsMore regex.now text.now 0) result }
 {
     match str::from_utf8(text) {
         Ok(text) => match searcher.is_match(alloc, regex, text) {
@@ -267,7 +267,7 @@ pub(crate) fn all_ends(
 ) -> Result<Option<Vec<usize>>, SearchError>
     ensures ends { IfOk result (λ some. MatchOption some ⊥ (λ ends. AreEndsOfAll text.now (outcomes_of regex.now text.now) from ends.items)) }
     ensures failed { IfErr result (λ error. error ≡ OutOfSteps → AllAreTooCostly regex.now text.now from) }
-    ensures too_much { IfErr result (λ error. error ≡ TooMuchMemory → AllNeedMore regex.now text.now) }
+    ensures too_much { IfErr result (λ error. error ≡ TooMuchMemory → AllNeedMore regex.now text.now from) }
 {
     let most = regex.most_matches();
     let mut count = 0;

@@ -28,7 +28,7 @@ pub struct Split<'a> {
 /// if it needs more memory than allowed.
 pub fn write_parts(alloc: Global, regex: &Regex, split: Split<'_>, handle: &mut ListHandle) -> u32
     ensures status { ListResult (IsUtf8 split.entry.text.now) (AreEndsOfParts regex.now split.entry.text.now split.entry.limit) 2
-        (AllAreTooCostly regex.now split.entry.text.now 0) (AllNeedMore regex.now split.entry.text.now) handle.old.value result handle.new.value }
+        (AllAreTooCostly regex.now split.entry.text.now 0) (AllNeedMore regex.now split.entry.text.now 0) handle.old.value result handle.new.value }
 {
     match str::from_utf8(split.text) {
         Ok(text) => match parts(alloc, regex, text, split.limit) {
@@ -51,7 +51,7 @@ fn parts(
 ) -> Result<Box<MatchList>, SearchError>
     ensures listed { IfOk result (λ list. IsListOf (AreEndsOfParts regex.now text.now limit) 2 list.value) }
     ensures failed { IfErr result (λ error. error ≡ OutOfSteps → AllAreTooCostly regex.now text.now 0) }
-    ensures too_much { IfErr result (λ error. error ≡ TooMuchMemory → AllNeedMore regex.now text.now) }
+    ensures too_much { IfErr result (λ error. error ≡ TooMuchMemory → AllNeedMore regex.now text.now 0) }
 {
     let list = MatchList {
         ends: part_ends(alloc, regex, text, limit)?,
@@ -70,7 +70,7 @@ fn part_ends(
 ) -> Result<Vec<usize>, SearchError>
     ensures ends { IfOk result (λ ends. AreEndsOfParts regex.now text.now limit ends.items) }
     ensures failed { IfErr result (λ error. error ≡ OutOfSteps → AllAreTooCostly regex.now text.now 0) }
-    ensures too_much { IfErr result (λ error. error ≡ TooMuchMemory → AllNeedMore regex.now text.now) }
+    ensures too_much { IfErr result (λ error. error ≡ TooMuchMemory → AllNeedMore regex.now text.now 0) }
 {
     let spans = regex.split_spans(alloc, text, Some(limit))?;
     Ok(all_ends(alloc, &spans)?)

@@ -23,7 +23,7 @@ returns-in-Err c = record {
   status =
       replaced-fails c.in-Err.error (c.in-Some.ensures.2, c.in-Some.ensures.3)
       (λ is. subst (λ t. AllAreTooCostly c.args.regex.now t 0) c.in-Some.ensures.0 (c.in-Err.ensures.failed is))
-      (λ is. subst (AllNeedMore c.args.regex.now) c.in-Some.ensures.0 (c.in-Err.ensures.too_much is))
+      (λ is. subst (λ t. AllNeedMore c.args.regex.now t 0) c.in-Some.ensures.0 (c.in-Err.ensures.too_much is))
       c.error_status.ensures;
 }
 

@@ -21,7 +21,7 @@ returns-in-Err-list c = record {
   status =
       list-fails c.in-Err-list.error c.in-Ok.ensures.cases.1
       (λ is. subst (λ t. AllAreTooCostly c.args.regex.now t c.args.searched.from) c.in-Ok.ensures.cases.0 (c.in-Err-list.ensures.failed is))
-      (λ is. subst (AllNeedMore c.args.regex.now) c.in-Ok.ensures.cases.0 (c.in-Err-list.ensures.too_much is))
+      (λ is. subst (λ t. AllNeedMore c.args.regex.now t c.args.searched.from) c.in-Ok.ensures.cases.0 (c.in-Err-list.ensures.too_much is))
       c.error_status.ensures;
 }
 

@@ -17,7 +17,7 @@ returns-in-Some c = record {
       c.replace_all.ensures.replaced))
       (subst (λ t. IfErr c.replace_all.result (λ error. error ≡ OutOfSteps → AllAreTooCostly c.args.regex.now t 0)) c.in-Some.ensures.0
       (all_costly c.args.regex.now c.in-Some.text.now 0 c.replace_all.result c.replace_all.ensures.linear c.replace_all.ensures.costs))
-      (subst (λ t. IfErr c.replace_all.result (λ error. error ≡ TooMuchMemory → AllNeedMore c.args.regex.now t)) c.in-Some.ensures.0
+      (subst (λ t. IfErr c.replace_all.result (λ error. error ≡ TooMuchMemory → AllNeedMore c.args.regex.now t 0)) c.in-Some.ensures.0
       c.replace_all.ensures.too_much)
       c.report.ensures;
 }

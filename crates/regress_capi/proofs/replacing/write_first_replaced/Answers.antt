@@ -17,7 +17,7 @@ returns-in-Some c = record {
       c.replace.ensures.replaced))
       (subst (λ t. IfErr c.replace.result (λ error. error ≡ OutOfSteps → IsTooCostly c.args.regex.now t 0)) c.in-Some.ensures.0
       (costly c.args.regex.now c.in-Some.text.now 0 c.replace.result c.replace.ensures.linear c.replace.ensures.bounded c.replace.ensures.costs))
-      (subst (λ t. IfErr c.replace.result (λ error. error ≡ TooMuchMemory → SearchNeedsMore c.args.regex.now t)) c.in-Some.ensures.0
+      (subst (λ t. IfErr c.replace.result (λ error. error ≡ TooMuchMemory → SearchNeedsMore c.args.regex.now t 0)) c.in-Some.ensures.0
       c.replace.ensures.too_much)
       c.report.ensures;
 }

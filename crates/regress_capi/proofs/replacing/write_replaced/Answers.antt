@@ -19,7 +19,7 @@ returns-in-Some c = record {
       c.in-Some.ensures.0 c.replacen.ensures.replaced))
       (subst (λ t. IfErr c.replacen.result (λ error. error ≡ OutOfSteps → AllAreTooCostly c.args.regex.now t 0)) c.in-Some.ensures.0
       (all_costly c.args.regex.now c.in-Some.text.now 0 c.replacen.result c.replacen.ensures.linear c.replacen.ensures.costs))
-      (subst (λ t. IfErr c.replacen.result (λ error. error ≡ TooMuchMemory → AllNeedMore c.args.regex.now t)) c.in-Some.ensures.0
+      (subst (λ t. IfErr c.replacen.result (λ error. error ≡ TooMuchMemory → AllNeedMore c.args.regex.now t 0)) c.in-Some.ensures.0
       c.replacen.ensures.too_much)
       c.report_counted.ensures;
   none = counted-none c.args.out.now c.report_counted.new.out c.report_counted.result.needed c.replacen.result c.report_counted.ensures;

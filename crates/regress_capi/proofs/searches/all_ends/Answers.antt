@@ -1,4 +1,4 @@
-use Rattle.std.proofs.Common.{Some, arith, inl, subst, sym, ◌∙◌}
+use Rattle.std.proofs.Common.{Some, arith, subst, sym, ◌∙◌}
 use Rattle.std.proofs.lemmas.Result.{err_from_is_err_and}
 use Rattle.regress.specs.Searched.{Advances}
 use Rattle.regress_capi.proofs.SearchLemmas.{HasEnds, all-ends, ends-large, ends-late, more-ends, more-than-fit, no-ends}
@@ -36,8 +36,8 @@ returns-in_err-found-clause-too_much c =
     let p = err_from_is_err_and c.from_residual.result c.from_residual.ensures.1 in
     let now = c.loop-found.found-iterator in
     let new = c.next.new.self in
-    rw p.1 (λ is. inl (ends-large c.args.regex.now c.args.text.now c.args.from now c.loop-found.ends.items c.loop-found.count c.loop-found.invariant new _
-    (subst (λ r. Advances now (Some r) new) c.in_err-found.was c.in-Some.ensures.steps) (sym p.2 ∙ is)))
+    rw p.1 (λ is. ends-large c.args.regex.now c.args.text.now c.args.from now c.loop-found.ends.items c.loop-found.count c.loop-found.invariant new _
+    (subst (λ r. Advances now (Some r) new) c.in_err-found.was c.in-Some.ensures.steps) (sym p.2 ∙ is))
 
 pub returns-then-count-most-clause-too_much : goal.returns-then-count-most-clause-too_much
 returns-then-count-most-clause-too_much c = λ _.

@@ -31,7 +31,7 @@ returns-in-Err-is_match c = record {
         bounded = c.in-Err-is_match.ensures.bounded is;
         costs = c.in-Err-is_match.ensures.costs is;
       }))
-      (λ is. subst (SearchNeedsMore c.args.regex.now) c.in-Ok.ensures.cases.0 (c.in-Err-is_match.ensures.too_much is))
+      (λ is. subst (λ t. SearchNeedsMore c.args.regex.now t 0) c.in-Ok.ensures.cases.0 (c.in-Err-is_match.ensures.too_much is))
       c.error_status.ensures;
 }
 

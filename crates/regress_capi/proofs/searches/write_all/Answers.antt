@@ -13,7 +13,7 @@ returns-in-Ok c = record {
   status =
       subst
       (λ t. SearchResult (IsUtf8 c.args.searched.text.now) (AreEndsOfAll t (outcomes_of c.args.regex.now t) c.args.searched.from)
-      ⊥ (AllAreTooCostly c.args.regex.now t c.args.searched.from) (AllNeedMore c.args.regex.now t) c.args.spans.now c.report.result c.report.new.needed c.report.new.buffer)
+      ⊥ (AllAreTooCostly c.args.regex.now t c.args.searched.from) (AllNeedMore c.args.regex.now t c.args.searched.from) c.args.spans.now c.report.result c.report.new.needed c.report.new.buffer)
       c.in-Ok.ensures.cases.0
       (search-reports (λ v. v.items) c.all_ends.result c.in-Ok.ensures.cases.1 c.all_ends.ensures.ends c.all_ends.ensures.failed c.all_ends.ensures.too_much
       c.report.ensures);

@@ -16,7 +16,7 @@ returns-in-Ok c =
       status =
           subst
           (λ t. SearchResult (IsUtf8 c.args.searched.text.now) (AreEndsOfFirst t (outcomes_of c.args.regex.now t) c.args.searched.from)
-          (Finds t (outcomes_of c.args.regex.now t) c.args.searched.from None) (IsTooCostly c.args.regex.now t c.args.searched.from) (SearchNeedsMore c.args.regex.now t) c.args.spans.now c.report_first.result c.report_first.new.needed c.report_first.new.buffer)
+          (Finds t (outcomes_of c.args.regex.now t) c.args.searched.from None) (IsTooCostly c.args.regex.now t c.args.searched.from) (SearchNeedsMore c.args.regex.now t c.args.searched.from) c.args.spans.now c.report_first.result c.report_first.new.needed c.report_first.new.buffer)
           c.in-Ok.ensures.cases.0
           (search-reports (λ m. match_ends (match_of m)) c.find_at-found.result c.in-Ok.ensures.cases.1 (first-found _ _ c.args.searched.from c.find_at-found.result search.finds)
           (too-costly c.args.regex.now _ c.args.searched.from c.find_at-found.result search.linear search.bounded search.costs) search.too_much c.report_first.ensures);

@@ -20,7 +20,7 @@ returns-in-Err-parts c = record {
   status =
       list-fails c.in-Err-parts.error c.in-Ok.ensures.cases.1
       (λ is. subst (λ t. AllAreTooCostly c.args.regex.now t 0) c.in-Ok.ensures.cases.0 (c.in-Err-parts.ensures.failed is))
-      (λ is. subst (AllNeedMore c.args.regex.now) c.in-Ok.ensures.cases.0 (c.in-Err-parts.ensures.too_much is))
+      (λ is. subst (λ t. AllNeedMore c.args.regex.now t 0) c.in-Ok.ensures.cases.0 (c.in-Err-parts.ensures.too_much is))
       c.error_status.ensures;
 }
 
