@@ -35,7 +35,7 @@ pub extern "C" fn regress_matches_new_raw(
     ensures same { handle.new.value ≡ handle.old.value }
     ensures status { IfSome handle.old.value (λ regex. ListResult (IsUtf8 text.now)
         (AreEndsOfAll text.now (outcomes_of regex text.now) from) (width_of (groups_of regex)) (AllAreTooCostly regex text.now from)
-        (AllNeedMore regex text.now) matches.old.value result matches.new.value) }
+        (AllNeedMore regex text.now from) matches.old.value result matches.new.value) }
 {
     let regex = handle.take(alloc);
     let status = write_list(alloc, &regex, Searched { text, from }, matches);
@@ -62,7 +62,7 @@ pub extern "C" fn regress_split_raw(
     requires { handle.old.value ≡ None → ⊥ }
     ensures same { handle.new.value ≡ handle.old.value }
     ensures status { IfSome handle.old.value (λ regex. ListResult (IsUtf8 text.now) (AreEndsOfParts regex text.now limit) 2
-        (AllAreTooCostly regex text.now 0) (AllNeedMore regex text.now) parts.old.value result parts.new.value) }
+        (AllAreTooCostly regex text.now 0) (AllNeedMore regex text.now 0) parts.old.value result parts.new.value) }
 {
     let regex = handle.take(alloc);
     let status = write_parts(alloc, &regex, Split { text, limit }, parts);

@@ -79,7 +79,7 @@ pub extern "C" fn regress_find_raw(
     ensures same { handle.new.value ≡ handle.old.value }
     ensures status { IfSome handle.old.value (λ regex. SearchResult (IsUtf8 text.now)
         (AreEndsOfFirst text.now (outcomes_of regex text.now) from) (Finds text.now (outcomes_of regex text.now) from None)
-        (IsTooCostly regex text.now from) (SearchNeedsMore regex text.now) spans.old result needed.new spans.new) }
+        (IsTooCostly regex text.now from) (SearchNeedsMore regex text.now from) spans.old result needed.new spans.new) }
 {
     let regex = handle.take(alloc);
     let status = searches::write_first(alloc, &regex, Searched { text, from }, spans, needed);
@@ -107,7 +107,7 @@ pub extern "C" fn regress_find_all_raw(
     requires { handle.old.value ≡ None → ⊥ }
     ensures same { handle.new.value ≡ handle.old.value }
     ensures status { IfSome handle.old.value (λ regex. SearchResult (IsUtf8 text.now)
-        (AreEndsOfAll text.now (outcomes_of regex text.now) from) ⊥ (AllAreTooCostly regex text.now from) (AllNeedMore regex text.now)
+        (AreEndsOfAll text.now (outcomes_of regex text.now) from) ⊥ (AllAreTooCostly regex text.now from) (AllNeedMore regex text.now from)
         spans.old result needed.new spans.new) }
 {
     let regex = handle.take(alloc);
@@ -130,7 +130,7 @@ pub extern "C" fn regress_is_match_raw(alloc: Global, handle: &mut Handle, text:
     ensures same { handle.new.value ≡ handle.old.value }
     ensures status { IfSome handle.old.value (λ regex. TestResult (IsUtf8 text.now)
         (MatchesSomewhere text.now (outcomes_of regex text.now)) (MatchesSomewhere text.now (outcomes_of regex text.now) → ⊥)
-        (IsTooCostly regex text.now 0) (SearchNeedsMore regex text.now) result) }
+        (IsTooCostly regex text.now 0) (SearchNeedsMore regex text.now 0) result) }
 {
     let regex = handle.take(alloc);
     let status = searches::test(alloc, &regex, text);

@@ -34,7 +34,7 @@ pub extern "C" fn regress_replace_raw(
     requires { handle.old.value ≡ None → ⊥ }
     ensures same { handle.new.value ≡ handle.old.value }
     ensures status { IfSome handle.old.value (λ regex. SearchResult (IsUtf8 text.now × IsUtf8 template.now)
-        (HasFirstReplaced regex text.now template.now) ⊥ (IsTooCostly regex text.now 0) (SearchNeedsMore regex text.now)
+        (HasFirstReplaced regex text.now template.now) ⊥ (IsTooCostly regex text.now 0) (SearchNeedsMore regex text.now 0)
         out.old result needed.new out.new) }
 {
     let regex = handle.take(alloc);
@@ -68,7 +68,7 @@ pub extern "C" fn regress_replace_all_raw(
     requires { handle.old.value ≡ None → ⊥ }
     ensures same { handle.new.value ≡ handle.old.value }
     ensures status { IfSome handle.old.value (λ regex. SearchResult (IsUtf8 text.now × IsUtf8 template.now)
-        (HasAllReplaced regex text.now template.now) ⊥ (AllAreTooCostly regex text.now 0) (AllNeedMore regex text.now)
+        (HasAllReplaced regex text.now template.now) ⊥ (AllAreTooCostly regex text.now 0) (AllNeedMore regex text.now 0)
         out.old result needed.new out.new) }
 {
     let regex = handle.take(alloc);
@@ -104,7 +104,7 @@ pub extern "C" fn regress_replace_n_raw(
     requires { handle.old.value ≡ None → ⊥ }
     ensures same { handle.new.value ≡ handle.old.value }
     ensures status { IfSome handle.old.value (λ regex. SearchResult (IsUtf8 text.now × IsUtf8 template.now)
-        (HasFirstsReplaced regex text.now template.now limit count.new) ⊥ (AllAreTooCostly regex text.now 0) (AllNeedMore regex text.now)
+        (HasFirstsReplaced regex text.now template.now limit count.new) ⊥ (AllAreTooCostly regex text.now 0) (AllNeedMore regex text.now 0)
         out.old result needed.new out.new) }
     ensures none { result ≢ 0 → result ≢ 3 → count.new ≡ 0 }
 {

@@ -33,7 +33,7 @@ pub extern "C" fn regress_replaced_new_raw(
     requires { handle.old.value ≡ None → ⊥ }
     ensures same { handle.new.value ≡ handle.old.value }
     ensures status { IfSome handle.old.value (λ regex. ReplacedResult (IsUtf8 text.now × IsUtf8 template.now)
-        (HasFirstsReplaced regex text.now template.now limit) (AllAreTooCostly regex text.now 0) (AllNeedMore regex text.now)
+        (HasFirstsReplaced regex text.now template.now limit) (AllAreTooCostly regex text.now 0) (AllNeedMore regex text.now 0)
         replaced.old.value result replaced.new.value) }
 {
     let regex = handle.take(alloc);

@@ -49,7 +49,7 @@ pub extern "C" fn regress_searcher_find_raw(
     ensures same { handle.new.value ≡ handle.old.value }
     ensures status { IfSome handle.old.value (λ regex. SearchResult (IsUtf8 text.now)
         (AreEndsOfFirst text.now (outcomes_of regex text.now) from) (Finds text.now (outcomes_of regex text.now) from None)
-        (IsTooCostly regex text.now from) (SearchNeedsMore regex text.now) spans.old result needed.new spans.new) }
+        (IsTooCostly regex text.now from) (SearchNeedsMore regex text.now from) spans.old result needed.new spans.new) }
 {
     let mut kept = searcher.take(alloc);
     let regex = handle.take(alloc);
@@ -80,7 +80,7 @@ pub extern "C" fn regress_searcher_is_match_raw(
     ensures same { handle.new.value ≡ handle.old.value }
     ensures status { IfSome handle.old.value (λ regex. TestResult (IsUtf8 text.now)
         (MatchesSomewhere text.now (outcomes_of regex text.now)) (MatchesSomewhere text.now (outcomes_of regex text.now) → ⊥)
-        (IsTooCostly regex text.now 0) (SearchNeedsMore regex text.now) result) }
+        (IsTooCostly regex text.now 0) (SearchNeedsMore regex text.now 0) result) }
 {
     let mut kept = searcher.take(alloc);
     let regex = handle.take(alloc);
