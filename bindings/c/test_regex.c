@@ -327,6 +327,10 @@ static void memory_is_limited(void) {
     /* a match has 2,001 spans */
     CHECK(within_memory(mib, groups, 'a', 10000, 1, 3 * mib) == REGRESS_TOO_MUCH_MEMORY);
     CHECK(within_memory(mib, groups, 'a', 15, 1, 3 * mib) == REGRESS_ROOM);
+    /* a list has room for three matches, each with one group */
+    CHECK(within_memory(3 * (56 + 24), "(a)", 'a', 3, 1, mib) == REGRESS_OK);
+    CHECK(within_memory(3 * (56 + 24), "(a)", 'a', 4, 1, mib) == REGRESS_TOO_MUCH_MEMORY);
+    CHECK(within_memory(3 * (56 + 24) - 1, "(a)", 'a', 3, 1, mib) == REGRESS_TOO_MUCH_MEMORY);
 }
 
 static void lists(void) {
