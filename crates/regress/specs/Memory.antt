@@ -19,7 +19,7 @@ SearchNeedsMore r text from = matcher.SearchNeedsMore r.matcher text from
 abbrev pub match_bytes : Regex → ℕ
 match_bytes r = matcher.match_bytes r.matcher
 
--- A search for all matches in the text from there on takes more memory than it may: the tables or a backtrack stack of the
--- search for one of them, or the list of the matches.
+-- A search for all matches in the text from there on takes more memory than it may: the tables or a backtrack stack of
+-- the search for one of them, or the list of the matches.
 abbrev pub AllNeedMore : Regex → (text : List ℕ) → (from : ℕ) → Type 0
 AllNeedMore r text from = matcher.AllNeedMore r.matcher text from

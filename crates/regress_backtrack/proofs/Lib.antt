@@ -11,4 +11,4 @@ pub mod SearchLemmas
 pub mod SweepLemmas
 pub mod LeadLemmas
 pub mod LeaveLemmas
-pub mod BoundaryLemmas
+pub mod BeginningLemmas

@@ -1,4 +1,4 @@
--- Loops whose characters what follows them excludes.
+-- Possessive loops: what follows begins with none of their characters.
 use Rattle.std.proofs.Common.{◌≡◌, ℕ, zero, suc, ◌+◌, ◌≤◌, ◌<◌, Bool, true, List, [], ◌∷◌, ◌++◌, length, get_or, slice_get, slice_index, flat_map, refl, sym, ap, ◌∙◌, subst, append-nil, arith}
 use Rattle.regress_base.specs.ByteBitmap.{contains}
 use Rattle.regress_base.specs.declared.bytesearch.bitmap.ByteBitmap.{ByteBitmap}

@@ -1,5 +1,5 @@
 pub mod Backtracker
-pub mod Boundary
+pub mod Beginning
 pub mod Costs
 pub mod Lead
 pub mod Machine

@@ -33,8 +33,8 @@ pub struct Input<'c, 'x> {
     pub next_bytes: &'c [NextBytes],
     /// The skips of the first instructions.
     pub skips: &'c [Skip],
-    /// For each instruction whether it ends an iteration of a greedy loop over one character, and the next bytes of what
-    /// follows the loop exclude the ASCII characters of the loop.
+    /// For each of the first instructions whether it is known to end an iteration of a possessive loop; empty if the
+    /// next bytes do not hold.
     pub possessive: &'c [bool],
     /// The index of the instruction at which a match starts.
     pub first: usize,
@@ -176,8 +176,7 @@ pub fn counts_at<'c>(input: &Input<'c, '_>, pc: usize) -> &'c [u8]
     }
 }
 
-/// Returns whether an instruction ends an iteration of a greedy loop over one character, and the next bytes of what follows
-/// the loop exclude the ASCII characters of the loop.
+/// Returns whether an instruction is known to end an iteration of a possessive loop.
 ///
 /// # Preconditions
 /// The input is one that `input_for` returns.

@@ -3,7 +3,7 @@
 
 mod alternatives;
 mod backtracker;
-mod boundary;
+mod beginning;
 mod cache;
 mod input;
 mod lead;

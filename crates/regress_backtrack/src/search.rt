@@ -1,5 +1,5 @@
 //! Searching a text from left to right.
-ghost use Rattle.std.specs.Prelude.{◌≡◌, ◌≤◌, ◌<◌, ◌+◌, ◌-◌, ◌*◌, [], ℕ, IfErr, IfOk, IfSome, MatchOption, Some, length, min, true};
+ghost use Rattle.std.specs.Prelude.{◌≡◌, ◌≤◌, ◌<◌, ◌+◌, ◌-◌, ◌*◌, [], ℕ, IfErr, IfOk, IfSome, MatchOption, Some, length, min};
 ghost use Rattle.regress_tree.specs.Tree.{Tree};
 ghost use Rattle.regress_unicode.specs.declared.Tables.{Tables};
 ghost use Rattle.regress_program.specs.Compiled.{IsPattern};
@@ -11,13 +11,13 @@ ghost use Rattle.regress_found.specs.Results.{IfMatched, IsSearchResult, IsMatch
 ghost use Rattle.regress_found.specs.Tried.{positions_tried};
 ghost use Rattle.regress_found.specs.declared.fault.MemoryFault.TheVariants.{TooMuchMemory};
 ghost use Rattle.regress_backtrack.specs.Memory.{IsWithin, entries_in};
-ghost use Rattle.regress_backtrack.specs.Boundary.{BeginsWith};
+ghost use Rattle.regress_backtrack.specs.Beginning.{BeginsWithAssertion};
 ghost use Rattle.regress_backtrack.specs.Searched.{IsFor, Skipped};
 ghost use Rattle.regress_code.specs.declared.code.Code.{Code};
 ghost use Rattle.regress_found.specs.declared.outcome.Outcome.TheVariants.{OutOfSteps};
 
 use crate::backtracker::Backtracker;
-use crate::boundary::{Beginning, beginning_of, next_possible};
+use crate::beginning::{Beginning, beginning_of, next_possible};
 use crate::cache::Cache;
 use crate::input::{Input, next_bytes_at};
 use crate::lead::{lead_of, next_after};
@@ -188,7 +188,7 @@ impl Backtracker<'_, '_> {
 /// Returns the least byte offset, `from` or later, at which a match is not known to fail, or `None`.
 ///
 /// # Preconditions
-/// `from` is inside the text.
+/// `from` is inside the text, and the pattern begins with the assertion `beginning`, if there is one.
 #[inline(always)]
 fn next_start(
     code: &Code,
@@ -198,18 +198,21 @@ fn next_start(
     beginning: Option<Beginning>,
 ) -> Option<usize>
     requires from { from ≤ length text.now }
-    requires beginning { IfSome beginning (BeginsWith input.now) }
+    requires beginning { IfSome beginning (BeginsWithAssertion input.now) }
     ensures within { IfSome result (λ position. (from ≤ position) × (position ≤ length text.now)) }
     ensures skipped { Skipped code.now text.now input.now from result }
 {
     match beginning {
-        Some(assertion) => next_after_assertion(code, input, text, from, assertion),
+        Some(assertion) => next_start_with(code, input, text, from, assertion),
         None => next_by_bytes(code, input, text, from),
     }
 }
 
-/// Returns the same, if the pattern begins with an assertion.
-fn next_after_assertion(
+/// Returns the same for a pattern that begins with an assertion.
+///
+/// # Preconditions
+/// `from` is inside the text, and the pattern begins with `beginning`.
+fn next_start_with(
     code: &Code,
     input: &Input<'_, '_>,
     text: &str,
@@ -217,7 +220,7 @@ fn next_after_assertion(
     beginning: Beginning,
 ) -> Option<usize>
     requires from { from ≤ length text.now }
-    requires beginning { BeginsWith input.now beginning }
+    requires beginning { BeginsWithAssertion input.now beginning }
     ensures within { IfSome result (λ position. (from ≤ position) × (position ≤ length text.now)) }
     ensures skipped { Skipped code.now text.now input.now from result }
 {

@@ -32,8 +32,8 @@ pub(crate) struct Swept<'c> {
 /// Each is an iteration, and what follows the loop is tried after each of them, the last one first. Returns where the run
 /// goes on after the last iteration, or `None` if there is none, where nothing has changed.
 ///
-/// Where the next bytes of what follows exclude the characters of the loop, it fails after each iteration but the last one,
-/// and no backtrack point is added. At the start of the text one is, since next bytes say nothing there.
+/// Where the next bytes of what follows exclude the characters of the loop, what follows fails before each of them, and
+/// no backtrack point is added. At the start of the text one is, since next bytes say nothing there.
 ///
 /// # Preconditions
 /// The loop is greedy, its body and what follows are inside the routine, and the position is inside the text.

@@ -1,4 +1,4 @@
--- Loops whose characters what follows them excludes.
+-- Possessive loops: what follows begins with none of their characters.
 use Rattle.std.specs.Prelude.{◌≡◌, ℕ, ◌<◌, Bool, true, List, length, slice_get, Some}
 use Rattle.std.proofs.Props.{props}
 use Rattle.regress_base.specs.ByteBitmap.{contains}
@@ -32,8 +32,8 @@ pub record IsLoopOver (leaves : List Test) (instructions : List Instruction) (pc
 abbrev pub ExcludesAscii : List NextBytes → (pc : ℕ) → ByteBitmap → Type 0
 ExcludesAscii next_bytes pc set = (b : ℕ) → b < 128 → contains set b ≡ true → is_excluded (slice_get next_bytes pc) b ≡ true
 
--- The instruction with the index `pc` and the body of the loop whose iteration it ends are among the instructions. If the
--- loop is such a one, the next bytes of what follows exclude each ASCII character that the leaf matches.
+-- The instruction with the index `pc` and the body of the loop whose iteration it ends are among the instructions. If
+-- the loop is such a one, the next bytes of what follows exclude each ASCII character that the leaf matches.
 pub record IsPossessive (next_bytes : List NextBytes) (leaves : List Test) (instructions : List Instruction) (pc : ℕ) : Type 0 where
   pub inside : pc < length instructions
   pub body : (body next : ℕ) → slice_get instructions pc ≡ Some (insts.Repeat true body next) → body < length instructions

@@ -24,8 +24,8 @@ pub struct Analysis {
     pub next_bytes: Vec<NextBytes>,
     /// The skips of the first instructions.
     pub skips: Vec<Skip>,
-    /// For each instruction whether it ends an iteration of a greedy loop over one character, and the next bytes of what
-    /// follows the loop exclude the ASCII characters of the loop.
+    /// For each of the first instructions whether it ends an iteration of a possessive loop, as
+    /// [`possessive_of`] returns it.
     pub possessive: Vec<bool>,
 }
 

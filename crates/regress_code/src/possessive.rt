@@ -11,8 +11,8 @@ use regress_program::instruction::Instruction;
 use std::alloc::{AllocError, Global};
 
 /// Returns for each instruction of a routine whether it ends an iteration of a greedy loop over a leaf that matches one
-/// character, and the next bytes of what follows the loop exclude each ASCII character that the leaf matches. Before such
-/// a character what follows has no outcome, unless at the start of the text.
+/// character, and the next bytes of what follows the loop exclude each ASCII character that the leaf matches. Next to
+/// such a character what follows has no outcome, unless at the start of the text.
 ///
 /// # Errors
 /// Returns [`AllocError`] if an allocation fails.

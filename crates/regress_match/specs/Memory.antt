@@ -53,7 +53,7 @@ pub record StackNeedsMore (m : Matcher) (text : List ℕ) (from : ℕ) : Type 0 
 abbrev pub SearchNeedsMore : Matcher → (text : List ℕ) → (from : ℕ) → Type 0
 SearchNeedsMore m text from = TablesNeedMore m text ⊎ StackNeedsMore m text from
 
--- The search for one more match than the first ones from `from` on takes more memory than it may.
+-- After the first matches from `from` on, the search for the next one takes more memory than it may.
 pub record NextNeedsMore (m : Matcher) (text : List ℕ) (from : ℕ) : Type 0 where
   pub ms : List Match
   pub to : ℕ
@@ -71,7 +71,7 @@ pub record MatchesNeedMore (m : Matcher) (text : List ℕ) (from : ℕ) : Type 0
   pub found : AreMatches text (matcher_outcomes m text) from to ms
   pub more : memory_of m < match_bytes m * length ms
 
--- A search for all matches from `from` on takes more memory than it may: the tables or a backtrack stack of the search for
--- one of them, or the list of the matches.
+-- A search for all matches from `from` on takes more memory than it may: the tables or a backtrack stack of the search
+-- for one of them, or the list of the matches.
 abbrev pub AllNeedMore : Matcher → (text : List ℕ) → (from : ℕ) → Type 0
 AllNeedMore m text from = NextNeedsMore m text from ⊎ MatchesNeedMore m text from

@@ -1,6 +1,6 @@
 use Rattle.std.proofs.Common.{Some, None, arith}
-use Rattle.regress_backtrack.proofs.BoundaryLemmas.{skipped_on}
-use Rattle.regress_backtrack.proofs.search.next_after_assertion.Goals as goal
+use Rattle.regress_backtrack.proofs.BeginningLemmas.{skipped_on}
+use Rattle.regress_backtrack.proofs.search.next_start_with.Goals as goal
 
 pub loop-position-preserved : goal.loop-position-preserved
 loop-position-preserved c =

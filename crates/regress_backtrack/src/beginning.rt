@@ -4,7 +4,7 @@ ghost use Rattle.regress_base.specs.Classes.{word_characters};
 ghost use Rattle.regress_base.specs.Intervals.{is_member};
 ghost use Rattle.regress_tree.specs.Assertions.{is_line_terminator};
 ghost use Rattle.regress_tree.specs.Tree.{leaf, tree};
-ghost use Rattle.regress_backtrack.specs.Boundary.{BeginsWith, IsExcluded, IsInsideLine, IsInsideWord, assertion};
+ghost use Rattle.regress_backtrack.specs.Beginning.{BeginsWithAssertion, IsExcluded, IsInsideLine, IsInsideWord, assertion};
 
 use crate::input::{Input, instruction_in, test_at};
 use regress_program::instruction::Instruction;
@@ -21,7 +21,7 @@ pub(crate) enum Beginning {
 
 /// Returns the assertion with which the pattern begins, if there is one.
 pub(crate) fn beginning_of(input: &Input<'_, '_>) -> Option<Beginning>
-    ensures { IfSome result (BeginsWith input.now) }
+    ensures { IfSome result (BeginsWithAssertion input.now) }
 {
     let Instruction::Leaf { leaf, .. } = instruction_in(input, input.first)? else {
         return None;
@@ -46,7 +46,8 @@ fn assertion_of(node: &Node) -> Option<Beginning>
     }
 }
 
-/// Returns the least position, `from` or later, at which the assertion is not known to fail by the bytes next to it.
+/// Returns the least position, `from` or later, at which the bytes next to it do not exclude the assertion, or the end
+/// of the text.
 ///
 /// # Preconditions
 /// `from` is inside the text.
@@ -86,8 +87,8 @@ fn outside_word(text: &str, from: usize) -> usize
     position
 }
 
-/// Returns the least position, `from` or later, that is at the end of the text or not after a character of ASCII that goes
-/// on in its line.
+/// Returns the least position, `from` or later, that is not after a character of ASCII within a line, or the end of the
+/// text.
 ///
 /// # Preconditions
 /// `from` is inside the text.
@@ -122,5 +123,5 @@ fn is_in_line(b: u8) -> bool
     ensures ascii { result ≡ true → b < 128 }
     ensures goes_on { result ≡ true → is_line_terminator b ≡ false }
 {
-    matches!(b, 0..=9 | 11..=12 | 14..=127)
+    matches!(b, 0..=0x9 | 0xB..=0xC | 0xE..=0x7F)
 }

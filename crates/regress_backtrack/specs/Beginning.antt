@@ -7,8 +7,8 @@ use Rattle.regress_program.specs.declared.instruction.Instruction.TheVariants as
 use Rattle.regress_tree.specs.Assertions.{is_line_terminator}
 use Rattle.regress_tree.specs.Tree.{Leaf, leaf as leaf_of, tree, anchor, word_boundary}
 use Rattle.regress_base.specs.declared.types.AnchorType.TheVariants.{StartOfLine}
-use Rattle.regress_backtrack.specs.declared.boundary.Beginning.{Beginning}
-use Rattle.regress_backtrack.specs.declared.boundary.Beginning.TheVariants.{WordBoundary, LineStart}
+use Rattle.regress_backtrack.specs.declared.beginning.Beginning.{Beginning}
+use Rattle.regress_backtrack.specs.declared.beginning.Beginning.TheVariants.{WordBoundary, LineStart}
 use Rattle.regress_backtrack.specs.declared.input.Input.{Input}
 use Rattle.regress_backtrack.specs.Next.{instructions_in}
 
@@ -18,7 +18,7 @@ assertion WordBoundary = word_boundary false false
 assertion LineStart = anchor StartOfLine true
 
 -- The first instruction matches the assertion.
-pub record BeginsWith (input : Input) (beginning : Beginning) : Type 0 where
+pub record BeginsWithAssertion (input : Input) (beginning : Beginning) : Type 0 where
   pub leaf : ℕ
   pub next : ℕ
   pub test : Test

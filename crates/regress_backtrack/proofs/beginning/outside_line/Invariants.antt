@@ -1,7 +1,7 @@
 -- The positions that were passed are after a character that does not end a line.
 use Rattle.std.proofs.Common.{ℕ, ◌-◌, ◌≤◌, ◌<◌, length}
-use Rattle.regress_backtrack.specs.Boundary.{IsInsideLine}
-use Rattle.regress_backtrack.proofs.boundary.outside_line.Given as goal
+use Rattle.regress_backtrack.specs.Beginning.{IsInsideLine}
+use Rattle.regress_backtrack.proofs.beginning.outside_line.Given as goal
 
 abbrev pub invariant-loop-position : goal.invariant-loop-position
 invariant-loop-position l = record {

@@ -1,7 +1,7 @@
 -- The positions that were passed are between two word characters.
 use Rattle.std.proofs.Common.{ℕ, ◌-◌, ◌≤◌, ◌<◌, length}
-use Rattle.regress_backtrack.specs.Boundary.{IsInsideWord, IsWordAt}
-use Rattle.regress_backtrack.proofs.boundary.outside_word.Given as goal
+use Rattle.regress_backtrack.specs.Beginning.{IsInsideWord, IsWordAt}
+use Rattle.regress_backtrack.proofs.beginning.outside_word.Given as goal
 
 abbrev pub invariant-loop-position : goal.invariant-loop-position
 invariant-loop-position l = record {

@@ -1,6 +1,5 @@
 -- No match begins where the assertion fails with which the pattern begins.
-use Rattle.std.proofs.Common.{◌≡◌, ◌⊎◌, inl, inr, ℕ, ◌+◌, ◌-◌, ◌<◌, ◌≤◌, ◌==◌, ◌&&◌, ◌||◌, Bool, true, false, if◌then◌else◌, List, [], ◌∷◌, flat_map, length, replicate, slice_index, Option, Some, None, refl, sym, ap, ap₂, ◌∙◌, subst, arith}
-use Rattle.std.proofs.Math.Nat.{eq-or-lt_of_le}
+use Rattle.std.proofs.Common.{◌≡◌, inl, inr, ℕ, ◌+◌, ◌-◌, ◌<◌, ◌≤◌, ◌==◌, ◌&&◌, ◌||◌, Bool, true, false, if◌then◌else◌, List, [], ◌∷◌, flat_map, length, replicate, slice_index, Option, Some, None, refl, sym, ap, ap₂, ◌∙◌, subst, arith}
 use Rattle.std.proofs.lemmas.Bool.{cases_lt, ne_eqb}
 use Rattle.regress_base.specs.Table.{Table}
 use Rattle.regress_base.specs.declared.types.AnchorType.TheVariants.{StartOfLine}
@@ -17,9 +16,9 @@ use Rattle.regress_program.specs.declared.instruction.Instruction.TheVariants as
 use Rattle.regress_unicode.specs.declared.Tables.{Tables}
 use Rattle.regress_code.specs.Code.{code_groups, code_routines, outcomes_from, setting_with}
 use Rattle.regress_code.specs.declared.code.Code.{Code}
-use Rattle.regress_backtrack.specs.Boundary.{BeginsWith, IsExcluded, IsInsideLine, IsInsideWord, assertion}
-use Rattle.regress_backtrack.specs.declared.boundary.Beginning.{Beginning}
-use Rattle.regress_backtrack.specs.declared.boundary.Beginning.TheVariants.{WordBoundary, LineStart}
+use Rattle.regress_backtrack.specs.Beginning.{BeginsWithAssertion, IsExcluded, IsInsideLine, IsInsideWord, assertion}
+use Rattle.regress_backtrack.specs.declared.beginning.Beginning.{Beginning}
+use Rattle.regress_backtrack.specs.declared.beginning.Beginning.TheVariants.{WordBoundary, LineStart}
 use Rattle.regress_backtrack.specs.Machine.{Groups, at}
 use Rattle.regress_backtrack.specs.Next.{IsInput, Solve}
 use Rattle.regress_backtrack.specs.Searched.{IsFor, Skipped}
@@ -61,7 +60,7 @@ unfolding hold_at
 no_steps setting bytes d WordBoundary s inside = ap (λ b. if b then s ∷ [] else []) (no_boundary setting.table bytes s.position inside)
 no_steps setting bytes d LineStart s inside = ap (λ b. if b then s ∷ [] else []) (no_line bytes s.position inside)
 
-module _ (input : Input) (is : IsInput input) (beginning : Beginning) (begins : BeginsWith input beginning) (outs : ℕ → Out) (solve : Solve input outs) (g : Groups) where
+module _ (input : Input) (is : IsInput input) (beginning : Beginning) (begins : BeginsWithAssertion input beginning) (outs : ℕ → Out) (solve : Solve input outs) (g : Groups) where
   none_here : (k : ℕ) → k ≤ length input.text.now → IsExcluded beginning input.text.now k →
       outs input.index (at (record { pc = input.first; moved = true; position = k }) g) ≡ []
   none_here k le inside =
@@ -75,7 +74,7 @@ module _ (input : Input) (is : IsInput input) (beginning : Beginning) (begins : 
       ∙ ap (λ t. flat_map (λ s. out (reach next (at p g) s)) (steps u.setting u.bytes u.direction t (at p g).state)) begins.asserts
       ∙ ap (flat_map (λ s. out (reach next (at p g) s))) (no_steps u.setting u.bytes u.direction beginning (at p g).state inside)
 
-none_excluded : (code : Code) (tables : Tables) (text : List ℕ) (input : Input) → IsFor code tables text input → (beginning : Beginning) → BeginsWith input beginning →
+none_excluded : (code : Code) (tables : Tables) (text : List ℕ) (input : Input) → IsFor code tables text input → (beginning : Beginning) → BeginsWithAssertion input beginning →
     (outs : ℕ → Out) → IsSolution (setting_with code tables) text (code_routines code) outs → (k : ℕ) → k ≤ length text → IsExcluded beginning text k →
     outcomes_from code tables text outs k ≡ []
 none_excluded code tables text input for beginning begins outs solution k le excluded =
@@ -83,17 +82,9 @@ none_excluded code tables text input for beginning begins outs solution k le exc
     ∙ none_here input for.is beginning begins outs (solves_for code tables text input for outs solution) (record { captures = replicate (code_groups code) None; begins = [] }) k
     (subst (λ x. k ≤ length x) (sym for.same_text) le) (subst (λ x. IsExcluded beginning x k) (sym for.same_text) excluded)
 
--- what holds up to a number, and of that one
-pub holds_up_to : (P : ℕ → Type 0) (low high : ℕ) → ((k : ℕ) → low ≤ k → k < high → P k) → P high → (k : ℕ) → low ≤ k → k < high + 1 → P k
-holds_up_to P low high below last k le lt = by (eq-or-lt_of_le (omega (arith, lt)))
-  where
-    by : (k ≡ high) ⊎ (k < high) → P k
-    by (inl same) = subst P (sym same) last
-    by (inr less) = below k le less
-
 -- Positions are skipped up to one at which the assertion fails, then those at which it fails, and then further ones.
 pub skipped_on : (code : Code) (text : List ℕ) (input : Input) (from position possible : ℕ) (result : Option ℕ) (beginning : Beginning) →
-    BeginsWith input beginning → Skipped code text input from (Some position) →
+    BeginsWithAssertion input beginning → Skipped code text input from (Some position) →
     ((k : ℕ) → position ≤ k → k < possible → IsExcluded beginning text k) →
     Skipped code text input possible result → Skipped code text input from result
 skipped_on code text input from position possible result beginning begins first excluded next = λ tables for outs solution k low le before.

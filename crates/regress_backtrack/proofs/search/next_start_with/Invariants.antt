@@ -1,8 +1,8 @@
 -- The positions that were passed have no outcome.
 use Rattle.std.proofs.Common.{ℕ, ◌-◌, ◌≤◌, ◌<◌, Some, length}
-use Rattle.regress_backtrack.specs.Boundary.{IsExcluded}
+use Rattle.regress_backtrack.specs.Beginning.{IsExcluded}
 use Rattle.regress_backtrack.specs.Searched.{Skipped}
-use Rattle.regress_backtrack.proofs.search.next_after_assertion.Given as goal
+use Rattle.regress_backtrack.proofs.search.next_start_with.Given as goal
 
 abbrev pub invariant-loop-position : goal.invariant-loop-position
 invariant-loop-position l = record {

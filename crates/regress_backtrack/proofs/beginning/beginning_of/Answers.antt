@@ -1,6 +1,6 @@
 use Rattle.std.proofs.Common.{Some, ap, ◌∙◌}
 use Rattle.std.proofs.lemmas.Option.{IfSome_then}
-use Rattle.regress_backtrack.proofs.boundary.beginning_of.Goals as goal
+use Rattle.regress_backtrack.proofs.beginning.beginning_of.Goals as goal
 
 pub returns : goal.returns
 returns c =
