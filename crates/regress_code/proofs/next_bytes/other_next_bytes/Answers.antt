@@ -5,7 +5,7 @@ use Rattle.regress_tree.specs.Tree.{tree, leaf, anchor, word_boundary}
 use Rattle.regress_tree.specs.declared.ir.node.Node.{the_lemmas}
 use Rattle.regress_code.specs.NextBytes.{Bounds}
 use Rattle.regress_code.proofs.NextBytesLemmas.{anchor_outside, hold_bounds, mapped_bounds}
-use Rattle.regress_code.proofs.next_bytes.assertion_next_bytes.Goals as goal
+use Rattle.regress_code.proofs.next_bytes.other_next_bytes.Goals as goal
 
 pub returns-then-multiline : goal.returns-then-multiline
 returns-then-multiline c = λ setting text s g holds.
