@@ -14,6 +14,7 @@ ghost use Rattle.regress_program.specs.Views.{op_in};
 ghost use Rattle.regress_tables.specs.Evaluated.{CanEvaluate, IsOneEnd, reached_cell};
 ghost use Rattle.regress_tables.specs.Table.{AreRight, AreTables, IsRight, TellsOf, has_outcome};
 
+use crate::characters::characters_end;
 use crate::table::Table;
 use regress_code::Code;
 use regress_leaves::leaves::{accepts, all_of, exactly, simple_leaf};
@@ -81,7 +82,7 @@ pub(crate) fn evaluate(
             let Some(test) = input.test(leaf) else {
                 return false;
             };
-            let to = exactly(input.text, input.rules, &test.node, count, position);
+            let to = characters_end(input.text, input.rules, test, count, position);
             reached(table, next, moved, position, to)
         }
         Instruction::Split { first, second } => {

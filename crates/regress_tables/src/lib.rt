@@ -3,6 +3,7 @@
 
 mod bits;
 mod cells;
+mod characters;
 mod evaluate;
 mod fill;
 mod filled;

@@ -7,9 +7,9 @@ ghost use Rattle.regress_code.specs.Code.{code_routines};
 ghost use Rattle.regress_tables.specs.Probes.{CanProbe, IsProbe, digit, landing, stays_if};
 ghost use Rattle.regress_tables.specs.Table.{AreRight, AreTables, IsRight};
 
+use crate::characters::characters_end;
 use crate::evaluate::{Input, leaf_end, looks};
 use crate::table::Table;
-use regress_leaves::leaves::exactly;
 use regress_program::instruction::Instruction;
 
 /// What an instruction that looks at the text leads to from a position.
@@ -49,7 +49,7 @@ pub(crate) fn probe_at(
             let Some(test) = input.test(leaf) else {
                 return Probe::Fails;
             };
-            let to = exactly(input.text, input.rules, &test.node, count, position);
+            let to = characters_end(input.text, input.rules, test, count, position);
             landing(table, next, position, to)
         }
         Instruction::Look {

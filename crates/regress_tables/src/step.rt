@@ -12,10 +12,10 @@ ghost use Rattle.regress_tables.specs.Slots.{AreInside, IsClean, capture_in};
 ghost use Rattle.regress_tables.specs.Table.{IsFull, IsRight, has_outcome};
 ghost use Rattle.regress_tables.specs.Walked.{CanWalk, Leads, StepsAt, at_of, place_of};
 
+use crate::characters::characters_end;
 use crate::evaluate::{Input, end_after};
 use crate::table::Table;
 use crate::walker::Walker;
-use regress_leaves::leaves::exactly;
 use regress_leaves::reading::next_read;
 use regress_program::instruction::Instruction;
 use regress_program::ranges::changed_by_look;
@@ -66,7 +66,7 @@ pub(crate) fn step(
             let Some(test) = input.test(leaf) else {
                 return Ok(false);
             };
-            let to = exactly(input.text, input.rules, &test.node, count, position);
+            let to = characters_end(input.text, input.rules, test, count, position);
             return Ok(walker.reach(next, to));
         }
         Instruction::Split { first, second } => walker.split(table, first, second),

@@ -1,5 +1,4 @@
-use Rattle.std.proofs.Common.{◌≡◌, Some, true, refl, ap, subst, arith, false}
-use Rattle.regress_base.specs.declared.types.Quantifier.{Quantifier}
+use Rattle.std.proofs.Common.{◌≡◌, ap, subst, arith, false}
 use Rattle.regress_leaves.specs.Leaves.{exactly}
 use Rattle.regress_leaves.specs.Subject.{subject}
 use Rattle.regress_tree.specs.Reading.{direction_if}
@@ -22,13 +21,10 @@ reached-requires-clause-to c =
 
 pub reached-requires-in-Characters-clause-to : goal.reached-requires-in-Characters-clause-to
 reached-requires-in-Characters-clause-to c =
-    let q : Quantifier = record { min = c.in-Characters.count; max = Some c.in-Characters.count; greedy = true } in
-    let whole = subst (Fits _ _ _) (characters_is _ _ _ _ _ _ c.in-Characters.is c.in-Some-test.ensures) c.requires.can.fits in
-    let goes = c.exactly-to.ensures whole.0.1 q refl refl in
     let u = subject c.args.input.rules c.args.input.text.now in
     let can = c.requires.can in
     reached-within u.bytes u.direction _ c.args.position _ _ (Stays-tree u.setting u.bytes u.direction (exactly c.in-Characters.count (tree c.in-Some-test.test.now.node)))
-    (omega (arith, can.length, can.next.position_in)) can.length goes
+    (omega (arith, can.length, can.next.position_in)) can.length c.characters_end-to.ensures
 
 pub end_after-to-requires : goal.end_after-to-requires
 end_after-to-requires c =
@@ -40,6 +36,12 @@ end_after-to-requires c =
       captures = subst (λ op. is_back_reference op ≡ false) (leaf_is _ _ _ _ _ c.in-Leaf.is c.in-Some.ensures) can.no_reference;
       read = c.requires.read;
     }
+
+pub characters_end-to-requires : goal.characters_end-to-requires
+characters_end-to-requires c =
+    let can = c.requires.can in
+    let fits = subst (Fits _ _ _) (characters_is _ _ _ _ _ _ c.in-Characters.is c.in-Some-test.ensures) can.fits in
+    record { one = fits.0.1; inside = omega (arith, can.length, can.next.position_in) }
 
 pub looks-requires-clause-earlier : goal.looks-requires-clause-earlier
 looks-requires-clause-earlier c =
@@ -131,13 +133,10 @@ returns-in-Some c = λ outs tables right.
 
 pub returns-in-Some-test : goal.returns-in-Some-test
 returns-in-Some-test c = λ outs tables right.
-    let q : Quantifier = record { min = c.in-Characters.count; max = Some c.in-Characters.count; greedy = true } in
-    let whole = subst (Fits _ _ _) (characters_is _ _ _ _ _ _ c.in-Characters.is c.in-Some-test.ensures) c.requires.can.fits in
-    let goes = c.exactly-to.ensures whole.0.1 q refl refl in
     let u = subject c.args.input.rules c.args.input.text.now in
     let body_of = matcher_of u.setting u.bytes (code_routines c.args.input.code.now) outs in
     let can = c.requires.can in
     part_yields u.setting u.bytes u.direction body_of (outs _) c.args.table.now right can.pc c.args.moved c.args.position can.next _ _ can.fits
-    (exactly c.in-Characters.count (tree c.in-Some-test.test.now.node)) c.in-Characters.next c.exactly-to.result _ (characters_is _ _ _ _ _ _ c.in-Characters.is c.in-Some-test.ensures)
+    (exactly c.in-Characters.count (tree c.in-Some-test.test.now.node)) c.in-Characters.next c.characters_end-to.result _ (characters_is _ _ _ _ _ _ c.in-Characters.is c.in-Some-test.ensures)
     (omega (arith, can.length, can.next.position_in)) can.length (ap direction_if can.backwards)
-    goes c.reached-in-Characters.ensures
+    c.characters_end-to.ensures c.reached-in-Characters.ensures

@@ -1,5 +1,4 @@
-use Rattle.std.proofs.Common.{length, ◌≡◌, Some, true, refl, ap, sym, subst, arith, false}
-use Rattle.regress_base.specs.declared.types.Quantifier.{Quantifier}
+use Rattle.std.proofs.Common.{length, ◌≡◌, ap, sym, subst, arith, false}
 use Rattle.regress_leaves.specs.Leaves.{exactly}
 use Rattle.regress_leaves.specs.Subject.{subject}
 use Rattle.regress_tree.specs.Reading.{direction_if}
@@ -24,19 +23,22 @@ landing-requires-clause-to c =
 
 pub landing-requires-in-Characters-clause-to : goal.landing-requires-in-Characters-clause-to
 landing-requires-in-Characters-clause-to c =
-    let q : Quantifier = record { min = c.in-Characters.count; max = Some c.in-Characters.count; greedy = true } in
-    let whole = subst (Fits _ _ _) (characters_is _ _ _ _ _ _ c.in-Characters.is c.in-Some-test.ensures) c.requires.can.fits in
-    let goes = c.exactly-to.ensures whole.0.1 q refl refl in
     let u = subject c.args.input.rules c.args.input.text.now in
     let can = c.requires.can in
     reached-within u.bytes u.direction _ c.args.position _ _ (Stays-tree u.setting u.bytes u.direction (exactly c.in-Characters.count (tree c.in-Some-test.test.now.node)))
-    (omega (arith, can.length, can.position_in)) can.length goes
+    (omega (arith, can.length, can.position_in)) can.length c.characters_end-to.ensures
 
 pub leaf_end-to-requires : goal.leaf_end-to-requires
 leaf_end-to-requires c =
     let can = c.requires.can in
     let fits = subst (Fits _ _ can.pc) (leaf_is _ _ _ _ _ c.in-Leaf.is c.in-Some.ensures) can.fits in
     record { part = fits.0; captures = subst (λ op. is_back_reference op ≡ false) (leaf_is _ _ _ _ _ c.in-Leaf.is c.in-Some.ensures) can.no_reference }
+
+pub characters_end-to-requires : goal.characters_end-to-requires
+characters_end-to-requires c =
+    let can = c.requires.can in
+    let fits = subst (Fits _ _ _) (characters_is _ _ _ _ _ _ c.in-Characters.is c.in-Some-test.ensures) can.fits in
+    record { one = fits.0.1; inside = omega (arith, can.length, can.position_in) }
 
 pub looks-requires-clause-earlier : goal.looks-requires-clause-earlier
 looks-requires-clause-earlier c =
@@ -58,10 +60,8 @@ returns-in-Some c = λ outs tables right.
 
 pub returns-in-Some-test : goal.returns-in-Some-test
 returns-in-Some-test c = λ outs tables right.
-    let q : Quantifier = record { min = c.in-Characters.count; max = Some c.in-Characters.count; greedy = true } in
     let op_is = characters_is _ _ _ _ _ _ c.in-Characters.is c.in-Some-test.ensures in
     let fits = subst (Fits _ _ _) op_is c.requires.can.fits in
-    let goes = c.exactly-to.ensures fits.0.1 q refl refl in
     let u = subject c.args.input.rules c.args.input.text.now in
     let body_of = matcher_of u.setting u.bytes (code_routines c.args.input.code.now) outs in
     let can = c.requires.can in
@@ -69,7 +69,7 @@ returns-in-Some-test c = λ outs tables right.
     (subst (λ p. IsProbe u.setting u.bytes u.direction body_of (outs (length c.args.input.tables.now)) (part (exactly c.in-Characters.count (tree c.in-Some-test.test.now.node)) c.in-Characters.next) c.args.position p)
     (sym c.landing-in-Characters.ensures)
     (part_lands u.setting u.bytes u.direction body_of (outs (length c.args.input.tables.now)) c.args.table.now right can.pc c.args.position can.at can.pc_in can.position_in
-    (exactly c.in-Characters.count (tree c.in-Some-test.test.now.node)) c.in-Characters.next c.exactly-to.result can.length (ap direction_if can.backwards) fits.1 goes))
+    (exactly c.in-Characters.count (tree c.in-Some-test.test.now.node)) c.in-Characters.next c.characters_end-to.result can.length (ap direction_if can.backwards) fits.1 c.characters_end-to.ensures))
 
 pub returns-in-Look : goal.returns-in-Look
 returns-in-Look c = λ outs tables right.

@@ -1,6 +1,5 @@
 use Rattle.std.proofs.Common.{◌||◌, ◌≡◌, Bool, true, [], List, length, flat_map, Some, if◌then◌else◌, refl, sym, ap, ◌∙◌, subst, arith}
 use Rattle.std.proofs.lemmas.Bool.{and_parts}
-use Rattle.regress_base.specs.declared.types.Quantifier.{Quantifier}
 use Rattle.regress_leaves.specs.Leaves.{exactly}
 use Rattle.regress_leaves.specs.Subject.{subject}
 use Rattle.regress_tree.specs.Reading.{direction_if}
@@ -23,6 +22,12 @@ use Rattle.regress_tables.proofs.FollowLemmas.{chosen-pc, ended-pc, follow-eithe
 use Rattle.regress_tables.proofs.WalkLemmas.{look_range, unknown, here-below, ended-below, split-below, begin-below, repeat-below, part-below, part-leads, look-goes, split-leads, either-leads}
 use Rattle.regress_tables.proofs.step.step.Goals as goal
 
+pub characters_end-to-requires : goal.characters_end-to-requires
+characters_end-to-requires c =
+    let can = c.requires.can in
+    let fits = subst (Fits _ _ _) (characters_is _ _ _ _ _ _ c.in-Characters.is c.in-Some-test.ensures) can.fits in
+    record { one = fits.0.1; inside = omega (arith, can.length, can.position) }
+
 pub returns-in-Leaf-clause-below : goal.returns-in-Leaf-clause-below
 returns-in-Leaf-clause-below c = λ yields.
     let u = subject c.args.input.rules c.args.input.text.now in
@@ -35,16 +40,13 @@ returns-in-Leaf-clause-below c = λ yields.
 
 pub returns-in-Characters-clause-below : goal.returns-in-Characters-clause-below
 returns-in-Characters-clause-below c = λ yields.
-    let q : Quantifier = record { min = c.in-Characters.count; max = Some c.in-Characters.count; greedy = true } in
-    let whole = subst (Fits _ _ _) (characters_is _ _ _ _ _ _ c.in-Characters.is c.in-Some-test.ensures) c.requires.can.fits in
-    let goes = c.exactly-to.ensures whole.0.1 q refl refl in
     let u = subject c.args.input.rules c.args.input.text.now in
     let t = c.args.table.now in
     let a = place_of c.args.walker.now in
     let can = c.requires.can in
     let fits = subst (Fits _ t.width a.pc) (characters_is _ _ _ _ _ _ c.in-Characters.is c.in-Some-test.ensures) can.fits in
-    part-below t a can.pc can.position u.setting u.bytes u.direction (exactly c.in-Characters.count (tree c.in-Some-test.test.now.node)) c.in-Characters.next c.exactly-to.result c.reach-in-Characters.result
-    (place_of c.reach-in-Characters.new.self) fits.1 can.length (ap direction_if can.backwards) goes (c.reach-in-Characters.ensures.at unknown) yields
+    part-below t a can.pc can.position u.setting u.bytes u.direction (exactly c.in-Characters.count (tree c.in-Some-test.test.now.node)) c.in-Characters.next c.characters_end-to.result c.reach-in-Characters.result
+    (place_of c.reach-in-Characters.new.self) fits.1 can.length (ap direction_if can.backwards) c.characters_end-to.ensures (c.reach-in-Characters.ensures.at unknown) yields
 
 pub returns-in-Split-clause-below : goal.returns-in-Split-clause-below
 returns-in-Split-clause-below c = λ yields.
@@ -126,7 +128,7 @@ pub returns-in-Characters-clause-clean : goal.returns-in-Characters-clause-clean
 returns-in-Characters-clause-clean c = λ r is goes.
     follow-one c.args.input c.args.walker.now c.reach-in-Characters.new.self (op_in c.args.input.code.now.program.leaves.items c.args.instruction) c.requires.tabled c.requires.at r is (part (exactly c.in-Characters.count (tree c.in-Some-test.test.now.node)) c.in-Characters.next) 0 c.in-Characters.next
     (characters_is _ _ _ _ _ _ c.in-Characters.is c.in-Some-test.ensures) refl tt
-    (reaches-pc c.in-Characters.next (place_of c.args.walker.now) (place_of c.reach-in-Characters.new.self) c.reach-in-Characters.result c.exactly-to.result (c.reach-in-Characters.ensures.at unknown) goes) c.reach-in-Characters.ensures.slots
+    (reaches-pc c.in-Characters.next (place_of c.args.walker.now) (place_of c.reach-in-Characters.new.self) c.reach-in-Characters.result c.characters_end-to.result (c.reach-in-Characters.ensures.at unknown) goes) c.reach-in-Characters.ensures.slots
 
 pub returns-in-Split-clause-clean : goal.returns-in-Split-clause-clean
 returns-in-Split-clause-clean c = λ r is goes.
@@ -220,9 +222,6 @@ returns-in-Leaf-clause-leads c = λ outs solution full right other some.
 
 pub returns-in-Characters-clause-leads : goal.returns-in-Characters-clause-leads
 returns-in-Characters-clause-leads c = λ outs solution full right other some.
-    let q : Quantifier = record { min = c.in-Characters.count; max = Some c.in-Characters.count; greedy = true } in
-    let whole = subst (Fits _ _ _) (characters_is _ _ _ _ _ _ c.in-Characters.is c.in-Some-test.ensures) c.requires.can.fits in
-    let goes = c.exactly-to.ensures whole.0.1 q refl refl in
     let u = subject c.args.input.rules c.args.input.text.now in
     let capture_of = capture_in u.setting u.bytes (code_routines c.args.input.code.now) outs (length c.args.walker.now.slots.items) in
     let a = at_of capture_of c.args.walker.now in
@@ -232,8 +231,8 @@ returns-in-Characters-clause-leads c = λ outs solution full right other some.
     let outcomes : Op → List MatchState = λ o. outcomes_by u.setting u.bytes u.direction body_of (outs i) o a in
     let is : outcomes (op_in c.args.input.code.now.program.leaves.items c.args.instruction) ≡ outcomes (part (exactly c.in-Characters.count (tree c.in-Some-test.test.now.node)) c.in-Characters.next) =
     ap outcomes (characters_is _ _ _ _ _ _ c.in-Characters.is c.in-Some-test.ensures) in
-    part-leads (outs i) (outcomes (op_in c.args.input.code.now.program.leaves.items c.args.instruction)) c.in-Characters.next c.exactly-to.result c.reach-in-Characters.result a (at_of capture_of c.reach-in-Characters.new.self)
-    (is ∙ ap (flat_map (λ s. outs i (reach c.in-Characters.next a s))) (goes a.state refl)) (c.reach-in-Characters.ensures.at capture_of) some
+    part-leads (outs i) (outcomes (op_in c.args.input.code.now.program.leaves.items c.args.instruction)) c.in-Characters.next c.characters_end-to.result c.reach-in-Characters.result a (at_of capture_of c.reach-in-Characters.new.self)
+    (is ∙ ap (flat_map (λ s. outs i (reach c.in-Characters.next a s))) (c.characters_end-to.ensures a.state refl)) (c.reach-in-Characters.ensures.at capture_of) some
 
 pub returns-in-Split-clause-leads : goal.returns-in-Split-clause-leads
 returns-in-Split-clause-leads c = λ outs solution full right other some.
