@@ -25,7 +25,7 @@ renamed f (look negate routine next) = look negate routine (f next)
 abbrev pub moved_op : (from n : ℕ) → Op → Op
 moved_op from n op = renamed (shift from n) op
 
--- outcomes, where each instruction stands for the moved one
+-- outcomes, where each instruction goes on as the moved one
 abbrev pub moved_out : (from n : ℕ) → Out → Out
 moved_out from n out a = out (record a { pc = shift from n a.pc })
 

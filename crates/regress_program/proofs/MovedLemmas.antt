@@ -57,7 +57,7 @@ module _ (setting : Setting) (bytes : List ℕ) (d : Direction) (body_of : ℕ �
   moved-outcomes (look negate routine next) a pc = refl
 
 module _ {routines : List Routine} (w : World routines) (d : Direction) (out : Out) (from n low high : ℕ) (ops others : List Op) where
-  -- What solves the moved instructions solves the instructions, where each index stands for the moved one.
+  -- What solves the moved instructions solves the instructions, where each index is that of the moved one.
   pub Solved-moved : from ≤ low → high ≤ length ops → HasMoved from n low high ops others → Solved w d out others (low + n) (high + n) →
       Solved w d (moved_out from n out) ops low high
   Solved-moved after within moved is = record { solves = λ a le lt inside. by a le lt inside (slice_get ops a.pc) refl }

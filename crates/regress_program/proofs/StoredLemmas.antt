@@ -126,7 +126,7 @@ code_times-left from width (suc count) c =
     let more : (count + 1) * width ≡ count * width + width = omega arith in
     code_times-left from width count (code_once from width c) ∙ omega (arith, more)
 
--- When a record is added, the instructions are those of so many copies.
+-- When a record is added, the instructions are those of its copies.
 pub ops-copy : (leaves : List Test) (stored : List Instruction) (copies : List Copies) (r : Copies) (c : Code) → r.stored ≡ length stored →
     c.ops ≡ ops_in leaves (expanded stored copies) →
     ops_in leaves (expanded stored (copies ++ r ∷ [])) ≡ (code_times r.from r.width r.count c).ops

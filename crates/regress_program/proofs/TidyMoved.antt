@@ -60,17 +60,17 @@ followers-renamed f (begin_group next) = refl
 followers-renamed f (end_group id next) = refl
 followers-renamed f (look negate routine next) = refl
 
--- the other instruction, and the one that it stands for
+-- the other instruction, and its counterpart
 abbrev pub renamed_option : (ℕ → ℕ) → Option Op → Option Op
 renamed_option f None = None
 renamed_option f (Some op) = Some (renamed f op)
 
--- Each instruction of `others` stands for one of `ops`.
+-- Each instruction of `others` has a counterpart in `ops`.
 pub record StandsFor (back : ℕ → ℕ) (others ops : List Op) : Type 0 where
   pub same : (pc : ℕ) → slice_get ops (back pc) ≡ renamed_option back (slice_get others pc)
 
 module _ (ranges : List GroupRange) (back : ℕ → ℕ) (others ops : List Op) (stands : StandsFor back others ops) where
-  -- the follower that stands for another
+  -- the counterpart of a follower
   follower : (xs : List ℕ) (i next : ℕ) → slice_get (map back xs) i ≡ Some next → (to : ℕ) × (slice_get xs i ≡ Some to) × (back to ≡ next)
   follower [] i next e = cc
   follower (x ∷ xs) zero next e = (x, refl, same_Some (back x) next e)
@@ -170,7 +170,7 @@ module _ (from n : ℕ) (ops : List Op) (within : from + n ≤ length ops) where
   abbrev pub back : ℕ → ℕ
   back pc = if nat_lt pc size then shift from n pc else pc - size
 
-  -- the index of what stands for it
+  -- the index of its counterpart
   abbrev pub away : ℕ → ℕ
   away pc = if nat_lt pc from then pc else if nat_le (from + n) pc && nat_lt pc (length ops) then pc - n else size + pc
 
