@@ -6,5 +6,6 @@ pub mod LintLemmas
 pub mod PatternLemmas
 pub mod SettingLemmas
 pub mod SizeLemmas
+pub mod TextLineLemmas
 pub mod TreeLemmas
 pub mod UnreadLemmas

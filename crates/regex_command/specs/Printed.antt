@@ -1,5 +1,5 @@
 -- What the program writes for a request, and where its pattern is.
-use Rattle.std.specs.Prelude.{◌≡◌, ⊤, ℕ, List, [], ◌∷◌, Bool, true, false, ◌⊎◌, ◌||◌, ◌&&◌, ◌++◌, ◌==◌, Option, chars, codes, length}
+use Rattle.std.specs.Prelude.{◌≡◌, ⊤, ℕ, List, [], ◌∷◌, Bool, true, false, ◌⊎◌, ◌||◌, ◌&&◌, ◌++◌, ◌==◌, Option, chars, codes, length, map}
 use Rattle.std.specs.Io.KnownBytes.{Appends}
 use Rattle.std.specs.List.{Any, FoldsTo}
 use Rattle.regex_options.specs.Plain.{FileList, Job, matching, replacing, Source, in_argument, in_file}
@@ -21,16 +21,20 @@ use Rattle.regress_tree.specs.Steps.{Setting}
 use Rattle.regex_lines.specs.Ending.{IsCostlyPatternIn, IsLate, IsSearchFailure, MayFailToRead, options_in, setting_in}
 use Rattle.regex_command.specs.Joined.{AreJoinable, are_parts, are_several, joined, refers, takes_several}
 use Rattle.regex_command.specs.Patterns.{IsAcceptedPattern, IsExplanationIn, MayFailToExplain, MayFailToLint, IsReport, IsTreeOutput, IsQuietFor, IsShowFailure}
-use Rattle.regex_lines.specs.Searched.{Input, WritesInputs, WritesSomeOf, inputs_of, is_nothing}
+use Rattle.regex_lines.specs.Searched.{Input, Line, WritesInputs, WritesSomeOf, inputs_of, is_nothing, lines_of}
 use Rattle.regex_lines.specs.Unread.{Unread}
 use Rattle.regex_lines.specs.Walk.{Found, IsFound}
 use Rattle.regex_lines.specs.declared.failure.Failure.TheVariants.{Argument, Memory, Output, Closed, Syntax, TooLarge, OutOfSteps, Unreadable, Incomplete, PatternNotUtf8, TooLong}
 use Rattle.regex_lines.specs.declared.failure.Failure.{Failure}
 
--- The patterns of one more source. Nothing is known of the lines of a file.
+-- the lines of a text, without their line feeds
+abbrev pub texts_of_lines : List ℕ → List (List ℕ)
+texts_of_lines text = map (λ (line : Line). line.bytes) (lines_of text)
+
+-- The patterns of one more source. Those of a file are the lines of its text, of which nothing is known.
 abbrev pub AreWith : (before : List (List ℕ)) → Source → (after : List (List ℕ)) → Type 0
 AreWith before (in_argument text) after = after ≡ before ++ text ∷ []
-AreWith before (in_file name) after = (lines : List (List ℕ)) × (after ≡ before ++ lines)
+AreWith before (in_file name) after = (text : List ℕ) × (after ≡ before ++ texts_of_lines text)
 
 -- The patterns of all sources, in order.
 abbrev pub ArePatternsOf : List Source → (patterns : List (List ℕ)) → Type 0

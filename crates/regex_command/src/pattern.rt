@@ -1,6 +1,6 @@
 //! Patterns, and where they are.
-ghost use Rattle.std.specs.Prelude.{◌≡◌, ◌<◌, IfOk, IfErr, OnOk, length, map, string_bytes};
-ghost use Rattle.regex_command.specs.Printed.{ArePatternsOf, AreUnread, AreWith, IsUnread, LacksPattern, OfPattern};
+ghost use Rattle.std.specs.Prelude.{◌≡◌, ◌<◌, ◌∷◌, IfOk, IfErr, OnOk, length, map, string_bytes};
+ghost use Rattle.regex_command.specs.Printed.{ArePatternsOf, AreUnread, AreWith, IsUnread, LacksPattern, OfPattern, texts_of_lines};
 ghost use Rattle.regex_lines.specs.Ending.{MayFailToRead};
 ghost use Rattle.regex_options.specs.Plain.{source, sources};
 ghost use Rattle.regex_options.specs.Request.{requested};
@@ -86,7 +86,9 @@ fn add_patterns<'a, R: Files + AllocGlobal>(
 }
 
 /// Returns the lines of a text. A line feed at its end is followed by no other line.
-fn lines_of(alloc: Global, text: &str) -> Result<Vec<String>, AllocError> {
+fn lines_of(alloc: Global, text: &str) -> Result<Vec<String>, AllocError>
+    ensures { IfOk result (λ lines. map string_bytes lines.items ≡ texts_of_lines text.now) }
+{
     let mut lines = Vec::new(alloc);
     let mut rest = text;
     while !rest.is_empty() {
@@ -100,7 +102,8 @@ fn lines_of(alloc: Global, text: &str) -> Result<Vec<String>, AllocError> {
 /// Returns the first line, without its line feed, and what is after it.
 fn first_line(text: &str) -> (&str, &str)
     requires { 0 < length text.now }
-    ensures { length result.1.now < length text.now }
+    ensures lines { texts_of_lines text.now ≡ result.0.now ∷ texts_of_lines result.1.now }
+    ensures shorter { length result.1.now < length text.now }
 {
     match text.split_once('\n') {
         Some((line, after)) => (line, after),
