@@ -1,5 +1,6 @@
 -- Elements of lists.
-use Rattle.std.proofs.Common.{◌≡◌, ℕ, zero, suc, ◌+◌, ◌<◌, List, [], ◌∷◌, ◌++◌, length, take, drop, map, slice_get, Option, Some, None, refl, ap, arith, not-suc-le-zero, le_of_suc-le-suc}
+use Rattle.std.proofs.Common.{◌≡◌, ℕ, zero, suc, ◌+◌, ◌<◌, List, [], ◌∷◌, ◌++◌, length, take, drop, map, slice_get, Some, option_map, refl, ap, ◌∙◌, arith, not-suc-le-zero, le_of_suc-le-suc}
+use Rattle.std.proofs.lemmas.Option.{slice_get-map}
 
 module _ {X : Type 0} where
   pub get-append-past : (xs ys : List X) (i j : ℕ) → i ≡ length xs + j → slice_get (xs ++ ys) i ≡ slice_get ys j
@@ -19,12 +20,6 @@ module _ {X : Type 0} where
   get-drop (suc n) (x ∷ xs) i zero e = absurd (omega (arith, e))
   get-drop (suc n) (x ∷ xs) i (suc j) e = get-drop n xs i j (omega (arith, e))
 
-module _ {X : Type 0} {Y : Type 0} where
-  pub get-map : (f : X → Y) (xs : List X) (i : ℕ) (x : X) → slice_get xs i ≡ Some x → slice_get (map f xs) i ≡ Some (f x)
-  get-map f [] i x e = cc
-  get-map f (y ∷ ys) zero x e = ap (option_map' f) e
-    where
-      option_map' : (X → Y) → Option X → Option Y
-      option_map' f None = None
-      option_map' f (Some x) = Some (f x)
-  get-map f (y ∷ ys) (suc i) x e = get-map f ys i x e
+-- an element of a list to which a function is applied
+pub get-map : {X : Type 0} {Y : Type 0} (f : X → Y) (xs : List X) (i : ℕ) (x : X) → slice_get xs i ≡ Some x → slice_get (map f xs) i ≡ Some (f x)
+get-map f xs i x is = slice_get-map f xs i ∙ ap (option_map f) is
