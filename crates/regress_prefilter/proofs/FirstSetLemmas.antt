@@ -13,14 +13,16 @@ use Rattle.regress_base.specs.ByteBitmap.{contains}
 use Rattle.regress_base.specs.Intervals.{Bounds, is_within, is_member}
 use Rattle.regress_base.specs.Listing.{lists}
 use Rattle.regress_base.specs.Positions.{IsMemberAt, IsLeastAt}
+use Rattle.regress_base.specs.Table.{denotes}
 use Rattle.regress_base.specs.declared.types.Quantifier.{Quantifier}
 use Rattle.regress_base.specs.FirstBytes.{IsFirstByteBetween}
 use Rattle.regress_tree.specs.Assertions.{at_anchor, at_boundary, is_word_character}
 use Rattle.regress_tree.specs.Lookaround.{lookaround_matcher, looked}
 use Rattle.regress_tree.specs.Matching.{steps, steps_of_parts, leaf_steps}
-use Rattle.regress_tree.specs.Reading.{forwards, backwards, Read, next_character, of_bytes}
+use Rattle.regress_tree.specs.Reading.{forwards, backwards, Reading, Read, next_character, of_bytes}
+use Rattle.regress_tree.specs.References.{all_of, any_string}
 use Rattle.regress_tree.specs.Repetition.{unset, iteration, iterations, moving, up_to, extra_iterations, repeat_matcher}
-use Rattle.regress_tree.specs.Steps.{MatchState, Matcher, stay, ◌then_◌, ◌or_◌, one_character, moved, these_bytes, hold_at, capture, captured, dedup, Setting}
+use Rattle.regress_tree.specs.Steps.{MatchState, Matcher, stay, fail, ◌then_◌, ◌or_◌, one_character, moved, these_bytes, hold_at, capture, captured, dedup, Setting}
 use Rattle.regress_tree.specs.Tree.{Leaf, empty, goal, char, byte_sequence, byte_set, char_set, match_any, match_any_except_line_terminator, anchor, word_boundary, bracket, back_ref, string_set, Tree, Trees, no_trees, more_trees, append_trees, leaf, cat, alt, wrapped, capture_group, lookaround}
 use Rattle.regress_tree.proofs.lemmas.Characters.{character_at_parts}
 use Rattle.regress_tree.proofs.lemmas.Lists.{steps-append}
@@ -353,6 +355,56 @@ front-still front (leaf l) through is = λ setting bytes.
 front-still front (cat parts) through is = let bad : ⊥ = cc in absurd bad
 front-still front (alt left right) through is = let bad : ⊥ = cc in absurd bad
 front-still front (wrapped w body) through is = let bad : ⊥ = cc in absurd bad
+
+pub none_first : (xs : List ℕ) → slice_get xs 0 ≡ None → xs ≡ []
+none_first [] is = refl
+none_first (x ∷ xs) is = let bad : ⊥ = cc in absurd bad
+
+pub some_first : (xs : List ℕ) (x : ℕ) → slice_get xs 0 ≡ Some x → xs ≡ x ∷ drop 1 xs
+some_first [] x is = let bad : ⊥ = cc in absurd bad
+some_first (y ∷ xs) x is = let same : y ≡ x = cc in ap (λ z. z ∷ xs) same
+
+-- strings that are matched exactly
+pub strings-none : (front : FirstSet) → IsFirstSet front (leaf (string_set [] false))
+unfolding any_string
+strings-none front = λ setting bytes s. All-nil _
+
+pub string-empty : (front : FirstSet) → front.through ≡ true → IsFirstSet front (leaf (string_set ([] ∷ []) false))
+unfolding any_string
+string-empty front through =
+    λ setting bytes. maybe front bytes (steps setting bytes forwards (leaf (string_set ([] ∷ []) false))) through (begins-stay (contains front.bytes) bytes)
+
+pub string-some : (set : ℕ → Bool) (c : ℕ) (cs : List ℕ) → IsCovered set c → (setting : Setting) (bytes : List ℕ) →
+    Begins set false bytes (steps setting bytes forwards (leaf (string_set ((c ∷ cs) ∷ []) false)))
+unfolding any_string
+string-some set c cs covered setting bytes =
+    let same = denotes setting.table false setting.flags.unicode in
+    let first = one_character forwards (of_bytes bytes) (same c) in
+    let rest = all_of forwards (of_bytes bytes) same cs in
+    begins_or set bytes false (first then_ rest) fail
+    (begins_before set bytes first rest (begins-one set bytes (same c) (λ x is. subst (λ y. IsCovered set y) (sym (eqb-true x c is)) covered)))
+    (λ s. All-nil _)
+
+any_string-append : (r : Reading) (same : ℕ → ℕ → Bool) (xs ys : List (List ℕ)) (s : MatchState) →
+    any_string forwards r same (xs ++ ys) s ≡ any_string forwards r same xs s ++ any_string forwards r same ys s
+unfolding any_string
+any_string-append r same [] ys s = refl
+any_string-append r same (x ∷ xs) ys s =
+    ap (λ ts. all_of forwards r same x s ++ ts) (any_string-append r same xs ys s)
+    ∙ sym (append_assoc (all_of forwards r same x s) (any_string forwards r same xs s) (any_string forwards r same ys s))
+
+pub strings-next : (a b r : FirstSet) (strings : List (List ℕ)) (string : List ℕ) →
+    ((bytes : List ℕ) (f g : Matcher) → IsFirstSetOf a bytes f → IsFirstSetOf b bytes g → IsFirstSetOf r bytes (f or_ g)) →
+    IsFirstSet a (leaf (string_set strings false)) → IsFirstSet b (leaf (string_set (string ∷ []) false)) →
+    IsFirstSet r (leaf (string_set (strings ++ string ∷ []) false))
+strings-next a b r strings string or so_far next =
+    λ setting bytes.
+    let same = denotes setting.table false setting.flags.unicode in
+    let f = steps setting bytes forwards (leaf (string_set strings false)) in
+    let g = steps setting bytes forwards (leaf (string_set (string ∷ []) false)) in
+    begins-same (contains r.bytes) bytes r.through (steps setting bytes forwards (leaf (string_set (strings ++ string ∷ []) false))) (f or_ g)
+    (any_string-append (of_bytes bytes) same strings (string ∷ []))
+    (or bytes f g (so_far setting bytes) (next setting bytes))
 
 pub front-capture : (front : FirstSet) (id : ℕ) (name : Option (List ℕ)) (t : Tree) → IsFirstSet front t → IsFirstSet front (wrapped (capture_group id name) t)
 front-capture front id name t is = λ setting bytes.

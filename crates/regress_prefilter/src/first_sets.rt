@@ -1,12 +1,13 @@
 //! The first bytes of the matches of a tree.
-ghost use Rattle.std.specs.Prelude.{◌≡◌, ℕ, List, IfSome, IsTrue, false, true};
+ghost use Rattle.std.specs.Box.{boxed_slice_items};
+ghost use Rattle.std.specs.Prelude.{◌≡◌, ◌∷◌, ℕ, List, [], map, IfSome, IsTrue, false, true};
 ghost use Rattle.regress_base.specs.ByteBitmap.{contains};
 ghost use Rattle.regress_base.specs.Intervals.{is_member};
 ghost use Rattle.regress_base.specs.Listing.{lists};
 ghost use Rattle.regress_base.specs.declared.types.Quantifier.{Quantifier};
 ghost use Rattle.regress_tree.specs.Repetition.{repeat_matcher};
 ghost use Rattle.regress_tree.specs.Steps.{Matcher, ◌then_◌, ◌or_◌};
-ghost use Rattle.regress_tree.specs.Tree.{tree, trees, cat, leaf, byte_sequence};
+ghost use Rattle.regress_tree.specs.Tree.{tree, trees, cat, leaf, byte_sequence, string_set};
 ghost use Rattle.regress_prefilter.specs.OneCharacter.{takes_one, test_of};
 ghost use Rattle.regress_prefilter.specs.FirstSets.{IsCovered, IsFirstSetOf, IsFirstSet, BeginsWithByteOf, IsNextMember};
 
@@ -14,13 +15,14 @@ use regress_base::bytesearch::{ByteBitmap, ByteSearcher};
 use regress_base::codepointset::{CODE_POINT_MAX, Interval};
 use regress_base::util::add_utf8_first_bytes_to_bitmap;
 use regress_tree::ir::Node;
+use std::boxed::BoxedSlice;
 
 /// Returns the first set of a tree: bytes, one of which is at the start of every match in the forward direction.
 ///
 /// Returns `None` if a match can be empty. It may also give up and return `None`, and does so if a part with which a
-/// match can begin is any character (`.`), an inverted bracket, a backreference, a set of strings or an empty byte
-/// sequence. So `None` does not state that there is no such set, and the set may contain bytes with which no match
-/// begins.
+/// match can begin is any character (`.`), an inverted bracket, a backreference, a set of strings that ignores case or
+/// an empty byte sequence. So `None` does not state that there is no such set, and the set may contain bytes with which
+/// no match begins.
 ///
 /// # Complexity
 /// At most one pass over the tree, without allocations. The depth of recursion is the depth of the tree, where the
@@ -179,6 +181,10 @@ fn first_set_of_leaf(node: &Node) -> Option<FirstSet>
                 through: false,
             })
         }
+        Node::StringSet {
+            alternatives,
+            icase: false,
+        } => Some(first_set_of_strings(alternatives)),
         _ => None,
     }
 }
@@ -196,6 +202,32 @@ fn first_set_of_bytes(written: &[u8]) -> Option<FirstSet>
         bytes,
         through: false,
     })
+}
+
+/// Returns the first set of strings, one of which is matched exactly.
+fn first_set_of_strings(strings: &[BoxedSlice<u32>]) -> FirstSet
+    ensures { IsFirstSet result (leaf (string_set (map boxed_slice_items strings.now) false)) }
+{
+    let mut all = FirstSet::nowhere();
+    for string in strings {
+        all = all.or(first_set_of_string(string));
+    }
+    all
+}
+
+/// Returns the first set of a string that is matched exactly.
+fn first_set_of_string(string: &[u32]) -> FirstSet
+    ensures { IsFirstSet result (leaf (string_set (string.now ∷ []) false)) }
+{
+    let Some(first) = string.first() else {
+        return FirstSet::empty();
+    };
+    let mut bytes = ByteBitmap::default();
+    add_character(*first, &mut bytes);
+    FirstSet {
+        bytes,
+        through: false,
+    }
 }
 
 /// Returns the first bytes of a leaf that matches one character, if the leaf lists its characters.
