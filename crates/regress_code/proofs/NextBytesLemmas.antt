@@ -1,24 +1,20 @@
 -- Next bytes: where instructions have no outcome.
 use Rattle.std.proofs.Common.{◌≡◌, ◌⊎◌, ⊎_elim, ℕ, zero, suc, ◌+◌, ◌-◌, ◌≤◌, ◌<◌, ◌==◌, ◌&&◌, ◌||◌, Bool, true, false, List, [], ◌∷◌, ◌++◌, flat_map, length, get_or, Option, Some, None, option_map, slice_get, encode_utf8, if◌then◌else◌, refl, sym, ap, ap₂, ◌∙◌, subst, append-nil, arith}
-use Rattle.std.proofs.lemmas.Bool.{eqb-true, false≢true}
-use Rattle.std.proofs.lemmas.Bool.Decides.{nat_tests}
 use Rattle.std.proofs.lemmas.Option.{slice_get-map, slice_get_within}
 use lib.Utf8.{encode}
 use Rattle.regress_base.specs.ByteBitmap.{contains}
 use Rattle.regress_base.specs.ByteSets.{SameMembers, bytes_of}
 use Rattle.regress_base.specs.Intervals.{is_member, is_within}
-use Rattle.regress_base.specs.Table.{denotes}
 use Rattle.regress_base.specs.declared.bytesearch.bitmap.ByteBitmap.{ByteBitmap}
 use Rattle.regress_base.specs.declared.types.AnchorType.{AnchorType}
 use Rattle.regress_base.specs.declared.types.AnchorType.TheVariants.{StartOfLine, EndOfLine}
 use Rattle.regress_tree.specs.Assertions.{at_anchor, is_line_terminator, passes}
 use Rattle.regress_tree.specs.Lookaround.{looked, lookaround_matcher}
 use Rattle.regress_tree.specs.Matching.{steps}
-use Rattle.regress_tree.specs.Reading.{Direction, Read, Reading, character_at, forwards, backwards, of_bytes, read_after, read_before}
-use Rattle.regress_tree.specs.References.{all_of}
+use Rattle.regress_tree.specs.Reading.{Direction, Read, character_at, forwards, backwards, of_bytes, read_after, read_before}
 use Rattle.regress_tree.specs.Repetition.{iterations}
 use Rattle.regress_tree.specs.Steps.{MatchState, Matcher, hold_at, ◌then_◌, Setting}
-use Rattle.regress_tree.specs.Tree.{Tree, leaf, anchor, string_set}
+use Rattle.regress_tree.specs.Tree.{Tree, leaf, anchor}
 use Rattle.regress_tree.proofs.lemmas.Characters.{character_at_parts}
 use Rattle.regress_tree.proofs.lemmas.Outcomes.{flat_map-then}
 use Rattle.regress_prefilter.specs.FirstSets.{BeginsWithByteOf}
@@ -26,7 +22,7 @@ use Rattle.regress_prefilter.specs.OneCharacter.{takes_one, test_of}
 use Rattle.regress_prefilter.proofs.lemmas.OneCharacter.{after_parts}
 use Rattle.regress_leaves.specs.Leaves.{exactly}
 use Rattle.regress_leaves.proofs.ReadingLemmas.{ascii_after, ascii_before, first_of_drop}
-use Rattle.regress_leaves.proofs.lemmas.Leaves.{all_no, all_none, any-cons, any-nil, exactly-steps}
+use Rattle.regress_leaves.proofs.lemmas.Leaves.{exactly-steps}
 use Rattle.regress_program.specs.Program.{At, IsSolution, Out, Routine, Solves, ended, matcher_of, outcomes_at, outcomes_by, reach, start}
 use Rattle.regress_program.specs.declared.instruction.Instruction.{Instruction}
 use Rattle.regress_leaves.specs.declared.test.Test.{Test}
@@ -219,43 +215,6 @@ bytes_outside set t begins setting text s out = bytes_fail set t setting text s 
 -- a string that is compared by canonical forms
 pub next_outside : (set : ByteBitmap) (text : List ℕ) (position : ℕ) → IsOutside forwards set text position → IsNextOutside set text position
 next_outside set text position out = record { before = out.before; byte = out.byte; out = out.out }
-
-first_of_code : (code rest : List ℕ) (b : ℕ) → slice_get code 0 ≡ Some b → get_or (code ++ rest) 0 0 ≡ b
-first_of_code [] rest b is = let bad : ⊥ = cc in absurd bad
-first_of_code (x ∷ code) rest b is = cc
-
-own_byte : (b : ℕ) → b < 256 → bytes_of (b ∷ []) b ≡ true
-unfolding bytes_of
-own_byte b lt = grind (arith, nat_tests)
-
--- A string that is compared exactly begins with the first byte of its first character.
-pub string_outside : (set : ByteBitmap) (b : ℕ) → SameMembers (contains set) (bytes_of (b ∷ [])) → (c : ℕ) (rest : List ℕ) → slice_get (encode_utf8 c) 0 ≡ Some b →
-    (setting : Setting) (text : List ℕ) (s : MatchState) → IsOutside forwards set text s.position →
-    steps setting text forwards (leaf (string_set ((c ∷ rest) ∷ []) false)) s ≡ []
-string_outside set b only c rest first setting text s out =
-    any-cons forwards r same (c ∷ rest) [] s ∙ ap₂ ◌++◌ (by (read_after text s.position) refl) (any-nil forwards r same s)
-  where
-    r : Reading
-    r = of_bytes text
-
-    same : ℕ → ℕ → Bool
-    same = denotes setting.table false setting.flags.unicode
-
-    not_here : character_at text s.position ≡ Some c → ⊥
-    not_here here =
-        let parts = character_at_parts text s.position c here in
-        let next : get_or text s.position 0 ≡ b =
-        sym (first_of_drop text s.position) ∙ ap (λ bs. get_or bs 0 0) parts.1.1 ∙ first_of_code (encode_utf8 c) parts.1.0 b first in
-        false≢true (sym out.out ∙ ap (contains set) next ∙ only b ∙ own_byte b (subst (λ x. x < 256) next out.byte))
-
-    differs : (x : ℕ) → character_at text s.position ≡ Some x → (is : Bool) → (x == c) ≡ is → is ≡ false
-    differs x here false is = refl
-    differs x here true is = absurd (not_here (here ∙ ap Some (eqb-true x c is)))
-
-    by : (o : Option Read) → read_after text s.position ≡ o → all_of forwards r same (c ∷ rest) s ≡ []
-    by None is = all_none forwards r same c rest s is
-    by (Some read) is =
-        all_no forwards r same c rest s read is (differs read.character (after_parts text s.position read is).0 (read.character == c) refl)
 
 -- Several characters begin with one.
 module _ (next_byte : NextBytes) (setting : Setting) (d : Direction) (text : List ℕ) (t : Tree) (s : MatchState)

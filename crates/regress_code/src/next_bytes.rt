@@ -1,18 +1,16 @@
 //! The bytes next to a position at which instructions have outcomes.
-ghost use Rattle.std.specs.Prelude.{◌≡◌, ◌<◌, ◌≤◌, ◌++◌, ◌&&◌, ℕ, [], ◌∷◌, Bool, IfOk, IfSome, List, Some, encode_utf8, false, flat_map, length, slice_get, true};
+ghost use Rattle.std.specs.Prelude.{◌≡◌, ◌<◌, ◌≤◌, ◌++◌, ◌&&◌, ℕ, [], Bool, IfOk, List, false, flat_map, length, true};
 ghost use Rattle.regress_base.specs.ByteBitmap.{contains};
 ghost use Rattle.regress_tree.specs.Matching.{steps};
 ghost use Rattle.regress_tree.specs.Reading.{Direction, direction_if, forwards};
 ghost use Rattle.regress_tree.specs.Steps.{MatchState, Matcher, Setting};
-ghost use Rattle.regress_tree.specs.Tree.{anchor, leaf, string_set, tree};
+ghost use Rattle.regress_tree.specs.Tree.{anchor, leaf, tree};
 ghost use Rattle.regress_program.specs.Program.{At, Out, outcomes_by};
 ghost use Rattle.regress_code.specs.NextBytes.{AreBodies, AreNextBytes, AreNextBytesOf, Bounds, FoldsIf, AreNextBytesAt};
 ghost use Rattle.regress_program.specs.Views.{op_in, ops_in};
 
 use regress_base::bytesearch::ByteBitmap;
-use regress_base::codepointset::CODE_POINT_MAX;
 use regress_base::types::AnchorType;
-use regress_base::util::utf8_first_byte;
 use regress_leaves::start::{Start, with_others};
 use regress_leaves::test::Test;
 use regress_program::instruction::Instruction;
@@ -175,12 +173,12 @@ fn leaf_next_bytes(test: &Test, after: NextBytes, backwards: bool, folds: bool) 
                 NextBytes::Any
             }
         }
-        Start::Any => other_next_bytes(&test.node, after, backwards),
+        Start::Any => assertion_next_bytes(&test.node, after, backwards),
     }
 }
 
-/// Returns the next bytes of a leaf of whose start nothing is known, by those of the instruction after it.
-fn other_next_bytes(node: &Node, after: NextBytes, backwards: bool) -> NextBytes
+/// Returns the next bytes of a leaf that may match the empty text, by those of the instruction after it.
+fn assertion_next_bytes(node: &Node, after: NextBytes, backwards: bool) -> NextBytes
     ensures { (setting : Setting) (text : List ℕ) (s : MatchState) (g : Matcher) →
         ((t : MatchState) → t.position ≡ s.position → Bounds after (direction_if backwards) text s.position (g t)) →
         Bounds result (direction_if backwards) text s.position (flat_map g (steps setting text (direction_if backwards) (tree node.now) s)) }
@@ -198,45 +196,8 @@ fn other_next_bytes(node: &Node, after: NextBytes, backwards: bool) -> NextBytes
         }
         Node::WordBoundary { .. } => after,
         Node::Empty | Node::Goal => after,
-        _ => string_next_bytes(node, backwards),
+        _ => NextBytes::Any,
     }
-}
-
-/// Returns the next bytes of a leaf that is exactly one string, compared exactly: forwards, the first byte of its first
-/// character. They are [`NextBytes::Any`] backwards, and for every other leaf.
-fn string_next_bytes(node: &Node, backwards: bool) -> NextBytes
-    ensures { (setting : Setting) (text : List ℕ) (s : MatchState) →
-        Bounds result (direction_if backwards) text s.position (steps setting text (direction_if backwards) (tree node.now) s) }
-{
-    if backwards {
-        return NextBytes::Any;
-    }
-    match first_byte(node) {
-        Some(b) => NextBytes::Bytes(ByteBitmap::new(&[b])),
-        None => NextBytes::Any,
-    }
-}
-
-/// Returns the first byte of the UTF-8 encoding of a string that a leaf compares exactly. It is `None` if the leaf is
-/// not exactly one such string, or if the string is empty or begins with a number that is no code point.
-fn first_byte(node: &Node) -> Option<u8>
-    ensures { IfSome result (λ b. (c : ℕ) × (rest : List ℕ) × (tree node.now ≡ leaf (string_set ((c ∷ rest) ∷ []) false)) × (slice_get (encode_utf8 c) 0 ≡ Some b)) }
-{
-    let Node::StringSet {
-        alternatives,
-        icase: false,
-    } = node
-    else {
-        return None;
-    };
-    if alternatives.len() != 1 {
-        return None;
-    }
-    let first = alternatives[0].first()?;
-    if *first > CODE_POINT_MAX {
-        return None;
-    }
-    Some(utf8_first_byte(*first))
 }
 
 /// Returns the next bytes of a multiline anchor. At the end of a line the next byte forwards is the first one of a line
