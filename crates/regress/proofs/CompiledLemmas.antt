@@ -29,7 +29,7 @@ use Rattle.regress.specs.declared.limits.Options.{Options}
 use Rattle.regress.specs.declared.pattern.Regex.{Regex}
 use Rattle.regress.proofs.SourceLemmas.{text_of-chars}
 use Rattle.regress_parse.proofs.lemmas.{length-pattern_groups}
-use Rattle.regress_program.specs.Size.{least_size}
+use Rattle.regress_program.specs.Size.{IsTooLong}
 use Rattle.regress_program.specs.declared.fault.CompileFault.{CompileFault}
 use Rattle.regress_program.specs.declared.fault.CompileFault.TheVariants as compile_fault
 
@@ -91,7 +91,7 @@ few_groups dialect setting source t is =
 pub too_long_is_due : (setting : Setting) (source : Source) (options : Options) (t : Tree) → IsTreeOfIn options.dialect setting source t →
     {X Y : Type 0} (r : Result X CompileFault) (f : CompileFault) (out : Result Y Error) →
     IsErr out × IsErrAnd out (λ error. error ≡ compile_error_of f) → r ≡ Err f →
-    (r ≡ Err compile_fault.TooLong → length (captures t) < 18446744073709551615 → options.instructions < least_size t) →
+    (r ≡ Err compile_fault.TooLong → length (captures t) < 18446744073709551615 → IsTooLong options.instructions t) →
     IfErr out (IsDue setting source options)
 too_long_is_due setting source options t is r f (Ok y) given same too_long = tt
 too_long_is_due setting source options t is r (compile_fault.Memory e) (Err error) given same too_long =

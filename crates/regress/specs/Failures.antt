@@ -9,7 +9,7 @@ use Rattle.regress_found.specs.declared.fault.MemoryFault.{MemoryFault}
 use Rattle.regress_found.specs.declared.fault.MemoryFault.TheVariants as memory_fault
 use Rattle.regress_front.specs.Tree.{Tree}
 use Rattle.regress_front.specs.Settled.{IsSyntaxErrorIn}
-use Rattle.regress_program.specs.Size.{least_size}
+use Rattle.regress_program.specs.Size as size
 use Rattle.regress_program.specs.declared.fault.CompileFault.{CompileFault}
 use Rattle.regress_program.specs.declared.fault.CompileFault.TheVariants as compile_fault
 use Rattle.regress.specs.Compiled.{IsTreeOfIn}
@@ -37,12 +37,12 @@ abbrev pub search_error_of : MemoryFault → SearchError
 search_error_of memory_fault.Memory = search_error.Memory
 search_error_of memory_fault.TooMuchMemory = search_error.TooMuchMemory
 
--- The program of an accepted pattern, by its tree, has more instructions than the limit, also if one matches any number of
--- characters.
+-- The program of an accepted pattern, by its tree, is too long, also if an instruction matches any number of characters and
+-- iterations are copied.
 pub record IsTooLong (setting : Setting) (source : Source) (options : Options) : Type 0 where
   pub tree : Tree
   pub is_tree : IsTreeOfIn options.dialect setting source tree
-  pub long : options.instructions < least_size tree
+  pub long : size.IsTooLong options.instructions tree
 
 -- The bound on the nodes, or the number of instructions, exceeds its limit.
 abbrev pub IsTooLarge : Setting → Source → Options → Type 0

@@ -7,9 +7,13 @@ use Rattle.regress.specs.declared.pattern.Regex.{Regex}
 abbrev pub memory_of : Regex → ℕ
 memory_of r = matcher.memory_of r.matcher
 
--- the number of instructions of its program
+-- the number of instructions of its program, copies included
 abbrev pub instructions_of : Regex → ℕ
 instructions_of r = matcher.instructions_of r.matcher
+
+-- the number of those that are stored
+abbrev pub stored_instructions_of : Regex → ℕ
+stored_instructions_of r = matcher.stored_instructions_of r.matcher
 
 -- A search in the text from there on takes more memory than it may: its tables, or a backtrack stack.
 abbrev pub SearchNeedsMore : Regex → (text : List ℕ) → (from : ℕ) → Type 0

@@ -15,9 +15,9 @@ pub struct Options {
     /// The number of nodes that the tree of the pattern may have, as `node_bound` of `regress_front` bounds it before
     /// the pattern is parsed. A million by default.
     pub nodes: usize,
-    /// The number of instructions that the program of the pattern may have, where the body of a loop `{n,m}` counts m
-    /// times, or if it is one character, about m / 64 times, and if that is too much, a few times. 250,000 by default: up
-    /// to some 100 MiB.
+    /// The number of instructions of the pattern's program that may be stored, where the body of a loop `{n,m}` counts m
+    /// times, or if it is one character, about m / 64 times; but if that is too much, at most four times, or a few times.
+    /// 250,000 by default: up to some 100 MiB.
     pub instructions: usize,
     /// The number of instructions up to which a program is searched in linear time, where it can be. A body of one character
     /// always counts about m / 64 times here. The tables that this needs take up to two bits for each instruction and byte

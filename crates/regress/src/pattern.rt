@@ -75,11 +75,11 @@ impl Regex {
     ghost use Rattle.regress_match.specs.Matcher.{IsFactorOf, IsFindFactorOf, IsNonlinearOf, is_find_linear_tree};
     ghost use Rattle.regress_found.specs.Repeated.{AreAllMatches};
     ghost use Rattle.regress_prefilter.specs.Literals.{bytes_in, literals, longest};
-    ghost use Rattle.regress_program.specs.Size.{compiled_size};
+    ghost use Rattle.regress_program.specs.Size.{IsSize};
     ghost use Rattle.regress_replace.specs.Order.{AreInOrder};
     ghost use Rattle.regress.specs.Costs.{AllCostLimit, CostsLimit, factor_in, factor_of, find_factor_in, find_factor_of, limit_of, linear_steps_of, matcher_of, nonlinear_of, step_limit_of};
     ghost use Rattle.regress.specs.Kept.{Keeps};
-    ghost use Rattle.regress.specs.Memory.{AllNeedMore, SearchNeedsMore, instructions_of, match_bytes, memory_of};
+    ghost use Rattle.regress.specs.Memory.{AllNeedMore, SearchNeedsMore, instructions_of, match_bytes, memory_of, stored_instructions_of};
     ghost use Rattle.regress.specs.Compiled.{IsCompiledFromIn, IsCompiledIn, groups_of, outcomes_of, setting_of, source_of, tree_of, groups_in, match_of};
     ghost use Rattle.regress.specs.Unicode.{unicode_setting};
     ghost use Rattle.regress.specs.Source.{text_of};
@@ -138,14 +138,14 @@ impl Regex {
     ///
     /// # Errors
     /// - [`Error::TooLarge`] if `node_bound` of the pattern exceeds `options.nodes`, whether or not the pattern is
-    ///   valid, or if its program has more than `options.instructions` instructions, as [`Options::instructions`] counts
-    ///   them.
+    ///   valid, or if more than `options.instructions` instructions of its program are stored, as [`Options::instructions`]
+    ///   counts them, or there are more than `usize::MAX` with all iterations of its loops.
     /// - [`Error::Syntax`] if the pattern is rejected.
     /// - [`Error::Memory`] if an allocation fails.
     ///
     /// # Complexity
     /// As for `parse_and_optimize` of `regress_front`. If the pattern is too large, it is not parsed. Compiling takes time
-    /// and memory in proportion to the number of instructions.
+    /// and memory in proportion to the number of stored instructions.
     pub fn with_options(
         alloc: Global,
         pattern: &str,
@@ -158,11 +158,11 @@ impl Regex {
         ensures failed { let setting = setting_under (flags_in_force options.dialect flags) (arc_value tables.now) in
             IfErr result (IsDue setting (chars pattern.now) options) }
         ensures small { IfOk result (λ _. options.nodes < usize.MAX → HasAtMost (flags_in_force options.dialect flags) (chars pattern.now) options.nodes) }
-        ensures within { IfOk result (λ regex. instructions_of regex ≤ options.instructions) }
+        ensures within { IfOk result (λ regex. stored_instructions_of regex ≤ options.instructions) }
         ensures limit { IfOk result (λ regex. limit_of regex ≡ options.steps) }
         ensures linear_steps { IfOk result (λ regex. linear_steps_of regex ≡ options.linear_steps) }
         ensures memory { IfOk result (λ regex. memory_of regex ≡ options.memory) }
-        ensures instructions { IfOk result (λ regex. instructions_of regex ≡ compiled_size options.instructions (tree_of regex)) }
+        ensures instructions { IfOk result (λ regex. IsSize options.instructions (tree_of regex) (instructions_of regex)) }
         ensures linear { IfOk result (λ regex. IsFactorOf (linear_limit options) (tree_of regex) (factor_of regex)) }
         ensures find_linear { IfOk result (λ regex. IsFindFactorOf (linear_limit options) (tree_of regex) (find_factor_of regex)) }
         ensures find_linear_tree { IfOk result (λ regex. is_some (find_factor_of regex) ≡ is_find_linear_tree (linear_limit options) (tree_of regex)) }
@@ -197,11 +197,11 @@ impl Regex {
         ensures failed { let setting = setting_under (flags_in_force options.dialect flags) (arc_value tables.now) in
             IfErr result (IsDue setting pattern.now options) }
         ensures small { IfOk result (λ _. options.nodes < usize.MAX → HasAtMost (flags_in_force options.dialect flags) pattern.now options.nodes) }
-        ensures within { IfOk result (λ regex. instructions_of regex ≤ options.instructions) }
+        ensures within { IfOk result (λ regex. stored_instructions_of regex ≤ options.instructions) }
         ensures limit { IfOk result (λ regex. limit_of regex ≡ options.steps) }
         ensures linear_steps { IfOk result (λ regex. linear_steps_of regex ≡ options.linear_steps) }
         ensures memory { IfOk result (λ regex. memory_of regex ≡ options.memory) }
-        ensures instructions { IfOk result (λ regex. instructions_of regex ≡ compiled_size options.instructions (tree_of regex)) }
+        ensures instructions { IfOk result (λ regex. IsSize options.instructions (tree_of regex) (instructions_of regex)) }
         ensures linear { IfOk result (λ regex. IsFactorOf (linear_limit options) (tree_of regex) (factor_of regex)) }
         ensures find_linear { IfOk result (λ regex. IsFindFactorOf (linear_limit options) (tree_of regex) (find_factor_of regex)) }
         ensures find_linear_tree { IfOk result (λ regex. is_some (find_factor_of regex) ≡ is_find_linear_tree (linear_limit options) (tree_of regex)) }
@@ -234,11 +234,11 @@ impl Regex {
         ensures failed { let setting = setting_under (flags_in_force options.dialect flags) (arc_value tables.now) in
             IfErr result (IsDue setting pattern.now options) }
         ensures small { IfOk result (λ _. options.nodes < usize.MAX → HasAtMost (flags_in_force options.dialect flags) pattern.now options.nodes) }
-        ensures within { IfOk result (λ regex. instructions_of regex ≤ options.instructions) }
+        ensures within { IfOk result (λ regex. stored_instructions_of regex ≤ options.instructions) }
         ensures limit { IfOk result (λ regex. limit_of regex ≡ options.steps) }
         ensures linear_steps { IfOk result (λ regex. linear_steps_of regex ≡ options.linear_steps) }
         ensures memory { IfOk result (λ regex. memory_of regex ≡ options.memory) }
-        ensures instructions { IfOk result (λ regex. instructions_of regex ≡ compiled_size options.instructions (tree_of regex)) }
+        ensures instructions { IfOk result (λ regex. IsSize options.instructions (tree_of regex) (instructions_of regex)) }
         ensures linear { IfOk result (λ regex. IsFactorOf (linear_limit options) (tree_of regex) (factor_of regex)) }
         ensures find_linear { IfOk result (λ regex. IsFindFactorOf (linear_limit options) (tree_of regex) (find_factor_of regex)) }
         ensures find_linear_tree { IfOk result (λ regex. is_some (find_factor_of regex) ≡ is_find_linear_tree (linear_limit options) (tree_of regex)) }

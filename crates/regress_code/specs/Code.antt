@@ -12,7 +12,7 @@ use Rattle.regress_program.specs.Cost.{Cost, blocks, cost_of}
 use Rattle.regress_found.specs.Found.{initial_state}
 use Rattle.regress_program.specs.Program.{Out, Routine, matcher_of}
 use Rattle.regress_program.specs.declared.counts.Counts.{Counts}
-use Rattle.regress_program.specs.Search.{counts_of, flags_of, groups_of, is_known_tidy, routines_of}
+use Rattle.regress_program.specs.Search.{counts_of, flags_of, groups_of, is_known_tidy, routines_of, stored_instructions_of}
 use Rattle.regress_code.specs.declared.code.Code.{Code}
 
 -- the routines of a program
@@ -27,7 +27,11 @@ code_flags code = flags_of code.program
 abbrev pub code_groups : Code → ℕ
 code_groups code = groups_of code.program
 
--- how large the counts of its instructions are
+-- the number of its stored instructions
+abbrev pub code_stored : Code → ℕ
+code_stored code = stored_instructions_of code.program
+
+-- how loops were compiled
 abbrev pub code_counts : Code → Counts
 code_counts code = counts_of code.program
 

@@ -4,8 +4,8 @@ ghost use Rattle.regress_tree.specs.Tree.{tree};
 ghost use Rattle.regress_tree.specs.WellFormed.{IsWellFormed, captures};
 ghost use Rattle.regress_program.specs.Compiled.{IsPattern, total};
 ghost use Rattle.regress_program.specs.Linear.{has_back_reference, is_linear, is_linear_tree, reason};
-ghost use Rattle.regress_program.specs.Search.{counts_of, flags_of, groups_of, is_known_tidy, routines_of};
-ghost use Rattle.regress_program.specs.Size.{compiled_size, counts_within, is_bounded, least_size};
+ghost use Rattle.regress_program.specs.Search.{counts_of, flags_of, groups_of, is_known_tidy, routines_of, stored_instructions_of};
+ghost use Rattle.regress_program.specs.Size.{IsSize, IsTooLong, counts_within, is_bounded};
 ghost use Rattle.regress_program.specs.Tidy.{has_no_back_reference, table_groups as groups_by_tables};
 ghost use Rattle.regress_program.specs.declared.fault.CompileFault.TheVariants.{TooLong};
 ghost use Rattle.regress_code.specs.Candidates.{BeginsAt, BeginsAt-prop};
@@ -37,9 +37,9 @@ pub struct Code {
 }
 
 impl Code {
-    ghost use Rattle.regress_code.specs.Code.{code_counts, code_flags, code_groups, code_routines, code_tidy};
+    ghost use Rattle.regress_code.specs.Code.{code_counts, code_flags, code_groups, code_routines, code_stored, code_tidy};
 
-    /// Compiles a pattern into a program of at most `limit` instructions, and analyzes it.
+    /// Compiles a pattern into a program of which at most `limit` instructions are stored, and analyzes it.
     ///
     /// # Complexity
     /// That of [`Program::compile`], and linear in the size of the tree and the number of instructions.
@@ -53,10 +53,11 @@ impl Code {
         ensures linear { IfOk result (λ code. is_linear (code_routines code) ≡ is_linear_tree (tree regex.now.node)) }
         ensures plain { IfOk result (λ code. has_no_back_reference (code_routines code) ≡ not (has_back_reference (tree regex.now.node))) }
         ensures tidy { IfOk result (λ code. IsWellFormed (tree regex.now.node) → code_tidy code ≡ true) }
-        ensures size { IfOk result (λ code. total (code_routines code) ≡ compiled_size limit (tree regex.now.node)) }
+        ensures size { IfOk result (λ code. IsSize limit (tree regex.now.node) (total (code_routines code))) }
         ensures counts { IfOk result (λ code. code_counts code ≡ counts_within limit (tree regex.now.node)) }
-        ensures within { IfOk result (λ code. total (code_routines code) ≤ limit) }
-        ensures too_long { result ≡ Err TooLong → limit < least_size (tree regex.now.node) }
+        ensures most { IfOk result (λ code. total (code_routines code) ≤ usize.MAX) }
+        ensures within { IfOk result (λ code. code_stored code ≤ limit) }
+        ensures too_long { result ≡ Err TooLong → IsTooLong limit (tree regex.now.node) }
     {
         let program = Program::compile(alloc, regex, limit)?;
         let candidates = candidates_of(&regex.node);
@@ -78,6 +79,7 @@ impl Code {
         ensures groups { IfOk result (λ code. code_groups code ≡ groups_of program) }
         ensures counts { IfOk result (λ code. code_counts code ≡ counts_of program) }
         ensures tidy { IfOk result (λ code. code_tidy code ≡ is_known_tidy program) }
+        ensures stored { IfOk result (λ code. code_stored code ≡ stored_instructions_of program) }
     {
         let folds = program.flags.icase;
         let analyses = analyze(alloc, &program, folds)?;
@@ -89,7 +91,7 @@ impl Code {
         })
     }
 
-    /// Returns the number of instructions, at most `usize::MAX`.
+    /// Returns the number of instructions, copies included, at most `usize::MAX`.
     pub fn instructions(&self) -> usize
         ensures { result ≡ min (total (code_routines self.now)) usize.MAX }
     {

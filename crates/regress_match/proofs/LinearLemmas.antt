@@ -9,38 +9,46 @@ use Rattle.regress_program.specs.Linear.{has_back_reference, is_linear, is_linea
 use Rattle.regress_program.specs.Program.{Routine}
 use Rattle.regress_program.specs.Ranges.{inner_groups}
 use Rattle.regress_program.specs.declared.counts.Counts.{Counts}
-use Rattle.regress_program.specs.declared.counts.Counts.TheVariants.{Bounded, Unbounded}
-use Rattle.regress_program.specs.Size.{compiled_size, counts_within, is_bounded, program_size, size}
+use Rattle.regress_program.specs.declared.counts.Counts.TheVariants.{Bounded, Unbounded, Copied}
+use Rattle.regress_program.specs.Size.{IsSize, counts_within, is_bounded, is_copied, program_size, size, unbounded_size}
 use Rattle.regress_program.specs.Tidy.{has_no_back_reference}
 use Rattle.regress_program.proofs.lemmas.Strict.{reason-tree}
 use Rattle.regress_match.specs.Matcher.{IsFactorOf, IsNonlinearOf, factor, factor_with, find_factor, find_factor_with, is_find_linear_tree, nonlinear_by, nonlinear_with}
 
 -- whether the program is within the limits, and has bounded counts
 module _ (limit linear : ℕ) (t : Tree) where
-  abbrev counts_if : Bool → Counts
-  counts_if b = if b then Bounded else Unbounded
+  abbrev counts_if : (bounded unbounded : Bool) → Counts
+  counts_if bounded unbounded = if bounded then Bounded else if unbounded then Unbounded else Copied
 
-  fits : (b : Bool) → nat_le (program_size t) limit ≡ b →
-      (is_bounded (counts_if b) && nat_le (size (counts_if b) t + 1) linear) ≡ nat_le (program_size t) (min linear limit)
-  fits true is = by (nat_le (program_size t) linear) refl
+  bounded_if : (b c : Bool) → nat_le (program_size t) limit ≡ b → is_bounded (counts_if b c) ≡ b
+  bounded_if true c is = refl
+  bounded_if false true is = refl
+  bounded_if false false is = refl
+
+  pub size_within : (n : ℕ) → IsSize limit t n → program_size t ≤ limit → n ≡ program_size t
+  size_within n counted le =
+      let small : nat_le (program_size t) limit ≡ true = le-leb (program_size t) limit le in
+      let counts : counts_within limit t ≡ Bounded = ap (λ b. counts_if b (nat_le (unbounded_size t) limit)) small in
+      counted.exact (ap is_copied counts) ∙ ap (λ c. size c t + 1) counts
+
+  fits : (b : Bool) (n : ℕ) → nat_le (program_size t) limit ≡ b → (program_size t ≤ limit → n ≡ program_size t) →
+      (b && nat_le n linear) ≡ nat_le (program_size t) (min linear limit)
+  fits true n is same =
+      let small : program_size t ≤ limit = leb-true (program_size t) limit is in
+      ap (λ k. nat_le k linear) (same small) ∙ by (nat_le (program_size t) linear) refl
     where
       by : (b : Bool) → nat_le (program_size t) linear ≡ b → b ≡ nat_le (program_size t) (min linear limit)
       by true small =
           sym (le-leb (program_size t) (min linear limit) (omega (arith, leb-true (program_size t) limit is, leb-true (program_size t) linear small)))
       by false large = sym (lt-leb (program_size t) (min linear limit) (omega (arith, leb-false (program_size t) linear large)))
-  fits false is = sym (lt-leb (program_size t) (min linear limit) (omega (arith, leb-false (program_size t) limit is)))
+  fits false n is same = sym (lt-leb (program_size t) (min linear limit) (omega (arith, leb-false (program_size t) limit is)))
 
-  pub within_limits : (counts : Counts) (n : ℕ) → counts ≡ counts_within limit t → n ≡ compiled_size limit t →
+  pub within_limits : (counts : Counts) (n : ℕ) → counts ≡ counts_within limit t → IsSize limit t n →
       (is_bounded counts && nat_le n linear) ≡ nat_le (program_size t) (min linear limit)
   within_limits counts n is counted =
-      ap₂ (λ c k. is_bounded c && nat_le k linear) is counted ∙ fits (nat_le (program_size t) limit) refl
-
-  sized : (b : Bool) → nat_le (program_size t) limit ≡ b → program_size t ≤ limit → size (counts_if b) t + 1 ≡ program_size t
-  sized true is le = refl
-  sized false is le = absurd (omega (arith, leb-false (program_size t) limit is, le))
-
-  pub size_within : (n : ℕ) → n ≡ compiled_size limit t → program_size t ≤ limit → n ≡ program_size t
-  size_within n counted le = counted ∙ sized (nat_le (program_size t) limit) refl le
+      let bounded : is_bounded counts ≡ nat_le (program_size t) limit =
+      ap is_bounded is ∙ bounded_if (nat_le (program_size t) limit) (nat_le (unbounded_size t) limit) refl in
+      ap (λ b. b && nat_le n linear) bounded ∙ fits (nat_le (program_size t) limit) n refl (size_within n counted)
 
 module _ (groups : ℕ) (routines : List Routine) (t : Tree) (limit : ℕ) (within : Bool) (counted : groups ≡ length (captures t))
     (fits : within ≡ nat_le (program_size t) limit) (size_if : program_size t ≤ limit → total routines ≡ program_size t)

@@ -6,7 +6,7 @@ use Rattle.regress_program.specs.Program.{Out}
 use Rattle.regress_backtrack.specs.Memory.{IsWithin, entries_in}
 use Rattle.regress_backtrack.specs.declared.cache.Cache.{Cache}
 use Rattle.regress_program.specs.Tidy.{is_tabled}
-use Rattle.regress_code.specs.Code.{code_groups, code_routines, code_tidy}
+use Rattle.regress_code.specs.Code.{code_groups, code_routines, code_stored, code_tidy}
 use Rattle.regress_found.specs.Repeated.{AreMatches}
 use Rattle.regress_found.specs.declared.found.Match.{Match}
 use Rattle.regress_tables.specs.Memory.{table_bytes}
@@ -19,9 +19,13 @@ use Rattle.regress_match.specs.declared.matcher.Matcher.{Matcher}
 abbrev pub memory_of : Matcher → ℕ
 memory_of m = m.memory
 
--- the number of instructions of its program
+-- the number of instructions of its program, copies included
 abbrev pub instructions_of : Matcher → ℕ
 instructions_of m = total (code_routines m.code)
+
+-- the number of those that are stored
+abbrev pub stored_instructions_of : Matcher → ℕ
+stored_instructions_of m = code_stored m.code
 
 -- The program is searched by tables, and those of the text take more memory than they may.
 pub record TablesNeedMore (m : Matcher) (text : List ℕ) : Type 0 where

@@ -7,15 +7,15 @@ ghost use Rattle.regress_unicode.specs.TableOf.{table_of};
 ghost use Rattle.regress_unicode.specs.declared.Tables.{Tables};
 ghost use Rattle.regress_program.specs.Compiled.{IsPattern, total};
 ghost use Rattle.regress_program.specs.Linear.{has_back_reference, is_linear, is_linear_tree};
-ghost use Rattle.regress_program.specs.Size.{compiled_size, counts_within, is_bounded, least_size};
+ghost use Rattle.regress_program.specs.Size.{IsSize, IsTooLong, counts_within, is_bounded};
 ghost use Rattle.regress_program.specs.Tidy.{has_no_back_reference};
 ghost use Rattle.regress_program.specs.declared.fault.CompileFault.TheVariants.{TooLong};
 ghost use Rattle.regress_tables.specs.Search.{walk_weight};
-ghost use Rattle.regress_code.specs.Code.{code_counts, code_groups, code_routines, code_tidy};
+ghost use Rattle.regress_code.specs.Code.{code_counts, code_groups, code_routines, code_stored, code_tidy};
 ghost use Rattle.regress_match.specs.Compiled.{IsCodeOf};
 ghost use Rattle.regress_match.specs.Costs.{HasCosts};
 ghost use Rattle.regress_match.specs.Matcher.{IsFactorOf, IsFindFactorOf, IsNonlinearOf, factor, factor_of, find_factor, find_factor_of, linear_steps_of, nonlinear_of};
-ghost use Rattle.regress_match.specs.Memory.{instructions_of, memory_of};
+ghost use Rattle.regress_match.specs.Memory.{instructions_of, memory_of, stored_instructions_of};
 ghost use Rattle.regress_match.specs.Pattern.{matcher_setting, matcher_tree};
 
 use crate::limits::Limits;
@@ -31,7 +31,8 @@ use std::alloc::Global;
 use std::sync::Arc;
 
 impl Matcher {
-    /// Compiles a pattern into a program of at most `limits.instructions` instructions.
+    /// Compiles a pattern into a program of which at most `limits.instructions` instructions are stored: of the iterations of
+    /// a loop all, or if that exceeds the limit, two of each number of them.
     ///
     /// Searches for all matches take linear time exactly if the program, with at most 64 characters for each instruction, has
     /// at most `limits.linear_instructions` instructions, and no more than it may have; and the tree has no back reference,
@@ -39,8 +40,8 @@ impl Matcher {
     /// lookarounds capture. What is in a loop without iterations does not count.
     ///
     /// # Errors
-    /// - [`CompileFault::TooLong`] if the program would have more instructions than the limit, also if one instruction
-    ///   matches any number of characters.
+    /// - [`CompileFault::TooLong`] if more instructions would be stored, or there would be more than `usize::MAX` with all
+    ///   iterations.
     /// - [`CompileFault::Memory`] if an allocation fails.
     ///
     /// # Complexity
@@ -59,9 +60,9 @@ impl Matcher {
         ensures costs { IfOk result (λ m. (text : List ℕ) → HasCosts m text) }
         ensures linear_steps { IfOk result (λ m. linear_steps_of m ≡ limits.linear_steps) }
         ensures memory { IfOk result (λ m. memory_of m ≡ limits.memory) }
-        ensures instructions { IfOk result (λ m. instructions_of m ≡ compiled_size limits.instructions (tree regex.node)) }
-        ensures within { IfOk result (λ m. instructions_of m ≤ limits.instructions) }
-        ensures too_long { result ≡ Err TooLong → length (captures (tree regex.node)) < usize.MAX → limits.instructions < least_size (tree regex.node) }
+        ensures instructions { IfOk result (λ m. IsSize limits.instructions (tree regex.node) (instructions_of m)) }
+        ensures within { IfOk result (λ m. stored_instructions_of m ≤ limits.instructions) }
+        ensures too_long { result ≡ Err TooLong → length (captures (tree regex.node)) < usize.MAX → IsTooLong limits.instructions (tree regex.node) }
     {
         let code = compiled(alloc, &regex, limits.instructions)?;
         let within = is_within(&code, limits.linear_instructions);
@@ -129,7 +130,7 @@ impl Matcher {
     }
 }
 
-/// Returns the program of a pattern, of at most `limit` instructions.
+/// Returns the program of a pattern, of which at most `limit` instructions are stored.
 fn compiled(alloc: Global, regex: &Regex, limit: usize) -> Result<Code, CompileFault>
     ensures means { IfOk result (λ code. (tables : Tables) → IsCodeOf (record { flags = regex.now.flags; table = table_of tables }) (tree regex.now.node) tables code) }
     ensures pattern { IfOk result (λ code. IsPattern (code_routines code) (tree regex.now.node)) }
@@ -137,10 +138,11 @@ fn compiled(alloc: Global, regex: &Regex, limit: usize) -> Result<Code, CompileF
     ensures plain { IfOk result (λ code. has_no_back_reference (code_routines code) ≡ not (has_back_reference (tree regex.now.node))) }
     ensures tidy { IfOk result (λ code. IsWellFormed (tree regex.now.node) → code_tidy code ≡ true) }
     ensures counts { IfOk result (λ code. code_counts code ≡ counts_within limit (tree regex.now.node)) }
-    ensures size { IfOk result (λ code. total (code_routines code) ≡ compiled_size limit (tree regex.now.node)) }
+    ensures size { IfOk result (λ code. IsSize limit (tree regex.now.node) (total (code_routines code))) }
     ensures groups { IfOk result (λ code. code_groups code ≡ length (captures (tree regex.now.node))) }
-    ensures within { IfOk result (λ code. total (code_routines code) ≤ limit) }
-    ensures too_long { result ≡ Err TooLong → length (captures (tree regex.now.node)) < usize.MAX → limit < least_size (tree regex.now.node) }
+    ensures most { IfOk result (λ code. total (code_routines code) ≤ usize.MAX) }
+    ensures within { IfOk result (λ code. code_stored code ≤ limit) }
+    ensures too_long { result ≡ Err TooLong → length (captures (tree regex.now.node)) < usize.MAX → IsTooLong limit (tree regex.now.node) }
 {
     let code = Code::compile(alloc, regex, limit)?;
     // the number of groups is exact only below this

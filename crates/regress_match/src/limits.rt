@@ -1,11 +1,12 @@
 //! Limits on the size of a program, and on the memory of its searches.
 
-/// How many instructions a program may have, and how much memory its searches may take.
+/// How many instructions of a program may be stored, and how much memory its searches may take.
 #[derive(Clone, Copy, Debug, PartialEq, Eq)]
 pub struct Limits {
-    /// The number of instructions that a program may have, where the body of a loop `{n,m}` counts m times, or if it is one
-    /// character, about m / 64 times; but if that is too much, once for n, and a few times for each bit of m. A pattern that
-    /// needs more is not compiled. 250,000 by default: up to some 100 MiB.
+    /// The number of instructions of a program that may be stored, where the body of a loop `{n,m}` counts m times, or if it
+    /// is one character, about m / 64 times; but if that is too much, at most twice for n and twice for what m allows beyond,
+    /// or if it is one character, once for n, and a few times for each bit of m. A pattern that needs more is not compiled.
+    /// 250,000 by default: up to some 100 MiB.
     pub instructions: usize,
     /// The number of instructions up to which a program is searched by tables, in linear time, where a body of one character
     /// always counts about m / 64 times. The tables take up to two

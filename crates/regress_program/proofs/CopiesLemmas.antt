@@ -1,5 +1,6 @@
 -- Copies of the last instructions, as many as wanted.
 use Rattle.std.proofs.Common.{◌≡◌, ℕ, zero, suc, ◌+◌, ◌-◌, ◌*◌, ◌≤◌, ◌<◌, List, ◌++◌, length, drop, map, refl, sym, subst, ◌∙◌, arith}
+use Rattle.regress_program.specs.Copies.{shift}
 use Rattle.std.proofs.lemmas.List.{length-append, length-drop, length-map}
 use Rattle.regress_program.specs.Adds.{Holds}
 use Rattle.regress_program.specs.Compiled.{Matching, after_iterations, Code, Grown, Compiled}
@@ -8,7 +9,7 @@ use Rattle.regress_program.specs.Program.{Op}
 use Rattle.regress_program.proofs.AddMoved.{Adds-moved}
 use Rattle.regress_program.proofs.CodeLemmas.{Extends-same, Grown-then, get-append-below}
 use Rattle.regress_program.proofs.ElementLemmas.{get-append-past, get-drop, get-map}
-use Rattle.regress_program.proofs.Moved.{shift, moved_op, Moves}
+use Rattle.regress_program.proofs.Moved.{moved_op, Moves}
 use Rattle.regress_program.proofs.MovedLemmas.{shift-from, Compiled-moved}
 use Rattle.regress_program.proofs.PieceLemmas.{holds_mandatory}
 use Rattle.regress_program.proofs.RepeatLemmas.{compiled_mandatory}
@@ -17,11 +18,6 @@ use Rattle.regress_program.proofs.TidyMoved.{Tidies-moved}
 -- the last `width` instructions once more, moved by `width`
 abbrev pub once_more : (from width : ℕ) → List Op → List Op
 once_more from width ops = ops ++ map (moved_op from width) (drop (length ops - width) ops)
-
--- the same `count` times
-abbrev pub times_more : (from width count : ℕ) → List Op → List Op
-times_more from width zero ops = ops
-times_more from width (suc count) ops = times_more from width count (once_more from width ops)
 
 -- a program with one more copy
 abbrev pub code_once : (from width : ℕ) → Code → Code

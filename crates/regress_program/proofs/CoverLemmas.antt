@@ -9,7 +9,7 @@ use Rattle.regress_tree.specs.Tree.{empty, goal, char, byte_sequence, byte_set, 
 use Rattle.regress_tree.specs.declared.ir.node.Node.{Node}
 use Rattle.regress_program.specs.Adds.{OpsLack, RoutinesLack, CodeLacks, Covers, CoversRoutine}
 use Rattle.regress_program.specs.Compiled.{Extends, Code, Grown}
-use Rattle.regress_program.specs.Contents.{Contents, nothing, in_sequence, either_of, grouped, in_iteration, in_iterations, in_loop, after_all, in_lookaround, content, content_of_parts}
+use Rattle.regress_program.specs.Contents.{Contents, nothing, in_sequence, either_of, grouped, in_iteration, in_iterations, in_loop, in_lookaround, content, content_of_parts}
 use Rattle.regress_program.specs.Linear.{changes_captures, is_back_ref, is_back_reference, is_capturing, is_capturing_lookaround, is_linear, is_linear_op, is_never}
 use Rattle.regress_program.specs.Program.{Op, accept, part, begin_group, end_group, unsets, look, Routine}
 use Rattle.regress_program.specs.Pushed.{Pushed}
@@ -225,24 +225,6 @@ covers_written b c e f at op below written is = record {
 
     routines : (test : Op → Bool) → RoutinesLack test b.routines e.routines → RoutinesLack test b.routines c.routines
     routines test lack = subst (λ rs. RoutinesLack test b.routines rs) written.routines lack
-
--- only optional iterations, and one mandatory one
-pub covers_no_mandatory : (a b : Code) (f : Contents) → Covers a b (in_iterations f) → Covers a b (after_all f (in_iterations f))
-covers_no_mandatory a b f is = record {
-  refers = λ lack. neither f.refers f.refers (is.refers lack) (is.refers lack);
-  captures = λ lack. neither f.captures f.captures (is.captures lack) (is.captures lack);
-  looks = λ program ext lack. neither f.looks f.looks (is.looks program ext lack) (is.looks program ext lack);
-}
-
-pub covers_mandatory : (a b c : Code) (f : Contents) → Grown a b → Covers b c f → Covers a c (after_all f (in_iterations f))
-covers_mandatory a b c f grown is = covers_no_mandatory a c f (covers_iterations a c f (covers_earlier a b c f (longer a b grown) is))
-
-pub covers_repeated : (a b : Code) (f : Contents) → Covers a b (after_all f (in_iterations f)) → Covers a b (in_iterations f)
-covers_repeated a b f is = record {
-  refers = λ lack. (or_none f.refers f.refers (is.refers lack)).0;
-  captures = λ lack. (or_none f.captures f.captures (is.captures lack)).0;
-  looks = λ program ext lack. (or_none f.looks f.looks (is.looks program ext lack)).0;
-}
 
 pub never_has : (q : Quantifier) (f : Contents) → is_never q ≡ true → HasNone (in_loop q f)
 never_has q f never = record {

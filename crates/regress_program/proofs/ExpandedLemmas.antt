@@ -1,20 +1,21 @@
 -- Routines whose copies of instructions are not stored.
-use Rattle.std.proofs.Common.{◌≡◌, ℕ, zero, suc, ◌+◌, ◌-◌, ◌*◌, ◌/◌, ◌%◌, ◌≤◌, ◌<◌, inl, inr, List, ◌++◌, length, take, drop, get_or, slice_get, Option, Some, None, refl, sym, ap, ◌∙◌, arith}
+use Rattle.std.proofs.Common.{◌≡◌, ℕ, zero, suc, ◌+◌, ◌-◌, ◌*◌, ◌/◌, ◌%◌, ◌≤◌, ◌<◌, inl, inr, List, ◌++◌, length, take, drop, slice_get, Option, Some, None, refl, sym, ap, ◌∙◌, arith}
+use Rattle.regress_program.specs.Copies.{end_of, shift, renamed_in, moved_in, times, with_copies, expand, expanded, AreCopies}
+use Rattle.regress_program.specs.declared.copies.Copies.{Copies}
 use Rattle.std.proofs.lemmas.Bool.{cases_lt}
 use Rattle.std.proofs.lemmas.List.{length-append, length-take, length-drop}
 use Rattle.std.proofs.lemmas.Nat.{div-add-mod'}
 use Rattle.std.proofs.Math.Nat.{mul-le-mul_right}
-use Rattle.std.proofs.lemmas.Option.{slice_get-get_or}
+use Rattle.std.proofs.lemmas.Option.{slice_get_within, slice_get-get_or, same_Some}
 use Rattle.regress_leaves.specs.declared.test.Test.{Test}
 use Rattle.regress_program.specs.Views.{op_in}
 use Rattle.regress_program.specs.declared.instruction.Instruction.{Instruction}
 use Rattle.regress_program.specs.declared.instruction.Instruction.TheVariants as insts
 use Rattle.regress_program.proofs.CodeLemmas.{get-append-below}
 use Rattle.regress_program.proofs.ElementLemmas.{get-append-past, get-take, get-drop}
-use Rattle.regress_program.proofs.Expanded.{renamed_in, moved_in, Copies, end_of, with_copies, moved_option, get_copied, expand, get_at, AreCopies, IsAfter}
-use Rattle.regress_program.proofs.Moved.{shift, moved_op}
+use Rattle.regress_program.proofs.Moved.{moved_op}
 use Rattle.regress_program.proofs.MovedLemmas.{shift-twice}
-use Rattle.regress_program.proofs.TimesLemmas.{times, changed, times-length, times-below, times-get}
+use Rattle.regress_program.proofs.TimesLemmas.{changed, times-length, times-below, times-get}
 
 -- ---- moved instructions
 
@@ -137,10 +138,10 @@ module _ (stored : List Instruction) (copies : List Copies) (are : AreCopies sto
         ∙ get-drop r.stored stored (pc - end_of r) (r.stored + (pc - end_of r)) refl
 
     -- where the copies are, by division
-    abbrev nth : ℕ → ℕ
+    abbrev pub nth : ℕ → ℕ
     nth pc = (pc - r.start) / r.width + 1
 
-    copy-at : (pc : ℕ) → r.start ≤ pc → pc < end_of r →
+    pub copy-at : (pc : ℕ) → r.start ≤ pc → pc < end_of r →
         (nth pc ≤ r.count) × (pc - nth pc * r.width + nth pc * r.width ≡ pc) × (r.start ≤ pc - nth pc * r.width + r.width) × (pc - nth pc * r.width < r.start)
     copy-at pc le lt =
         let the = are j r is in
@@ -154,18 +155,6 @@ module _ (stored : List Instruction) (copies : List Copies) (are : AreCopies sto
         ] in
         (omega (arith, few), omega (arith, parts, more, the.fits, le), omega (arith, parts, more, the.fits, le), omega (arith, parts, more, rest, the.fits, le))
 
-  get-before : (before : ℕ → Option Instruction) (pc : ℕ) (r : Copies) → pc < r.start → get_copied stored before pc (Some r) ≡ before pc
-  get-before before pc r lt = grind (arith, lt)
-
-  get-among : (before : ℕ → Option Instruction) (pc : ℕ) (r : Copies) → r.start ≤ pc → pc < end_of r →
-      get_copied stored before pc (Some r) ≡
-      moved_option r.from (((pc - r.start) / r.width + 1) * r.width) (before (pc - ((pc - r.start) / r.width + 1) * r.width))
-  get-among before pc r le lt = grind (arith, le, lt)
-
-  get-after : (before : ℕ → Option Instruction) (pc : ℕ) (r : Copies) → r.start ≤ pc → end_of r ≤ pc →
-      get_copied stored before pc (Some r) ≡ slice_get stored (r.stored + (pc - end_of r))
-  get-after before pc r le le' = grind (arith, le, le')
-
   pub some-record : (j : ℕ) → j < length copies → (r : Copies) × (slice_get copies j ≡ Some r)
   some-record j lt = by (slice_get copies j) refl
     where
@@ -176,43 +165,39 @@ module _ (stored : List Instruction) (copies : List Copies) (are : AreCopies sto
       by None e = let there = slice_get-get_or copies j d lt in cc
       by (Some r) e = (r, e)
 
-  -- Each instruction is found by the records, the last one first.
-  pub get-expanded : (j k pc : ℕ) → j ≤ length copies → IsAfter stored copies j k → k ≤ length stored → pc < length (expand stored copies j k) →
-      get_at stored copies j pc ≡ slice_get (expand stored copies j k) pc
-  get-expanded zero k pc le last within lt = sym (get-take k stored pc (omega (arith, lt, length-take k stored)))
-  get-expanded (suc j) k pc le last within lt =
-      let found = some-record j (omega (arith, le)) in
-      let r = found.0 in
-      let is = found.1 in
-      let the = are j r is in
-      let few : r.stored ≤ k = last j r refl is in
-      let len = expand-length j r is k few within in
-      let fewer : IsAfter stored copies j r.stored = the.before in
-      ap (get_copied stored (λ i. get_at stored copies j i) pc) is
-      ∙ elim (cases_lt pc r.start) [
-        | inl below ↦
-            get-before (λ i. get_at stored copies j i) pc r below
-            ∙ get-expanded j r.stored pc (omega (arith, le)) fewer the.within (omega (arith, the.start, below))
-            ∙ sym (expand-before j r is k pc below)
-        | inr past ↦ elim (cases_lt pc (end_of r)) [
-          | inl among ↦
-              (let n : ℕ = (pc - r.start) / r.width + 1 in
-              let i : ℕ = pc - n * r.width in
-              let there = copy-at' j r is pc past among in
-              let inside : i < length (expand stored copies j r.stored) = omega (arith, the.start, there.3) in
-              let x = get_or (expand stored copies j r.stored) i insts.Accept in
-              let here : slice_get (expand stored copies j r.stored) i ≡ Some x = slice_get-get_or (expand stored copies j r.stored) i insts.Accept inside in
-              get-among (λ i. get_at stored copies j i) pc r past among
-              ∙ ap (moved_option r.from (n * r.width)) (get-expanded j r.stored i (omega (arith, le)) fewer the.within inside ∙ here)
-              ∙ sym (expand-among j r is k n i x there.0 there.2 (omega (arith, there.1, among)) here)
-              ∙ ap (slice_get (expand stored copies (suc j) k)) there.1)
-          | inr over ↦
-              get-after (λ i. get_at stored copies j i) pc r past over
-              ∙ sym (expand-after j r is k pc over (omega (arith, len, lt)))
-        ]
+  record-after : (i j : ℕ) (r s : Copies) → suc i ≡ j → slice_get copies i ≡ Some r → slice_get copies j ≡ Some s → (r.stored ≤ s.stored) × (end_of r ≤ s.start)
+  record-after i j r s next is is' =
+      let the = are j s is' in
+      let more : r.stored ≤ s.stored = the.before i r next is in
+      let start : s.start ≡ length (expand stored copies (suc i) s.stored) = the.start ∙ ap (λ (n : ℕ). length (expand stored copies n s.stored)) (sym next) in
+      (more, omega (arith, start, expand-length i r is s.stored more the.within))
+
+  -- Later records come after more stored instructions, and after the copies of the earlier ones.
+  pub records-rise : (n i j : ℕ) (r s : Copies) → j ≡ i + n + 1 → slice_get copies i ≡ Some r → slice_get copies j ≡ Some s →
+      (r.stored ≤ s.stored) × (end_of r ≤ s.start)
+  records-rise zero i j r s e is is' = record-after i j r s (omega (arith, e)) is is'
+  records-rise (suc n) i j r s e is is' =
+      let found = some-record (i + n + 1) (omega (arith, e, slice_get_within copies j s is')) in
+      let early = records-rise n i (i + n + 1) r found.0 refl is found.1 in
+      let late = record-after (i + n + 1) j found.0 s (omega (arith, e)) found.1 is' in
+      (omega (arith, early.0, late.0), omega (arith, early.1, late.1))
+
+  -- All copies are among all instructions.
+  pub records-end : (j : ℕ) (r : Copies) → slice_get copies j ≡ Some r → end_of r ≤ length (expanded stored copies)
+  records-end j r is =
+      let lt : j < length copies = slice_get_within copies j r is in
+      let found = some-record (length copies - 1) (omega (arith, lt)) in
+      let count : length copies ≡ suc (length copies - 1) = omega (arith, lt) in
+      let all : length (expanded stored copies) ≡ length (expand stored copies (suc (length copies - 1)) (length stored)) =
+      ap (λ (n : ℕ). length (expand stored copies n (length stored))) count in
+      let last = expand-length (length copies - 1) found.0 found.1 (length stored) (are (length copies - 1) found.0 found.1).within (omega arith) in
+      elim (cases_lt j (length copies - 1)) [
+        | inl before ↦
+            (let rise = records-rise (length copies - 1 - j - 1) j (length copies - 1) r found.0 (omega (arith, before)) is found.1 in
+            omega (arith, rise.1, all, last))
+        | inr after ↦
+            (let same : j ≡ length copies - 1 = omega (arith, lt, after) in
+            let e : r ≡ found.0 = same_Some r found.0 (sym is ∙ ap (slice_get copies) same ∙ found.1) in
+            let e' : end_of r ≡ end_of found.0 = ap (λ (q : Copies). end_of q) e in
+            omega (arith, e', all, last))
       ]
-    where
-      copy-at' : (j : ℕ) (r : Copies) (is : slice_get copies j ≡ Some r) (pc : ℕ) → r.start ≤ pc → pc < end_of r →
-          ((pc - r.start) / r.width + 1 ≤ r.count) × (pc - ((pc - r.start) / r.width + 1) * r.width + ((pc - r.start) / r.width + 1) * r.width ≡ pc)
-          × (r.start ≤ pc - ((pc - r.start) / r.width + 1) * r.width + r.width) × (pc - ((pc - r.start) / r.width + 1) * r.width < r.start)
-      copy-at' j r is pc le lt = copy-at j r is pc le lt

@@ -1,12 +1,14 @@
 -- Routines whose copies of instructions are not stored: an instruction is added, or a record of copies.
 use Rattle.std.proofs.Common.{◌≡◌, ℕ, zero, suc, ◌+◌, ◌-◌, ◌≤◌, ◌<◌, inl, inr, List, [], ◌∷◌, ◌++◌, length, take, drop, slice_get, Option, Some, None, refl, sym, ap, ap₂, subst, ◌∙◌, append-nil, append_assoc, arith}
+use Rattle.regress_program.specs.Copies.{NamesBelow, moved_in, times, with_copies, expand, expanded, IsCopies, AreCopies}
+use Rattle.regress_program.specs.declared.copies.Copies.{Copies}
 use Rattle.std.proofs.lemmas.Bool.{cases_lt}
 use Rattle.std.proofs.lemmas.List.{length-drop, take-append-le, drop-append-le, take_all}
 use Rattle.std.proofs.lemmas.Option.{slice_get_within, slice_get-get_or, same_Some}
 use Rattle.regress_program.specs.declared.instruction.Instruction.{Instruction}
 use Rattle.regress_program.proofs.CodeLemmas.{get-append-below, get-append-last, length-push}
-use Rattle.regress_program.proofs.Expanded.{moved_in, Copies, with_copies, expand, expanded, IsCopies, AreCopies, IsAfter}
-use Rattle.regress_program.proofs.TimesLemmas.{times, joined, joined-append, joined-times}
+use Rattle.regress_program.proofs.Expanded.{IsAfter}
+use Rattle.regress_program.proofs.TimesLemmas.{joined, joined-append, joined-times}
 
 take-none : {X : Type 0} (m : ℕ) → take {A = X} m [] ≡ []
 take-none zero = refl
@@ -71,6 +73,7 @@ module _ (stored : List Instruction) (x : Instruction) (copies : List Copies) wh
           fits = the.fits;
           from_start = the.from_start;
           within = omega (arith, the.within, length-push stored x);
+          named = λ pc i low found. the.named pc i low (ap (λ xs. slice_get xs pc) (sym (expand-stored j r.stored the.within)) ∙ found);
           before = the.before;
         }
 
@@ -100,8 +103,9 @@ module _ (stored : List Instruction) (copies : List Copies) (r : Copies) where
       (expand-copies (length copies) r.stored (omega arith) ∙ ap (λ (k : ℕ). expand stored copies (length copies) k) last)
 
   pub copies-copy : AreCopies stored copies → r.stored ≡ length stored → r.start ≡ length (expanded stored copies) → 0 < r.width → r.width ≤ r.start →
-      r.from + r.width ≤ r.start → AreCopies stored (copies ++ r ∷ [])
-  copies-copy are last start some fits from_start j s is = elim (cases_lt j (length copies)) [
+      r.from + r.width ≤ r.start → ((pc : ℕ) (i : Instruction) → r.start ≤ pc + r.width → slice_get (expanded stored copies) pc ≡ Some i → NamesBelow r.start i) →
+      AreCopies stored (copies ++ r ∷ [])
+  copies-copy are last start some fits from_start named j s is = elim (cases_lt j (length copies)) [
     | inl below ↦
         (let the = are j s (sym (get-append-below copies (r ∷ []) j below) ∙ is) in
         record {
@@ -110,6 +114,7 @@ module _ (stored : List Instruction) (copies : List Copies) (r : Copies) where
           fits = the.fits;
           from_start = the.from_start;
           within = the.within;
+          named = λ pc i low found. the.named pc i low (ap (λ xs. slice_get xs pc) (sym (expand-copies j s.stored (omega (arith, below)))) ∙ found);
           before = λ i q next found. the.before i q next (sym (get-append-below copies (r ∷ []) i (omega (arith, next, below))) ∙ found);
         })
     | inr past ↦
@@ -124,6 +129,10 @@ module _ (stored : List Instruction) (copies : List Copies) (r : Copies) where
           fits = fits;
           from_start = from_start;
           within = omega (arith, last);
+          named = λ pc i low found.
+              named pc i low
+              (ap (λ xs. slice_get xs pc)
+              (ap (λ (k : ℕ). expand stored copies (length copies) k) (sym last) ∙ sym (expand-copies (length copies) r.stored (omega arith))) ∙ found);
           before = λ i q next found.
               let lt : i < length copies = omega (arith, next) in
               let within = (are i q (sym (get-append-below copies (r ∷ []) i lt) ∙ found)).within in omega (arith, within, last);

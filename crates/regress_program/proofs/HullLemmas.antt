@@ -1,16 +1,7 @@
--- The groups that copies of instructions change are those of the originals.
-use Rattle.std.proofs.Common.{◌≡◌, ℕ, Bool, true, false, min, max, if◌then◌else◌, List, [], ◌∷◌, refl, sym, ap, ap₂, ◌∙◌, arith}
-use Rattle.regress_leaves.specs.declared.test.Test.{Test}
-use Rattle.regress_program.specs.declared.instruction.Instruction.{Instruction}
+-- The least range with the ids of both: the order does not matter, nor whether one is added twice.
+use Rattle.std.proofs.Common.{◌≡◌, ℕ, Bool, true, false, min, max, if◌then◌else◌, refl, sym, ap, ap₂, ◌∙◌, arith}
 use Rattle.regress_program.specs.declared.ranges.GroupRange.{GroupRange}
-use Rattle.regress_program.specs.Program.{Op}
-use Rattle.regress_program.specs.Ranges.{no_groups, is_empty, hull, changed_by, changed_by_all}
-use Rattle.regress_program.specs.Views.{op_in, ops_in}
-use Rattle.regress_program.proofs.AddMoved.{unmoved-changed, IsUnmoved}
-use Rattle.regress_program.proofs.Expanded.{moved_in, Copies, expanded, AreCopies}
-use Rattle.regress_program.proofs.ExpandedLemmas.{op_in-moved}
-use Rattle.regress_program.proofs.ExpandedPush.{joined-expanded}
-use Rattle.regress_program.proofs.TimesLemmas.{joined}
+use Rattle.regress_program.specs.Ranges.{is_empty, hull}
 
 abbrev hull_of : Bool → Bool → GroupRange → GroupRange → GroupRange
 hull_of x y a b = if x then b else if y then a else record { start = min a.start b.start; end = max a.end b.end }
@@ -58,23 +49,3 @@ hull-swap a b v = by (is_empty a) (is_empty b) (is_empty v) refl refl refl
       where
         same : hull_of false false a (hull_of false false b v) ≡ hull_of false false b (hull_of false false a v)
         same = ap₂ (λ (s t : ℕ). record { start = s; end = t }) (omega arith) (omega arith)
-
--- a function of what an instruction does, which does not depend on the instructions that it names
-pub value-moved : {X : Type 0} (f : Op → X) (unmoved : IsUnmoved f) (leaves : List Test) (from n : ℕ) (i : Instruction) →
-    f (op_in leaves (moved_in from n i)) ≡ f (op_in leaves i)
-value-moved f unmoved leaves from n i = ap f (op_in-moved leaves from n i) ∙ unmoved from n (op_in leaves i)
-
-joined-all : (leaves : List Test) (earlier : List GroupRange) (xs : List Instruction) →
-    changed_by_all earlier (ops_in leaves xs) ≡ joined (λ i. changed_by earlier (op_in leaves i)) hull xs no_groups
-joined-all leaves earlier [] = refl
-joined-all leaves earlier (x ∷ xs) = ap (hull (changed_by earlier (op_in leaves x))) (joined-all leaves earlier xs)
-
--- The groups that a routine changes are those that its stored instructions change.
-pub changed-expanded : (leaves : List Test) (earlier : List GroupRange) (stored : List Instruction) (copies : List Copies) → AreCopies stored copies →
-    changed_by_all earlier (ops_in leaves (expanded stored copies)) ≡ changed_by_all earlier (ops_in leaves stored)
-changed-expanded leaves earlier stored copies are =
-    joined-all leaves earlier (expanded stored copies)
-    ∙ joined-expanded (λ i. changed_by earlier (op_in leaves i)) hull hull-swap hull-twice
-    (λ from n i. value-moved (changed_by earlier) (unmoved-changed earlier) leaves from n i) stored copies are no_groups
-    (λ i r next found. (are i r found).within)
-    ∙ sym (joined-all leaves earlier stored)

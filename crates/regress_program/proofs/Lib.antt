@@ -9,6 +9,7 @@ mod CostLemmas
 mod CountLemmas
 mod CoverLemmas
 mod FlowLemmas
+mod FoldLemmas
 mod KeepLemmas
 mod LeafLemmas
 mod LeavesLemmas
@@ -16,6 +17,7 @@ mod LocalLemmas
 mod OnceLemmas
 mod PartLemmas
 mod PieceLemmas
+mod PushLemmas
 mod PutLemmas
 mod RangeLemmas
 mod RepeatLemmas
@@ -23,6 +25,7 @@ mod RoutineLemmas
 mod RunLemmas
 mod SizeLemmas
 mod SolveLemmas
+mod SpendLemmas
 mod IterationLemmas
 mod ViewLemmas
 mod ElementLemmas
@@ -39,4 +42,12 @@ mod HullLemmas
 mod WrittenLemmas
 mod OptionalCopies
 mod StoredLemmas
-mod ApartLemmas
+mod AppendLemmas
+mod FindLemmas
+mod ExactlyLemmas
+mod OptionalLemmas
+mod CopiedLemmas
+mod CopySpends
+mod LoopLemmas
+mod CopyLemmas
+mod SlotLemmas

@@ -1,11 +1,8 @@
 -- Instructions that have been moved: copies of earlier ones.
-use Rattle.std.specs.Prelude.{◌≡◌, ℕ, ◌+◌, ◌≤◌, ◌<◌, if◌then◌else◌, nat_lt, List, length, slice_get, Some}
+use Rattle.std.specs.Prelude.{◌≡◌, ℕ, ◌+◌, ◌≤◌, ◌<◌, List, length, slice_get, Some}
 use Rattle.regress_program.specs.Compiled.{Extends, Code}
+use Rattle.regress_program.specs.Copies.{shift}
 use Rattle.regress_program.specs.Program.{Op, accept, fail, part, split, begin_loop, repeat, end_loop, unsets, begin_group, end_group, look, Out}
-
--- The index of an instruction, where those from `from` on have moved by n.
-abbrev pub shift : (from n : ℕ) → ℕ → ℕ
-shift from n pc = if nat_lt pc from then pc else pc + n
 
 -- an instruction, where those that it names have other indices
 abbrev pub renamed : (ℕ → ℕ) → Op → Op

@@ -1,5 +1,6 @@
 -- What instructions do that have been moved.
 use Rattle.std.proofs.Common.{◌≡◌, ℕ, ◌+◌, ◌-◌, ◌≤◌, ◌<◌, inl, inr, true, false, List, [], ◌∷◌, length, slice_get, Option, Some, None, refl, sym, ap, subst, ◌∙◌, arith}
+use Rattle.regress_program.specs.Copies.{shift}
 use Rattle.std.proofs.lemmas.Bool.{cases_lt}
 use Rattle.std.proofs.lemmas.Option.{slice_get_within, slice_get-get_or}
 use Rattle.regress_tree.specs.Reading.{Direction}
@@ -8,7 +9,7 @@ use Rattle.regress_program.specs.Compiled.{Extends, World, Solved, Goes, Matchin
 use Rattle.regress_program.specs.Program.{Op, accept, fail, part, split, begin_loop, repeat, end_loop, unsets, begin_group, end_group, look, Routine, At, Out, ended, outcomes_by, outcomes_at, matcher_of}
 use Rattle.regress_program.specs.Shape.{Fits, IsProgram}
 use Rattle.regress_program.proofs.CodeLemmas.{Fits-later, Extends-same, earlier}
-use Rattle.regress_program.proofs.Moved.{shift, moved_op, moved_out, HasMoved, Moves}
+use Rattle.regress_program.proofs.Moved.{moved_op, moved_out, HasMoved, Moves}
 
 -- ---- indices
 

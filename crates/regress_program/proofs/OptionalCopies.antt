@@ -1,5 +1,6 @@
 -- Copies of optional iterations, each of which ends the one before it.
 use Rattle.std.proofs.Common.{◌≡◌, ℕ, zero, suc, ◌+◌, ◌-◌, ◌*◌, ◌≤◌, ◌<◌, inl, inr, Bool, List, [], ◌∷◌, ◌++◌, length, take, slice_get, Some, refl, sym, ap, subst, ◌∙◌, arith}
+use Rattle.regress_program.specs.Copies.{shift}
 use Rattle.std.proofs.lemmas.Bool.{cases_lt}
 use Rattle.std.proofs.lemmas.List.{length-take}
 use Rattle.std.proofs.lemmas.Option.{slice_get_within, slice_get_past}
@@ -14,7 +15,7 @@ use Rattle.regress_program.proofs.AddLemmas.{pushed-ops}
 use Rattle.regress_program.proofs.CodeLemmas.{Extends-then, get-append-below, get-append-last, length-push}
 use Rattle.regress_program.proofs.CopiesLemmas.{code_once, code_times, moves-once, once-length}
 use Rattle.regress_program.proofs.ElementLemmas.{get-take}
-use Rattle.regress_program.proofs.Moved.{shift, moved_op, Moves}
+use Rattle.regress_program.proofs.Moved.{moved_op, Moves}
 use Rattle.regress_program.proofs.MovedLemmas.{shift-below, shift-from, Compiled-moved}
 use Rattle.regress_program.proofs.PieceLemmas.{holds_more}
 use Rattle.regress_program.proofs.RepeatLemmas.{iterates_more}

@@ -1,12 +1,12 @@
 -- The number of instructions of each kind of node.
-use Rattle.std.proofs.Common.{◌≡◌, Result, Ok, Err, IfErr, IsErrAnd, ℕ, zero, suc, ◌+◌, ◌-◌, ◌*◌, ◌/◌, ◌%◌, ◌==◌, ◌≤◌, ◌<◌, Bool, true, if◌then◌else◌, List, [], ◌∷◌, length, drop, get_or, Some, None, refl, sym, ap, ap₂, ◌∙◌, arith}
+use Rattle.std.proofs.Common.{◌≡◌, Result, Ok, Err, IfErr, IsErrAnd, ℕ, zero, suc, ◌+◌, ◌-◌, ◌*◌, ◌/◌, ◌%◌, ◌==◌, ◌≤◌, ◌<◌, Bool, true, if◌then◌else◌, List, [], ◌∷◌, length, drop, get_or, refl, sym, ap, ap₂, ◌∙◌, arith}
 use Rattle.std.proofs.lemmas.Bool.{eq-eqb, ne_eqb}
-use Rattle.regress_base.specs.declared.types.Quantifier.{Quantifier}
 use Rattle.regress_tree.specs.Tree.{tree, trees}
 use Rattle.regress_tree.specs.declared.ir.node.Node.{Node}
-use Rattle.regress_program.specs.Size.{size, size_of_exactly, size_of_up_to, size_of_optional, size_of_loop, size_of_parts}
+use Rattle.regress_tree.specs.Tree.{string_set}
+use Rattle.regress_program.specs.Size.{size_of_leaf, sized, sized_parts, size_of_exactly, size_of_up_to}
 use Rattle.regress_program.specs.declared.counts.Counts.{Counts}
-use Rattle.regress_program.specs.declared.counts.Counts.TheVariants.{Bounded, Unbounded}
+use Rattle.regress_program.specs.declared.counts.Counts.TheVariants.{Bounded, Unbounded, Copied}
 use Rattle.regress_program.specs.declared.fault.CompileFault.{CompileFault}
 use Rattle.regress_program.specs.declared.fault.CompileFault.TheVariants.{TooLong}
 use Rattle.regress_program.proofs.ViewLemmas.{from_index}
@@ -24,18 +24,17 @@ module _ {T : Type 0} where
 pub copies-more : (n i : ℕ) → n * (i + 1) ≡ n * i + n
 copies-more n i = grind arith
 
-pub loop-unbounded : (q : Quantifier) (iteration : ℕ) → q.max ≡ None → size_of_loop q iteration ≡ iteration * q.min + (iteration + 2)
-loop-unbounded q iteration none = rw none refl
-
-pub loop-bounded : (q : Quantifier) (iteration most : ℕ) → q.max ≡ Some most →
-    size_of_loop q iteration ≡ iteration * q.min + size_of_optional iteration (most - q.min)
-loop-bounded q iteration most some = rw some refl
-
 -- ---- loops over one character
 
 pub exactly-one : (counts : Counts) → size_of_exactly counts 1 ≡ 1
 exactly-one Bounded = refl
 exactly-one Unbounded = refl
+exactly-one Copied = refl
+
+pub exactly-none : (counts : Counts) → size_of_exactly counts 0 ≡ 0
+exactly-none Bounded = refl
+exactly-none Unbounded = refl
+exactly-none Copied = refl
 
 module _ (counts : Counts) where
   up_to-same : (m m' n : ℕ) → n ≤ m → n ≤ m' → size_of_up_to counts m n ≡ size_of_up_to counts m' n
@@ -73,11 +72,22 @@ module _ (counts : Counts) where
 
 -- ---- sequences
 
-pub parts-more : (counts : Counts) (parts : List Node) (i j : ℕ) (x : Node) → j ≡ i - 1 → 0 < i → i ≤ length parts → x ≡ get_or parts j x →
-    size_of_parts counts (trees (drop j parts)) ≡ size counts (tree x) + size_of_parts counts (trees (drop i parts))
-parts-more counts parts i j x at some within is = ap (λ xs. size_of_parts counts (trees xs)) (from_index parts i j x at some within is)
+module _ (counts : Counts) (counted : ℕ → ℕ) where
+  pub parts-more : (parts : List Node) (i j : ℕ) (x : Node) → j ≡ i - 1 → 0 < i → i ≤ length parts → x ≡ get_or parts j x →
+      sized_parts counts counted (trees (drop j parts)) ≡ sized counts counted (tree x) + sized_parts counts counted (trees (drop i parts))
+  parts-more parts i j x at some within is = ap (λ xs. sized_parts counts counted (trees xs)) (from_index parts i j x at some within is)
 
-pub parts-within : (counts : Counts) (parts : List Node) (i : ℕ) → size_of_parts counts (trees (drop i parts)) ≤ size_of_parts counts (trees parts)
-parts-within counts parts zero = omega arith
-parts-within counts [] (suc i) = omega arith
-parts-within counts (x ∷ parts) (suc i) = omega (arith, parts-within counts parts i)
+  pub parts-within : (parts : List Node) (i : ℕ) → sized_parts counts counted (trees (drop i parts)) ≤ sized_parts counts counted (trees parts)
+  parts-within parts zero = omega arith
+  parts-within [] (suc i) = omega arith
+  parts-within (x ∷ parts) (suc i) = omega (arith, parts-within parts i)
+
+-- ---- sets of strings
+
+pub no_strings-size : (ss : List (List ℕ)) (icase : Bool) → length ss ≡ 0 → size_of_leaf (string_set ss icase) ≡ 1
+no_strings-size [] icase none = refl
+no_strings-size (s ∷ ss) icase none = absurd (omega (arith, none))
+
+pub strings-size : (ss : List (List ℕ)) (icase : Bool) → 0 < length ss → size_of_leaf (string_set ss icase) + 1 ≡ 2 * length ss
+strings-size [] icase some = absurd (omega (arith, some))
+strings-size (s ∷ ss) icase some = omega arith

@@ -1,5 +1,6 @@
 -- Moved instructions are tidy where those that they are copies of are.
 use Rattle.std.proofs.Common.{◌≡◌, ℕ, zero, suc, ◌+◌, ◌-◌, ◌≤◌, ◌<◌, inl, inr, true, false, ◌&&◌, nat_le, nat_lt, if◌then◌else◌, List, [], ◌∷◌, ◌++◌, length, take, drop, map, get_or, slice_get, Option, Some, None, refl, sym, ap, ap₂, subst, ◌∙◌, arith}
+use Rattle.regress_program.specs.Copies.{shift}
 use Rattle.std.proofs.lemmas.Bool.{cases_lt}
 use Rattle.std.proofs.lemmas.List.{length-append, length-take, length-drop, length-map}
 use Rattle.std.proofs.lemmas.Option.{slice_get_within, slice_get-get_or, same_Some}
@@ -13,7 +14,7 @@ use Rattle.regress_program.specs.Shape.{Fits}
 use Rattle.regress_program.specs.Tidy.{BeginsUnset, IsTidyFrom, followers, set_after}
 use Rattle.regress_program.proofs.CodeLemmas.{Extends-then, get-append-below}
 use Rattle.regress_program.proofs.ElementLemmas.{get-append-past, get-take, get-drop, get-map}
-use Rattle.regress_program.proofs.Moved.{shift, renamed, moved_op, Moves}
+use Rattle.regress_program.proofs.Moved.{renamed, moved_op, Moves}
 use Rattle.regress_program.proofs.MovedLemmas.{shift-below, shift-from, later_routines}
 
 -- ---- lists of instructions, one of which has other indices

@@ -4,43 +4,35 @@ use Rattle.std.proofs.lemmas.List.{length-append, length-drop, length-map}
 use Rattle.std.proofs.lemmas.Option.{slice_get_within}
 use Rattle.regress_program.proofs.CodeLemmas.{get-append-below}
 use Rattle.regress_program.proofs.ElementLemmas.{get-append-past, get-drop, get-map}
+use Rattle.regress_program.specs.Copies.{again, times}
 
 module _ {X : Type 0} (move : X → X) where
-  -- the last `width` elements once more, changed
-  abbrev pub again : (width : ℕ) → List X → List X
-  again width xs = xs ++ map move (drop (length xs - width) xs)
-
-  -- the same `count` times
-  abbrev pub times : (width count : ℕ) → List X → List X
-  times width zero xs = xs
-  times width (suc count) xs = times width count (again width xs)
-
   -- an element changed n times
   abbrev pub changed : (n : ℕ) → X → X
   changed zero x = x
   changed (suc n) x = changed n (move x)
 
-  pub again-length : (width : ℕ) (xs : List X) → width ≤ length xs → length (again width xs) ≡ length xs + width
+  pub again-length : (width : ℕ) (xs : List X) → width ≤ length xs → length (again move width xs) ≡ length xs + width
   again-length width xs le =
       length-append xs (map move (drop (length xs - width) xs))
       ∙ omega (arith, length-map (drop (length xs - width) xs) move, length-drop (length xs - width) xs, le)
 
-  pub times-length : (width count : ℕ) (xs : List X) → width ≤ length xs → length (times width count xs) ≡ length xs + count * width
+  pub times-length : (width count : ℕ) (xs : List X) → width ≤ length xs → length (times move width count xs) ≡ length xs + count * width
   times-length width zero xs le = omega arith
   times-length width (suc count) xs le =
       let len = again-length width xs le in
       let more : (count + 1) * width ≡ count * width + width = omega arith in
-      times-length width count (again width xs) (omega (arith, len)) ∙ omega (arith, len, more)
+      times-length width count (again move width xs) (omega (arith, len)) ∙ omega (arith, len, more)
 
-  pub times-below : (width count : ℕ) (xs : List X) (i : ℕ) → width ≤ length xs → i < length xs → slice_get (times width count xs) i ≡ slice_get xs i
+  pub times-below : (width count : ℕ) (xs : List X) (i : ℕ) → width ≤ length xs → i < length xs → slice_get (times move width count xs) i ≡ slice_get xs i
   times-below width zero xs i le lt = refl
   times-below width (suc count) xs i le lt =
       let len = again-length width xs le in
-      times-below width count (again width xs) i (omega (arith, len)) (omega (arith, len, lt))
+      times-below width count (again move width xs) i (omega (arith, len)) (omega (arith, len, lt))
       ∙ get-append-below xs (map move (drop (length xs - width) xs)) i lt
 
   pub again-get : (width : ℕ) (xs : List X) (j : ℕ) (x : X) → width ≤ length xs → length xs ≤ j + width → slice_get xs j ≡ Some x →
-      slice_get (again width xs) (j + width) ≡ Some (move x)
+      slice_get (again move width xs) (j + width) ≡ Some (move x)
   again-get width xs j x le low found =
       let last = drop (length xs - width) xs in
       let at : ℕ = j + width - length xs in
@@ -49,16 +41,16 @@ module _ {X : Type 0} (move : X → X) where
 
   -- An element of the n-th copy is that of the original, changed n times.
   pub times-get : (width count n : ℕ) (xs : List X) (j : ℕ) (x : X) → width ≤ length xs → n ≤ count → length xs ≤ j + width → slice_get xs j ≡ Some x →
-      slice_get (times width count xs) (j + n * width) ≡ Some (changed n x)
+      slice_get (times move width count xs) (j + n * width) ≡ Some (changed n x)
   times-get width count zero xs j x le few low found =
       let here : j + 0 * width ≡ j = omega arith in
-      ap (slice_get (times width count xs)) here ∙ times-below width count xs j le (slice_get_within xs j x found) ∙ found
+      ap (slice_get (times move width count xs)) here ∙ times-below width count xs j le (slice_get_within xs j x found) ∙ found
   times-get width zero (suc n) xs j x le few low found = absurd (omega (arith, few))
   times-get width (suc count) (suc n) xs j x le few low found =
       let len = again-length width xs le in
       let there : j + suc n * width ≡ j + width + n * width = (let more : (n + 1) * width ≡ n * width + width = omega arith in omega (arith, more)) in
-      ap (slice_get (times width (suc count) xs)) there
-      ∙ times-get width count n (again width xs) (j + width) (move x) (omega (arith, len)) (omega (arith, few)) (omega (arith, len, low))
+      ap (slice_get (times move width (suc count) xs)) there
+      ∙ times-get width count n (again move width xs) (j + width) (move x) (omega (arith, len)) (omega (arith, few)) (omega (arith, len, low))
       (again-get width xs j x le low found)
 
 -- ---- folds that do not tell the copies from the originals

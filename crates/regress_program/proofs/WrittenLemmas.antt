@@ -1,12 +1,16 @@
 -- An instruction is replaced in a routine whose copies are not stored.
 use Rattle.std.proofs.Common.{◌≡◌, ℕ, zero, suc, ◌+◌, ◌-◌, ◌≤◌, ◌<◌, inl, inr, List, ◌++◌, length, take, drop, set, map, slice_get, Option, Some, None, refl, sym, ap, ap₂, subst, ◌∙◌, arith}
+use Rattle.regress_program.specs.Copies.{end_of, moved_in, again, times, with_copies, expand, expanded, AreCopies}
+use Rattle.regress_program.specs.declared.copies.Copies.{Copies}
 use Rattle.std.proofs.lemmas.Bool.{cases_lt}
 use Rattle.std.proofs.lemmas.List.{length-append, length-drop, length-take, length-set, length-map, take-set-le, drop-set-lt, drop-set-add, set-append_left, set-append_right}
+use Rattle.std.proofs.lemmas.Option.{slice_get_within, same_Some}
 use Rattle.std.proofs.Math.Seq.{take-set-lt}
 use Rattle.regress_program.specs.declared.instruction.Instruction.{Instruction}
-use Rattle.regress_program.proofs.Expanded.{moved_in, Copies, end_of, with_copies, expand, expanded, AreCopies, IsAfter}
-use Rattle.regress_program.proofs.ExpandedLemmas.{some-record, expand-length, times-is}
-use Rattle.regress_program.proofs.TimesLemmas.{again, times, again-length}
+use Rattle.regress_program.proofs.CodeLemmas.{get-set-other}
+use Rattle.regress_program.proofs.Expanded.{IsAfter}
+use Rattle.regress_program.proofs.ExpandedLemmas.{some-record, records-rise, expand-length, times-is}
+use Rattle.regress_program.proofs.TimesLemmas.{again-length}
 
 -- An element that is not among those that are repeated is replaced before or after that.
 module _ {X : Type 0} (move : X → X) (width : ℕ) where
@@ -138,14 +142,44 @@ module _ (stored : List Instruction) (copies : List Copies) (are : AreCopies sto
           )
           ∙ sym (length-append (times m r.width r.count (expand (set stored slot x) copies j r.stored)) (take (k - r.stored) (drop r.stored (set stored slot x))))
 
-  pub copies-set : AreCopies (set stored slot x) copies
-  copies-set j r is =
-      let the = are j r is in
-      record {
-        start = the.start ∙ length-written j r.stored;
-        some = the.some;
-        fits = the.fits;
-        from_start = the.from_start;
-        within = omega (arith, the.within, length-set stored slot x);
-        before = the.before;
-      }
+  module _ (first at : ℕ) (alone : IsAlone first at) where
+    -- What is copied is as it was.
+    copied-same : (j pc : ℕ) (r : Copies) → slice_get copies j ≡ Some r → r.start ≤ pc + r.width →
+        slice_get (expand (set stored slot x) copies j r.stored) pc ≡ slice_get (expand stored copies j r.stored) pc
+    copied-same j pc r is low =
+        let the = are j r is in
+        let within : j ≤ length copies = omega (arith, slice_get_within copies j r is) in
+        elim (cases_lt j first) [
+          | inl early ↦
+              (let found = some-record stored copies are (first - 1) (omega (arith, early, alone.some)) in
+              let last : found.0.stored ≤ slot = alone.earlier (first - 1) found.0 (omega (arith, early)) found.1 in
+              let rise : r.stored ≤ found.0.stored = records-before j (first - 1) r found.0 (omega (arith, early)) is found.1 in
+              ap (λ xs. slice_get xs pc) (unset-before j r.stored within the.before (omega (arith, last, rise))))
+          | inr late ↦
+              (let apart = alone.later j r late is in
+              ap (λ xs. slice_get xs pc) (set-later first at alone j r.stored within late the.before apart.0 the.within)
+              ∙ get-set-other (expand stored copies j r.stored) at pc x (λ e. absurd (omega (arith, apart.1, low, e))))
+        ]
+      where
+        records-before : (i j : ℕ) (r s : Copies) → i ≤ j → slice_get copies i ≡ Some r → slice_get copies j ≡ Some s → r.stored ≤ s.stored
+        records-before i j r s le is is' = elim (cases_lt i j) [
+          | inl lt ↦ (records-rise stored copies are (j - i - 1) i j r s (omega (arith, lt)) is is').0
+          | inr ge ↦
+              (let same : i ≡ j = omega (arith, le, ge) in
+              let e : r ≡ s = same_Some r s (sym is ∙ ap (slice_get copies) same ∙ is') in
+              let e' : r.stored ≡ s.stored = ap (λ (q : Copies). q.stored) e in
+              omega (arith, e'))
+        ]
+
+    pub copies-set : AreCopies (set stored slot x) copies
+    copies-set j r is =
+        let the = are j r is in
+        record {
+          start = the.start ∙ length-written j r.stored;
+          some = the.some;
+          fits = the.fits;
+          from_start = the.from_start;
+          within = omega (arith, the.within, length-set stored slot x);
+          named = λ pc i low found. the.named pc i low (sym (copied-same j pc r is low) ∙ found);
+          before = the.before;
+        }

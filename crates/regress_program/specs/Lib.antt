@@ -4,6 +4,7 @@ pub mod Below
 pub mod CodeOf
 pub mod Compiled
 pub mod Contents
+pub mod Copies
 pub mod Cost
 pub mod Isolated
 pub mod Iterates
@@ -19,4 +20,5 @@ pub mod Size
 pub mod Stays
 pub mod Tidy
 pub mod Unique
+pub mod UniqueCopies
 pub mod Views

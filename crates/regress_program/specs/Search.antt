@@ -1,6 +1,7 @@
 -- What a program is.
 use Rattle.std.specs.Prelude.{ℕ, Bool, List}
 use Rattle.regress_base.specs.declared.types.Flags.{Flags}
+use Rattle.regress_program.specs.Listed.{stored_total}
 use Rattle.regress_program.specs.declared.counts.Counts.{Counts}
 use Rattle.regress_program.specs.declared.program.Program.{Program}
 use Rattle.regress_program.specs.Compiled.{total}
@@ -30,3 +31,7 @@ is_known_tidy p = p.tidy
 -- the number of instructions of a program
 abbrev pub instructions_of : Program → ℕ
 instructions_of p = total (routines_of p)
+
+-- the number of those that are stored
+abbrev pub stored_instructions_of : Program → ℕ
+stored_instructions_of p = stored_total p.routines.items

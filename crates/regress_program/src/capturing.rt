@@ -12,7 +12,7 @@ pub(crate) fn is_capturing(routines: &[Routine], index: usize) -> bool
     ensures { (leaves : List Test) → result ≡ is_capturing (slice_get (program_in leaves routines.now) index) }
 {
     if index < routines.len() {
-        any_changes(&routines[index].instructions)
+        any_changes(routines[index].instructions.stored())
     } else {
         false
     }

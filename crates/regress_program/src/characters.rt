@@ -1,9 +1,11 @@
 //! Compiles loops over one character.
 ghost use Rattle.std.specs.Prelude.{◌≡◌, ◌<◌, IfOk, IfErr, length};
-ghost use Rattle.regress_program.specs.CodeOf.{EmitsCharacters, EmitsOne, Spends};
+ghost use Rattle.regress_program.specs.CodeOf.{EmitsCharacters, EmitsOne, Exceeds, Spends};
 ghost use Rattle.regress_program.specs.Compiled.{exactly, optional};
+ghost use Rattle.regress_program.specs.Listed.{Appends, all_of};
 ghost use Rattle.regress_program.specs.Pushed.{preferred};
 ghost use Rattle.regress_program.specs.Size.{size_of_exactly, size_of_up_to};
+ghost use Rattle.regress_program.specs.declared.counts.Counts.{Counts};
 ghost use Rattle.regress_program.specs.declared.fault.CompileFault.TheVariants.{TooLong};
 
 use crate::compiler::Compiler;
@@ -20,11 +22,11 @@ impl Compiler {
         count: usize,
         next: usize,
     ) -> Result<usize, CompileFault>
-        requires { next < length self.old.instructions.items }
+        requires { next < length (all_of self.old.instructions) }
         ensures emits { IfOk result (EmitsCharacters self.old self.new leaf (exactly count) next) }
-        ensures spends { IfOk result (λ _. Spends self.old self.new (size_of_exactly counts count)) }
+        ensures spends { IfOk result (λ _. Spends self.old self.new counts (λ counted. size_of_exactly counts count)) }
         ensures leaf { self.new.next_leaf ≡ self.old.next_leaf }
-        ensures too_long { IfErr result (λ fault. fault ≡ TooLong → self.old.left < size_of_exactly counts count) }
+        ensures too_long { IfErr result (λ fault. fault ≡ TooLong → Exceeds self.old counts (λ counted. size_of_exactly counts count)) }
     {
         let mut entry = next;
         let mut left = count;
@@ -49,11 +51,11 @@ impl Compiler {
         count: usize,
         next: usize,
     ) -> Result<usize, CompileFault>
-        requires { next < length self.old.instructions.items }
+        requires { next < length (all_of self.old.instructions) }
         ensures emits { IfOk result (EmitsCharacters self.old self.new leaf (optional greedy count) next) }
-        ensures spends { IfOk result (λ _. Spends self.old self.new (size_of_up_to counts count count)) }
+        ensures spends { IfOk result (λ _. Spends self.old self.new counts (λ counted. size_of_up_to counts count count)) }
         ensures leaf { self.new.next_leaf ≡ self.old.next_leaf }
-        ensures too_long { IfErr result (λ fault. fault ≡ TooLong → self.old.left < size_of_up_to counts count count) }
+        ensures too_long { IfErr result (λ fault. fault ≡ TooLong → Exceeds self.old counts (λ counted. size_of_up_to counts count count)) }
     {
         if count == 0 {
             return Ok(next);
@@ -71,11 +73,11 @@ impl Compiler {
 
     /// Compiles a number of characters that match a leaf, as one instruction.
     fn characters(&mut self, leaf: usize, count: usize, next: usize) -> Result<usize, CompileFault>
-        requires { next < length self.old.instructions.items }
+        requires { next < length (all_of self.old.instructions) }
         ensures emits { IfOk result (EmitsCharacters self.old self.new leaf (exactly count) next) }
-        ensures spends { IfOk result (λ _. Spends self.old self.new 1) }
+        ensures spends { (counts : Counts) → IfOk result (λ _. Spends self.old self.new counts (λ counted. 1)) }
         ensures leaf { self.new.next_leaf ≡ self.old.next_leaf }
-        ensures too_long { IfErr result (λ fault. fault ≡ TooLong → self.old.left ≡ 0) }
+        ensures too_long { (counts : Counts) → IfErr result (λ fault. fault ≡ TooLong → Exceeds self.old counts (λ counted. 1)) }
     {
         if count == 1 {
             self.push(Instruction::Leaf { leaf, next })
@@ -87,9 +89,11 @@ impl Compiler {
     /// Emits a choice of two alternatives. If `greedy`, the first is preferred, otherwise the second.
     fn prefer(&mut self, greedy: bool, first: usize, second: usize) -> Result<usize, CompileFault>
         ensures emits { IfOk result (EmitsOne self.old self.new (λ leaves. preferred greedy first second)) }
-        ensures spends { IfOk result (λ _. Spends self.old self.new 1) }
+        ensures appends { first < length (all_of self.old.instructions) → second < length (all_of self.old.instructions) →
+            IfOk result (λ _. Appends self.old.instructions self.new.instructions) }
+        ensures spends { (counts : Counts) → IfOk result (λ _. Spends self.old self.new counts (λ counted. 1)) }
         ensures leaf { self.new.next_leaf ≡ self.old.next_leaf }
-        ensures too_long { IfErr result (λ fault. fault ≡ TooLong → self.old.left ≡ 0) }
+        ensures too_long { (counts : Counts) → IfErr result (λ fault. fault ≡ TooLong → Exceeds self.old counts (λ counted. 1)) }
     {
         if greedy {
             self.push(Instruction::Split { first, second })

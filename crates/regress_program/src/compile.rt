@@ -1,21 +1,23 @@
 //! Compiles patterns into programs.
-ghost use Rattle.std.specs.Prelude.{◌≡◌, ◌≤◌, ◌<◌, ◌+◌, Err, IfOk, IfErr, length, min, not, true};
+ghost use Rattle.std.specs.Prelude.{◌≡◌, ◌≤◌, ◌<◌, ◌+◌, ◌⊎◌, Err, IfOk, IfErr, length, min, not, false, true};
 ghost use Rattle.regress_tree.specs.Tree.{tree, trees, cat};
 ghost use Rattle.regress_tree.specs.WellFormed.{IsWellFormed, captures};
-ghost use Rattle.regress_program.specs.CodeOf.{Emits, Spends};
+ghost use Rattle.regress_program.specs.CodeOf.{Emits, Exceeds, Spends};
 ghost use Rattle.regress_program.specs.Compiled.{matching, IsPattern, total};
 ghost use Rattle.regress_program.specs.Contents.{content, content_of_parts};
 ghost use Rattle.regress_program.specs.LeavesOf.{leaves_of, leaves_of_parts};
 ghost use Rattle.regress_program.specs.Linear.{has_back_reference, is_linear, is_linear_tree};
-ghost use Rattle.regress_program.specs.Search.{counts_of, flags_of, groups_of, instructions_of, is_known_tidy, routines_of};
+ghost use Rattle.regress_program.specs.Search.{counts_of, flags_of, groups_of, instructions_of, is_known_tidy, routines_of, stored_instructions_of};
+ghost use Rattle.regress_program.specs.Listed.{all_of, stored_total};
 ghost use Rattle.regress_program.specs.Shape.{IsForwards, IsProgram};
-ghost use Rattle.regress_program.specs.Size.{compiled_size, counts_within, least_size, size, size_of_parts};
+ghost use Rattle.regress_program.specs.Size.{IsSize, IsTooLong, counts_within, is_copied, room_within, size, sized, sized_parts, stored_size};
 ghost use Rattle.regress_program.specs.Tidy.{IsTidy, has_no_back_reference};
 ghost use Rattle.regress_program.specs.Views.{program_in};
 ghost use Rattle.regress_program.specs.declared.fault.CompileFault.TheVariants.{TooLong};
 
 use crate::collect::leaves_of;
 use crate::compiler::Compiler;
+use crate::copies::Instructions;
 use crate::counts::Counts;
 use crate::fault::CompileFault;
 use crate::instruction::{Instruction, Routine};
@@ -25,8 +27,8 @@ use regress_leaves::test::Test;
 use regress_tree::ir::{Node, Regex};
 use std::alloc::Global;
 
-/// Returns the leaves and the routines of a program of at most `limit` instructions, with such counts. The last routine
-/// matches the pattern forwards, and the others are the bodies of its lookarounds.
+/// Returns the leaves and the routines of a program of at most `limit` stored instructions, with such counts. The last
+/// routine matches the pattern forwards, and the others are the bodies of its lookarounds.
 fn compile(
     alloc: Global,
     node: &Node,
@@ -39,38 +41,43 @@ fn compile(
     ensures plain { IfOk result (λ parts. has_no_back_reference (program_in parts.0.items parts.1.items) ≡ not (has_back_reference (tree node.now))) }
     ensures linear { IfOk result (λ parts. is_linear (program_in parts.0.items parts.1.items) ≡ is_linear_tree (tree node.now)) }
     ensures tidy { IfOk result (λ parts. IsWellFormed (tree node.now) → IsTidy (program_in parts.0.items parts.1.items)) }
-    ensures size { IfOk result (λ parts. total (program_in parts.0.items parts.1.items) ≡ size counts (tree node.now) + 1) }
-    ensures within { IfOk result (λ parts. total (program_in parts.0.items parts.1.items) ≤ limit) }
-    ensures too_long { IfErr result (λ fault. fault ≡ TooLong → limit < size counts (tree node.now) + 1) }
+    ensures most { IfOk result (λ parts. total (program_in parts.0.items parts.1.items) ≤ size counts (tree node.now) + 1) }
+    ensures exact { IfOk result (λ parts. is_copied counts ≡ false → total (program_in parts.0.items parts.1.items) ≡ size counts (tree node.now) + 1) }
+    ensures room { IfOk result (λ parts. total (program_in parts.0.items parts.1.items) ≤ room_within counts limit) }
+    ensures within { IfOk result (λ parts. stored_total parts.1.items ≤ limit) }
+    ensures too_long { IfErr result (λ fault. fault ≡ TooLong →
+        (limit < stored_size counts (tree node.now) + 1) ⊎ (room_within counts limit < size counts (tree node.now) + 1)) }
 {
     let leaves = leaves_of(alloc, node)?;
     let mut compiler = Compiler {
         alloc,
         routines: Vec::new(alloc),
-        instructions: Vec::new(alloc),
+        instructions: Instructions::new(alloc),
         next_leaf: 0,
-        left: limit,
+        left: counts.room(limit),
+        stored_left: limit,
     };
     compiler.routine(node, false, counts)?;
     Ok((leaves, compiler.routines))
 }
 
 impl Program {
-    /// Compiles a pattern into a program of at most `limit` instructions.
+    /// Compiles a pattern into a program of which at most `limit` instructions are stored.
     ///
     /// An instruction matches at most 64 characters. Only if that takes more than `limit` instructions, one matches any
     /// number: then a loop over one character has one for its minimum, and at most four for each bit of what its maximum
-    /// allows beyond.
+    /// allows beyond. Only if that also takes more, the iterations of loops are copied: of those up to the minimum two are
+    /// stored at most, and of those from there to the maximum two.
     ///
     /// # Errors
-    /// Returns [`CompileFault::TooLong`] only if also that takes more than `limit` instructions, and
-    /// [`CompileFault::Memory`] if an allocation fails.
+    /// Returns [`CompileFault::TooLong`] only if also then more than `limit` instructions are stored, or there are more than
+    /// `usize::MAX` with all copies, and [`CompileFault::Memory`] if an allocation fails.
     ///
     /// # Complexity
-    /// Linear in the size of the tree, where a body counts as many times as it is copied: for each iteration up to the
-    /// minimum, and up to a maximum. Each copy emits an instruction, so there are at most `limit` copies, which share
-    /// their leaves. A body of one character is not copied. The recursion is as deep as nodes are nested, where right sides
-    /// of alternatives do not count.
+    /// Linear in the size of the tree, where a body counts as many times as it is stored: unless iterations are copied, for
+    /// each one up to the minimum, and up to a maximum. Each time it emits an instruction, so there are at most `limit`
+    /// bodies, and copies share their leaves. A body of one character is not copied. The recursion is as deep as nodes are
+    /// nested, where right sides of alternatives do not count.
     pub fn compile(alloc: Global, regex: &Regex, limit: usize) -> Result<Program, CompileFault>
         ensures pattern { IfOk result (λ p. IsPattern (routines_of p) (tree regex.now.node)) }
         ensures flags { IfOk result (λ p. flags_of p ≡ regex.now.flags) }
@@ -80,20 +87,23 @@ impl Program {
         ensures tidy { IfOk result (λ p. IsWellFormed (tree regex.now.node) → IsTidy (routines_of p)) }
         ensures known { IfOk result (λ p. IsWellFormed (tree regex.now.node) → is_known_tidy p ≡ true) }
         ensures counts { IfOk result (λ p. counts_of p ≡ counts_within limit (tree regex.now.node)) }
-        ensures size { IfOk result (λ p. instructions_of p ≡ compiled_size limit (tree regex.now.node)) }
-        ensures within { IfOk result (λ p. instructions_of p ≤ limit) }
-        ensures too_long { result ≡ Err TooLong → limit < least_size (tree regex.now.node) }
+        ensures size { IfOk result (λ p. IsSize limit (tree regex.now.node) (instructions_of p)) }
+        ensures most { IfOk result (λ p. instructions_of p ≤ usize.MAX) }
+        ensures within { IfOk result (λ p. stored_instructions_of p ≤ limit) }
+        ensures too_long { result ≡ Err TooLong → IsTooLong limit (tree regex.now.node) }
     {
         match Program::with_counts(alloc, regex, Counts::Bounded, limit) {
-            Ok(program) => Ok(program),
-            Err(CompileFault::TooLong) => {
-                Program::with_counts(alloc, regex, Counts::Unbounded, limit)
-            }
-            Err(CompileFault::Memory(error)) => Err(CompileFault::Memory(error)),
+            Err(CompileFault::TooLong) => {}
+            result => return result,
         }
+        match Program::with_counts(alloc, regex, Counts::Unbounded, limit) {
+            Err(CompileFault::TooLong) => {}
+            result => return result,
+        }
+        Program::with_counts(alloc, regex, Counts::Copied, limit)
     }
 
-    /// Compiles a pattern into a program of at most `limit` instructions, with such counts.
+    /// Compiles a pattern into a program of which at most `limit` instructions are stored, with such counts.
     ///
     /// # Errors
     /// Those of [`Program::compile`], for these counts.
@@ -111,9 +121,12 @@ impl Program {
         ensures tidy { IfOk result (λ p. IsWellFormed (tree regex.now.node) → IsTidy (routines_of p)) }
         ensures known { IfOk result (λ p. IsWellFormed (tree regex.now.node) → is_known_tidy p ≡ true) }
         ensures counts { IfOk result (λ p. counts_of p ≡ counts) }
-        ensures size { IfOk result (λ p. instructions_of p ≡ size counts (tree regex.now.node) + 1) }
-        ensures within { IfOk result (λ p. instructions_of p ≤ limit) }
-        ensures too_long { result ≡ Err TooLong → limit < size counts (tree regex.now.node) + 1 }
+        ensures most { IfOk result (λ p. instructions_of p ≤ size counts (tree regex.now.node) + 1) }
+        ensures exact { IfOk result (λ p. is_copied counts ≡ false → instructions_of p ≡ size counts (tree regex.now.node) + 1) }
+        ensures room { IfOk result (λ p. instructions_of p ≤ room_within counts limit) }
+        ensures within { IfOk result (λ p. stored_instructions_of p ≤ limit) }
+        ensures too_long { result ≡ Err TooLong →
+            (limit < stored_size counts (tree regex.now.node) + 1) ⊎ (room_within counts limit < size counts (tree regex.now.node) + 1) }
     {
         let (leaves, routines) = compile(alloc, &regex.node, counts, limit)?;
         let program = Program::new(alloc, leaves, routines, regex, counts)?;
@@ -132,10 +145,11 @@ impl Compiler {
         counts: Counts,
         next: usize,
     ) -> Result<usize, CompileFault>
-        requires { next < length self.old.instructions.items }
-        ensures emits { IfOk result (Emits self.old self.new self.old.next_leaf (leaves_of (tree node.now)) (matching (tree node.now)) (content (tree node.now)) next) }
-        ensures spends { IfOk result (λ _. Spends self.old self.new (size counts (tree node.now))) }
-        ensures too_long { IfErr result (λ fault. fault ≡ TooLong → self.old.left < size counts (tree node.now)) }
+        requires { next < length (all_of self.old.instructions) }
+        ensures emits { IfOk result (Emits self.old self.new self.old.next_leaf (leaves_of (tree node.now)) (matching (tree node.now))
+            (content (tree node.now)) next) }
+        ensures spends { IfOk result (λ _. Spends self.old self.new counts (λ counted. sized counts counted (tree node.now))) }
+        ensures too_long { IfErr result (λ fault. fault ≡ TooLong → Exceeds self.old counts (λ counted. sized counts counted (tree node.now))) }
     {
         let mut entries = Vec::new(self.alloc);
         let mut rest = node;
@@ -156,10 +170,11 @@ impl Compiler {
     /// Compiles a node by its kind. No `Alt` reaches it from `node`, which compiles alternatives in a loop.
     #[cycle(compile)]
     fn other(&mut self, node: &Node, counts: Counts, next: usize) -> Result<usize, CompileFault>
-        requires { next < length self.old.instructions.items }
-        ensures emits { IfOk result (Emits self.old self.new self.old.next_leaf (leaves_of (tree node.now)) (matching (tree node.now)) (content (tree node.now)) next) }
-        ensures spends { IfOk result (λ _. Spends self.old self.new (size counts (tree node.now))) }
-        ensures too_long { IfErr result (λ fault. fault ≡ TooLong → self.old.left < size counts (tree node.now)) }
+        requires { next < length (all_of self.old.instructions) }
+        ensures emits { IfOk result (Emits self.old self.new self.old.next_leaf (leaves_of (tree node.now)) (matching (tree node.now))
+            (content (tree node.now)) next) }
+        ensures spends { IfOk result (λ _. Spends self.old self.new counts (λ counted. sized counts counted (tree node.now))) }
+        ensures too_long { IfErr result (λ fault. fault ≡ TooLong → Exceeds self.old counts (λ counted. sized counts counted (tree node.now))) }
     {
         match node {
             Node::Empty => Ok(next),
@@ -209,11 +224,11 @@ impl Compiler {
         counts: Counts,
         next: usize,
     ) -> Result<usize, CompileFault>
-        requires { next < length self.old.instructions.items }
+        requires { next < length (all_of self.old.instructions) }
         ensures emits { IfOk result (Emits self.old self.new self.old.next_leaf (leaves_of_parts (trees parts.now)) (matching (cat (trees parts.now)))
             (content_of_parts (trees parts.now)) next) }
-        ensures spends { IfOk result (λ _. Spends self.old self.new (size_of_parts counts (trees parts.now))) }
-        ensures too_long { IfErr result (λ fault. fault ≡ TooLong → self.old.left < size_of_parts counts (trees parts.now)) }
+        ensures spends { IfOk result (λ _. Spends self.old self.new counts (λ counted. sized_parts counts counted (trees parts.now))) }
+        ensures too_long { IfErr result (λ fault. fault ≡ TooLong → Exceeds self.old counts (λ counted. sized_parts counts counted (trees parts.now))) }
     {
         let mut entry = next;
         let mut i = parts.len();

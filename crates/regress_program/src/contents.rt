@@ -14,7 +14,7 @@ use crate::nonlinear::Nonlinear;
 use crate::program::Program;
 
 impl Program {
-    /// Returns the number of instructions, at most `usize::MAX`.
+    /// Returns the number of instructions, copies included, at most `usize::MAX`.
     pub fn instructions(&self) -> usize
         ensures { result ≡ min (instructions_of self.now) usize.MAX }
     {
@@ -28,7 +28,7 @@ impl Program {
     {
         match self.counts {
             Counts::Bounded => true,
-            Counts::Unbounded => false,
+            Counts::Unbounded | Counts::Copied => false,
         }
     }
 

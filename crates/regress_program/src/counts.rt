@@ -1,17 +1,22 @@
-//! How many characters one instruction matches.
+//! How loops are compiled.
 ghost use Rattle.std.specs.Prelude.{◌≡◌, ◌≤◌, ◌<◌, ◌+◌, ◌-◌, true};
-ghost use Rattle.regress_program.specs.Size.{is_bounded, size_of_exactly};
+ghost use Rattle.regress_program.specs.Size.{is_bounded, is_copied, room_within, size_of_exactly, stored_of};
 
 /// The largest number of characters that one instruction matches if counts are bounded.
 const MOST: usize = 64;
 
-/// How large the counts of [`Instruction::Characters`](crate::instruction::Instruction::Characters) are.
+/// The largest number of iterations that are stored if the others are copies.
+pub(crate) const STORED: usize = 2;
+
+/// How loops are compiled.
 #[derive(Clone, Copy)]
 pub enum Counts {
-    /// At most 64, so that a step takes constant time.
+    /// An instruction matches at most 64 characters, so that a step takes constant time. Each iteration is stored.
     Bounded,
-    /// As large as those of the pattern.
+    /// An instruction matches as many characters as the pattern says. Each iteration is stored.
     Unbounded,
+    /// The same, but of a number of iterations at most two are stored. The others are copies.
+    Copied,
 }
 
 impl Counts {
@@ -24,7 +29,27 @@ impl Counts {
     {
         match self {
             Counts::Bounded => count.min(MOST),
-            Counts::Unbounded => count,
+            Counts::Unbounded | Counts::Copied => count,
+        }
+    }
+
+    /// Returns whether iterations are copied.
+    pub(crate) fn is_copied(self) -> bool
+        ensures { result ≡ is_copied self }
+    {
+        match self {
+            Counts::Copied => true,
+            Counts::Bounded | Counts::Unbounded => false,
+        }
+    }
+
+    /// Returns how many instructions there may be, copies included, where at most `limit` are stored.
+    pub(crate) fn room(self, limit: usize) -> usize
+        ensures { result ≡ room_within self limit }
+    {
+        match self {
+            Counts::Copied => usize::MAX,
+            Counts::Bounded | Counts::Unbounded => limit,
         }
     }
 }

@@ -14,7 +14,7 @@ pub(crate) fn inner_groups(ranges: &[GroupRange], routines: &[Routine]) -> usize
 {
     let mut groups = 0;
     for routine in routines {
-        groups = groups.max(captured_by_all(ranges, &routine.instructions));
+        groups = groups.max(captured_by_all(ranges, routine.instructions.stored()));
     }
     groups
 }

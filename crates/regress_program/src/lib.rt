@@ -8,6 +8,7 @@ mod collect;
 mod compile;
 mod compiler;
 mod contents;
+mod copies;
 mod counts;
 mod fault;
 mod groups;

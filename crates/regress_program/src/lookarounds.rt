@@ -2,14 +2,16 @@
 ghost use Rattle.std.specs.Prelude.{◌≡◌, ◌<◌, ◌+◌, IfOk, IfErr, length};
 ghost use Rattle.regress_tree.specs.Reading.{direction_if};
 ghost use Rattle.regress_tree.specs.Tree.{tree};
-ghost use Rattle.regress_program.specs.CodeOf.{Emits, EmitsRoutine, Spends};
+ghost use Rattle.regress_program.specs.CodeOf.{Emits, EmitsRoutine, Exceeds, Spends};
 ghost use Rattle.regress_program.specs.Compiled.{matching, looking};
 ghost use Rattle.regress_program.specs.Contents.{content, in_lookaround};
 ghost use Rattle.regress_program.specs.LeavesOf.{leaves_of};
-ghost use Rattle.regress_program.specs.Size.{size};
+ghost use Rattle.regress_program.specs.Listed.{all_of};
+ghost use Rattle.regress_program.specs.Size.{sized};
 ghost use Rattle.regress_program.specs.declared.fault.CompileFault.TheVariants.{TooLong};
 
 use crate::compiler::Compiler;
+use crate::copies::Instructions;
 use crate::counts::Counts;
 use crate::fault::CompileFault;
 use crate::instruction::{Instruction, Routine};
@@ -27,11 +29,11 @@ impl Compiler {
         counts: Counts,
         next: usize,
     ) -> Result<usize, CompileFault>
-        requires { next < length self.old.instructions.items }
+        requires { next < length (all_of self.old.instructions) }
         ensures emits { IfOk result (Emits self.old self.new self.old.next_leaf (leaves_of (tree contents.now))
             (looking negate (direction_if backwards) (matching (tree contents.now))) (in_lookaround negate (content (tree contents.now))) next) }
-        ensures spends { IfOk result (λ _. Spends self.old self.new (size counts (tree contents.now) + 2)) }
-        ensures too_long { IfErr result (λ fault. fault ≡ TooLong → self.old.left < size counts (tree contents.now) + 2) }
+        ensures spends { IfOk result (λ _. Spends self.old self.new counts (λ counted. sized counts counted (tree contents.now) + 2)) }
+        ensures too_long { IfErr result (λ fault. fault ≡ TooLong → Exceeds self.old counts (λ counted. sized counts counted (tree contents.now) + 2)) }
     {
         let routine = self.routine(contents, backwards, counts)?;
         self.push(Instruction::Look {
@@ -51,10 +53,10 @@ impl Compiler {
     ) -> Result<usize, CompileFault>
         ensures emits { IfOk result (EmitsRoutine self.old self.new (leaves_of (tree node.now)) (matching (tree node.now)) (content (tree node.now))
             (direction_if backwards)) }
-        ensures spends { IfOk result (λ _. Spends self.old self.new (size counts (tree node.now) + 1)) }
-        ensures too_long { IfErr result (λ fault. fault ≡ TooLong → self.old.left < size counts (tree node.now) + 1) }
+        ensures spends { IfOk result (λ _. Spends self.old self.new counts (λ counted. sized counts counted (tree node.now) + 1)) }
+        ensures too_long { IfErr result (λ fault. fault ≡ TooLong → Exceeds self.old counts (λ counted. sized counts counted (tree node.now) + 1)) }
     {
-        let outer = mem::replace(&mut self.instructions, Vec::new(self.alloc));
+        let outer = mem::replace(&mut self.instructions, Instructions::new(self.alloc));
         self.push(Instruction::Accept)?;
         let entry = self.node(node, counts, 0)?;
         let instructions = mem::replace(&mut self.instructions, outer);

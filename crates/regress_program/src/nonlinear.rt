@@ -46,7 +46,7 @@ fn has_reason(leaves: &[Test], routines: &[Routine], why: Nonlinear) -> bool
     ensures { result ≡ has_reason (program_in leaves.now routines.now) why }
 {
     for routine in routines {
-        if any_is_reason(leaves, routines, why, &routine.instructions) {
+        if any_is_reason(leaves, routines, why, routine.instructions.stored()) {
             return true;
         }
     }

@@ -33,9 +33,9 @@ pub struct Program {
     pub flags: Flags,
     /// The number of groups.
     pub groups: usize,
-    /// The number of instructions, at most `usize::MAX`.
+    /// The number of instructions, copies included, at most `usize::MAX`.
     pub(crate) instructions: usize,
-    /// How large the counts of characters are.
+    /// How loops are compiled.
     pub(crate) counts: Counts,
     /// Why searches for all matches may take more than linear time.
     pub(crate) nonlinear: Option<Nonlinear>,
@@ -57,7 +57,8 @@ pub struct Program {
 }
 
 impl Program {
-    ghost use Rattle.regress_program.specs.Search.{counts_of, flags_of, groups_of, is_known_tidy, routines_of};
+    ghost use Rattle.regress_program.specs.Search.{counts_of, flags_of, groups_of, is_known_tidy, routines_of, stored_instructions_of};
+    ghost use Rattle.regress_program.specs.Listed.{stored_total};
 
     /// Returns a program of these leaves and routines, for a pattern, with such counts.
     ///
@@ -65,7 +66,7 @@ impl Program {
     /// The leaves and the routines are what compiling the pattern yields.
     ///
     /// # Complexity
-    /// Linear in the number of instructions.
+    /// Linear in the number of stored instructions.
     ///
     /// # Errors
     /// Returns [`AllocError`] if an allocation fails.
@@ -81,6 +82,7 @@ impl Program {
         requires forwards { IsForwards (program_in leaves.items routines.items) }
         requires tidy { IsWellFormed (tree regex.now.node) → IsTidy (program_in leaves.items routines.items) }
         ensures routines { IfOk result (λ p. routines_of p ≡ program_in leaves.items routines.items) }
+        ensures stored { IfOk result (λ p. stored_instructions_of p ≡ stored_total routines.items) }
         ensures flags { IfOk result (λ p. flags_of p ≡ regex.now.flags) }
         ensures counts { IfOk result (λ p. counts_of p ≡ counts) }
         ensures groups { IfOk result (λ p. groups_of p ≡ min (length (captures (tree regex.now.node))) usize.MAX) }

@@ -41,7 +41,7 @@ impl GroupRange {
 /// Returns for each routine the least range of the groups that it changes.
 ///
 /// # Complexity
-/// Linear in the number of instructions.
+/// Linear in the number of stored instructions.
 ///
 /// # Errors
 /// Returns [`AllocError`] if an allocation fails.
@@ -50,7 +50,7 @@ pub(crate) fn ranges_of(alloc: Global, routines: &[Routine]) -> Result<Vec<Group
 {
     let mut ranges = Vec::with_capacity(alloc, routines.len())?;
     for routine in routines {
-        let range = changed_by_all(&ranges, &routine.instructions);
+        let range = changed_by_all(&ranges, routine.instructions.stored());
         ranges.push(range)?;
     }
     Ok(ranges)

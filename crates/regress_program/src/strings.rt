@@ -2,11 +2,13 @@
 ghost use Rattle.std.specs.Prelude.{◌≡◌, ◌<◌, Bool, IfOk, IfErr, length, map};
 ghost use Rattle.std.specs.Box.{boxed_slice_items};
 ghost use Rattle.regress_tree.specs.Tree.{string_set};
-ghost use Rattle.regress_program.specs.CodeOf.{Emits, Spends};
+ghost use Rattle.regress_program.specs.CodeOf.{Emits, Exceeds, Spends};
 ghost use Rattle.regress_program.specs.Compiled.{matching, strings};
 ghost use Rattle.regress_program.specs.Contents.{nothing};
 ghost use Rattle.regress_program.specs.LeavesOf.{leaves_of_strings};
+ghost use Rattle.regress_program.specs.Listed.{all_of};
 ghost use Rattle.regress_program.specs.Size.{size_of_leaf};
+ghost use Rattle.regress_program.specs.declared.counts.Counts.{Counts};
 ghost use Rattle.regress_program.specs.declared.fault.CompileFault.TheVariants.{TooLong};
 
 use crate::compiler::Compiler;
@@ -21,11 +23,13 @@ impl Compiler {
         alternatives: &[BoxedSlice<u32>],
         next: usize,
     ) -> Result<usize, CompileFault>
-        requires { next < length self.old.instructions.items }
+        requires { next < length (all_of self.old.instructions) }
         ensures emits { (icase : Bool) → (let ss = map boxed_slice_items alternatives.now in
             IfOk result (Emits self.old self.new self.old.next_leaf (leaves_of_strings ss icase) (matching (strings ss icase)) nothing next)) }
-        ensures spends { (icase : Bool) → IfOk result (λ _. Spends self.old self.new (size_of_leaf (string_set (map boxed_slice_items alternatives.now) icase))) }
-        ensures too_long { (icase : Bool) → IfErr result (λ fault. fault ≡ TooLong → self.old.left < size_of_leaf (string_set (map boxed_slice_items alternatives.now) icase)) }
+        ensures spends { (icase : Bool) (counts : Counts) → (let ss = map boxed_slice_items alternatives.now in
+            IfOk result (λ _. Spends self.old self.new counts (λ counted. size_of_leaf (string_set ss icase)))) }
+        ensures too_long { (icase : Bool) (counts : Counts) → (let ss = map boxed_slice_items alternatives.now in
+            IfErr result (λ fault. fault ≡ TooLong → Exceeds self.old counts (λ counted. size_of_leaf (string_set ss icase)))) }
     {
         let mut i = alternatives.len();
         if i == 0 {

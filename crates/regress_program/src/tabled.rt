@@ -19,7 +19,7 @@ use crate::ranges::GroupRange;
 /// The ranges are those of [`ranges_of`](crate::ranges::ranges_of).
 ///
 /// # Complexity
-/// Linear in the number of instructions.
+/// Linear in the number of stored instructions.
 pub(crate) fn table_groups(
     ranges: &[GroupRange],
     routines: &[Routine],

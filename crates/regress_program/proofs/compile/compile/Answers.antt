@@ -1,15 +1,18 @@
-use Rattle.std.proofs.Common.{◌≡◌, Bool, not, ◌&&◌, Some, length, sym, ap, ap₂, ◌∙◌, arith}
+use Rattle.std.proofs.Common.{◌≡◌, ◌<◌, ◌⊎◌, ◌+◌, Bool, subst, not, ◌&&◌, Some, length, sym, ap, ap₂, ◌∙◌, arith}
 use Rattle.regress_tree.specs.Tree.{tree}
 use Rattle.regress_program.specs.CodeOf.{code_in}
+use Rattle.regress_program.specs.Listed.{stored_total}
 use Rattle.regress_program.specs.Compiled.{total}
 use Rattle.regress_program.specs.Contents.{content}
 use Rattle.regress_program.specs.LeavesOf.{leaves_of}
 use Rattle.regress_program.specs.Program.{Routine}
+use Rattle.regress_program.specs.Size.{size, stored_size}
 use Rattle.regress_program.specs.Views.{program_in}
 use Rattle.regress_program.proofs.CoverLemmas.{linear_exactly, plain_exactly}
 use Rattle.regress_program.proofs.LeavesLemmas.{has-all}
 use Rattle.regress_program.proofs.OnceLemmas.{looks-tree, refers-tree, well_formed-tidy}
 use Rattle.regress_program.proofs.PieceLemmas.{program_linear, program_plain, program_tidy}
+use Rattle.regress_program.proofs.SizeLemmas.{too_long}
 use Rattle.regress_program.proofs.ViewLemmas.{is_pattern, no_routines}
 use Rattle.regress_program.proofs.compile.compile.Goals as goal
 
@@ -34,21 +37,43 @@ returns-clause-program c =
     let has = has-all leaves (leaves_of (tree c.args.node.now)) (omega (arith, c.in_ok-leaves.leaves.ok)) c.in_ok-leaves.ensures in
     (c.in_ok-routine.ensures.emits.means leaves has).has.grown.program (no_routines leaves c.new.result.items c.new.ensures.items)
 
-pub returns-clause-size : goal.returns-clause-size
-returns-clause-size c =
+pub returns-clause-most : goal.returns-clause-most
+returns-clause-most c =
     let leaves = c.in_ok-leaves.leaves.items in
     let has = has-all leaves (leaves_of (tree c.args.node.now)) (omega (arith, c.in_ok-leaves.leaves.ok)) c.in_ok-leaves.ensures in
     let body = (c.in_ok-routine.ensures.emits.means leaves has).has in
     let none : total (program_in leaves c.new.result.items) ≡ 0 = ap (λ rs. total (program_in leaves rs)) c.new.ensures.items in
-    omega (arith, body.grown.spent, none, ap length body.same, c.in_ok-routine.ensures.spends)
+    omega (arith, body.grown.spent, none, ap length body.same, c.in_ok-routine.ensures.spends.all)
+
+pub returns-clause-exact : goal.returns-clause-exact
+returns-clause-exact c = λ stored.
+    let leaves = c.in_ok-leaves.leaves.items in
+    let has = has-all leaves (leaves_of (tree c.args.node.now)) (omega (arith, c.in_ok-leaves.leaves.ok)) c.in_ok-leaves.ensures in
+    let body = (c.in_ok-routine.ensures.emits.means leaves has).has in
+    let none : total (program_in leaves c.new.result.items) ≡ 0 = ap (λ rs. total (program_in leaves rs)) c.new.ensures.items in
+    omega (arith, body.grown.spent, none, ap length body.same, c.in_ok-routine.ensures.spends.exact stored)
+
+pub returns-clause-room : goal.returns-clause-room
+returns-clause-room c =
+    let leaves = c.in_ok-leaves.leaves.items in
+    let has = has-all leaves (leaves_of (tree c.args.node.now)) (omega (arith, c.in_ok-leaves.leaves.ok)) c.in_ok-leaves.ensures in
+    let body = (c.in_ok-routine.ensures.emits.means leaves has).has in
+    let none : total (program_in leaves c.new.result.items) ≡ 0 = ap (λ rs. total (program_in leaves rs)) c.new.ensures.items in
+    omega (arith, body.grown.spent, none, ap length body.same, c.room.ensures)
 
 pub returns-clause-within : goal.returns-clause-within
 returns-clause-within c =
-    let leaves = c.in_ok-leaves.leaves.items in
-    let has = has-all leaves (leaves_of (tree c.args.node.now)) (omega (arith, c.in_ok-leaves.leaves.ok)) c.in_ok-leaves.ensures in
-    let body = (c.in_ok-routine.ensures.emits.means leaves has).has in
-    let none : total (program_in leaves c.new.result.items) ≡ 0 = ap (λ rs. total (program_in leaves rs)) c.new.ensures.items in
-    omega (arith, body.grown.spent, none, ap length body.same)
+    let none : stored_total c.new.result.items ≡ 0 = ap stored_total c.new.ensures.items in
+    let short : length c.new-2.result.stored.items ≡ 0 = ap length c.new-2.ensures.stored in
+    omega (arith, c.in_ok-routine.ensures.spends.kept, none, short)
+
+pub returns-in_err-routine-clause-too_long : goal.returns-in_err-routine-clause-too_long
+returns-in_err-routine-clause-too_long c =
+    let counts = c.args.counts in
+    let u = tree c.args.node.now in
+    too_long c.from_residual-in_err-routine.result _ _ c.from_residual-in_err-routine.ensures.1
+    (λ is.
+    subst (λ k. (c.args.limit < stored_size counts u + 1) ⊎ (k < size counts u + 1)) c.room.ensures (c.in_err-routine.ensures.too_long is))
 
 pub returns-clause-plain : goal.returns-clause-plain
 returns-clause-plain c =

@@ -19,7 +19,7 @@ returns-clause-linear c =
     let t = tree c.args.regex.node in
     let most = c.args.limits.instructions in
     let linear = c.args.limits.linear_instructions in
-    let counted : min (total routines) 18446744073709551615 ≡ total routines = omega (arith, made.within) in
+    let counted : min (total routines) 18446744073709551615 ≡ total routines = omega (arith, made.most) in
     let fits : c.is_within-within.result ≡ nat_le (program_size t) (min linear most) =
     c.is_within-within.ensures ∙ ap (λ n. is_bounded (code_counts code) && nat_le n linear) counted
     ∙ within_limits most linear t (code_counts code) (total routines) made.counts made.size in
@@ -35,7 +35,7 @@ returns-clause-nonlinear c =
     let t = tree c.args.regex.node in
     let most = c.args.limits.instructions in
     let linear = c.args.limits.linear_instructions in
-    let counted : min (total routines) 18446744073709551615 ≡ total routines = omega (arith, made.within) in
+    let counted : min (total routines) 18446744073709551615 ≡ total routines = omega (arith, made.most) in
     let fits : c.is_within-within.result ≡ nat_le (program_size t) (min linear most) =
     c.is_within-within.ensures ∙ ap (λ n. is_bounded (code_counts code) && nat_le n linear) counted
     ∙ within_limits most linear t (code_counts code) (total routines) made.counts made.size in
@@ -51,7 +51,7 @@ returns-clause-find_linear c =
     let t = tree c.args.regex.node in
     let most = c.args.limits.instructions in
     let linear = c.args.limits.linear_instructions in
-    let counted : min (total routines) 18446744073709551615 ≡ total routines = omega (arith, made.within) in
+    let counted : min (total routines) 18446744073709551615 ≡ total routines = omega (arith, made.most) in
     let fits : c.is_within-within.result ≡ nat_le (program_size t) (min linear most) =
     c.is_within-within.ensures ∙ ap (λ n. is_bounded (code_counts code) && nat_le n linear) counted
     ∙ within_limits most linear t (code_counts code) (total routines) made.counts made.size in
