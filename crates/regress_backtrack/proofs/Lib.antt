@@ -12,3 +12,4 @@ pub mod SweepLemmas
 pub mod LeadLemmas
 pub mod LeaveLemmas
 pub mod BeginningLemmas
+pub mod BoundaryLemmas

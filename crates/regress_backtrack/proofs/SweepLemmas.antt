@@ -169,8 +169,3 @@ swept_inside input m m' first to more ranged lt le lt' le' all =
     All-cons (Inside input) (at to (groups_of m')) (points m') (record { pc = lt'; position = le' })
     (subst (All (Inside input)) (sym ranged.points)
     (All-append (Inside input) (range_points first more (groups_of m)) (points m) (range_inside input (groups_of m) first more lt le) all))
-
-pub turn_is : (greedy : Bool) (body body' next next' : ℕ) → greedy ≡ true → body ≡ body' → next ≡ next' →
-    Some (insts.Repeat greedy body next) ≡ Some (insts.Repeat true body' next')
-turn_is greedy body body' next next' g b n =
-    ap (λ x. Some (insts.Repeat x body next)) g ∙ ap₂ (λ x y. Some (insts.Repeat true x y)) b n

@@ -3,7 +3,7 @@ use Rattle.std.specs.Prelude.{◌≡◌, ℕ, ◌≤◌, ◌<◌, Bool, true, fa
 use Rattle.regress_tree.specs.Reading.{direction_if}
 use Rattle.regress_tree.specs.Steps.{MatchState}
 use Rattle.regress_found.specs.Found.{state}
-use Rattle.regress_program.specs.Listed.{listed}
+use Rattle.regress_program.specs.Listed.{Begins, listed}
 use Rattle.regress_program.specs.Program.{At, IsSolution, Op, look, Out, Routine}
 use Rattle.regress_program.specs.Shape.{Fits}
 use Rattle.regress_leaves.specs.Subject.{subject}
@@ -53,6 +53,7 @@ pub record IsInput (input : Input) : Type 0 where
   pub ops : ops_in input.code.now.program.leaves.items (instructions_in input) ≡ routine.ops
   pub direction : direction_if input.rules.backwards ≡ routine.direction
   pub first : input.first ≡ routine.entry
+  pub leading : Begins input.leading.now (instructions_in input)
   pub next_bytes : (outs : ℕ → Out) → Solve input outs → AreNextBytes input.next_bytes.now routine.direction input.text.now (outs input.index)
   pub skips : AreSkips input.skips.now input.next_bytes.now (instructions_in input)
   pub possessive : ArePossessive input.possessive.now input.next_bytes.now input.code.now.program.leaves.items (instructions_in input)

@@ -11,13 +11,12 @@ ghost use Rattle.regress_code.specs.Skips.{AreSkipped, IsBeside};
 ghost use Rattle.regress_tree.specs.Reading.{direction_if};
 ghost use Rattle.regress_backtrack.specs.declared.step.Next.TheVariants.{OutOfSteps};
 
-use crate::input::{Input, counts_at, instruction_at, next_bytes_at};
+use crate::input::{Input, choice_at, counts_at, next_bytes_at};
 use crate::machine::{Machine, Place};
 use crate::step::Next;
 use crate::sweep::sweep;
 use regress_code::skips::count_at;
 use regress_found::MemoryFault;
-use regress_program::instruction::Instruction;
 
 /// A loop.
 #[derive(Clone, Copy)]
@@ -243,9 +242,7 @@ fn next_alternative(input: &Input<'_, '_>, place: Place) -> Option<usize>
     ensures costs { IfSome result (λ second. (outs : ℕ → Out) (costs : ℕ → Cost) (g : Groups) → HasCost input.now outs costs →
         costs input.now.index (at (record place { pc = second }) g) ≤ costs input.now.index (at place g)) }
 {
-    let Instruction::Split { first, second } = instruction_at(input, place.pc) else {
-        return None;
-    };
+    let (first, second) = choice_at(input, place.pc)?;
     let preferred = Place { pc: first, ..place };
     if fails(input, preferred) {
         Some(second)

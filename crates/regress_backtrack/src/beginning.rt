@@ -4,6 +4,7 @@ ghost use Rattle.regress_base.specs.Classes.{word_characters};
 ghost use Rattle.regress_base.specs.Intervals.{is_member};
 ghost use Rattle.regress_tree.specs.Assertions.{is_line_terminator};
 ghost use Rattle.regress_tree.specs.Tree.{leaf, tree};
+ghost use Rattle.regress_backtrack.specs.Next.{IsInput};
 ghost use Rattle.regress_backtrack.specs.Beginning.{BeginsWithAssertion, IsExcluded, IsInsideLine, IsInsideWord, assertion};
 
 use crate::input::{Input, instruction_in, test_at};
@@ -20,7 +21,11 @@ pub(crate) enum Beginning {
 }
 
 /// Returns the assertion with which the pattern begins, if there is one.
+///
+/// # Preconditions
+/// The input is one that `input_for` returns.
 pub(crate) fn beginning_of(input: &Input<'_, '_>) -> Option<Beginning>
+    requires { IsInput input.now }
     ensures { IfSome result (BeginsWithAssertion input.now) }
 {
     let Instruction::Leaf { leaf, .. } = instruction_in(input, input.first)? else {
@@ -109,7 +114,7 @@ fn outside_line(text: &str, from: usize) -> usize
 /// Returns whether a byte is a word character of ASCII.
 #[inline(always)]
 #[tactic(auto, unfolding(regress_base::specs::Intervals::is_member, regress_base::specs::Intervals::is_within))]
-fn is_word(b: u8) -> bool
+pub(crate) fn is_word(b: u8) -> bool
     ensures member { result ≡ is_member word_characters b }
     ensures ascii { result ≡ true → b < 128 }
 {

@@ -5,6 +5,7 @@ ghost use Rattle.regress_unicode.specs.TableOf.{table_of};
 ghost use Rattle.regress_code.specs.Code.{code_routines};
 ghost use Rattle.regress_code.specs.NextBytes.{FoldsIf};
 ghost use Rattle.regress_backtrack.specs.Next.{IsInput, instructions_in};
+ghost use Rattle.regress_program.specs.declared.instruction.Instruction.TheVariants.{Leaf, Repeat, Split};
 ghost use Rattle.regress_code.specs.Possessive.{IsPossessive};
 ghost use Rattle.regress_code.specs.Skips.{AreCounts};
 
@@ -29,6 +30,8 @@ pub struct Input<'c, 'x> {
     pub index: usize,
     /// The routine.
     pub routine: &'c Routine,
+    /// The first instructions of the routine: those that are stored one by one.
+    pub leading: &'c [Instruction],
     /// The next bytes of the first instructions.
     pub next_bytes: &'c [NextBytes],
     /// The skips of the first instructions.
@@ -71,6 +74,7 @@ pub fn input_for<'c, 'x>(
         code,
         index,
         routine,
+        leading: routine.leading(),
         next_bytes: &[],
         skips: &[],
         possessive: &[],
@@ -112,17 +116,175 @@ fn uses_next_bytes(code: &Code, rules: MatchContext<'_>) -> bool
 /// Returns an instruction of the routine.
 ///
 /// # Preconditions
-/// There is an instruction with this index.
+/// The input is one that `input_for` returns, and there is an instruction with this index.
 #[inline(always)]
 pub fn instruction_at(input: &Input<'_, '_>, pc: usize) -> Instruction
+    requires input { IsInput input.now }
+    requires pc { pc < length (instructions_in input.now) }
+    ensures { slice_get (instructions_in input.now) pc ≡ Some result }
+{
+    if pc < input.leading.len() {
+        input.leading[pc]
+    } else {
+        later_copied(input, pc)
+    }
+}
+
+/// Returns an instruction of the routine that is not one of the first ones. Its result is copied, so that that of the other
+/// branch of [`instruction_at`] can stay in registers.
+///
+/// # Preconditions
+/// There is an instruction with this index.
+#[inline(always)]
+fn later_copied(input: &Input<'_, '_>, pc: usize) -> Instruction
+    requires { pc < length (instructions_in input.now) }
+    ensures { slice_get (instructions_in input.now) pc ≡ Some result }
+{
+    let later = later_instruction(input, pc);
+    later
+}
+
+/// Returns an instruction of the routine that is not one of the first ones. It is seldom called.
+///
+/// # Preconditions
+/// There is an instruction with this index.
+#[cold]
+#[inline(never)]
+fn later_instruction(input: &Input<'_, '_>, pc: usize) -> Instruction
     requires { pc < length (instructions_in input.now) }
     ensures { slice_get (instructions_in input.now) pc ≡ Some result }
 {
     input.routine.at(pc)
 }
 
+/// Returns the alternatives of a choice, or `None` if the instruction is none.
+///
+/// # Preconditions
+/// The input is one that `input_for` returns, and there is an instruction with this index.
+#[inline(always)]
+pub(crate) fn choice_at(input: &Input<'_, '_>, pc: usize) -> Option<(usize, usize)>
+    requires input { IsInput input.now }
+    requires pc { pc < length (instructions_in input.now) }
+    ensures { IfSome result (λ r. slice_get (instructions_in input.now) pc ≡ Some (Split r.0 r.1)) }
+{
+    if pc < input.leading.len() {
+        choice_of(&input.leading[pc])
+    } else {
+        later_choice(input, pc)
+    }
+}
+
+/// Returns the same as [`choice_at`], for an instruction that is not one of the first ones.
+///
+/// # Preconditions
+/// There is an instruction with this index.
+#[inline(always)]
+fn later_choice(input: &Input<'_, '_>, pc: usize) -> Option<(usize, usize)>
+    requires { pc < length (instructions_in input.now) }
+    ensures { IfSome result (λ r. slice_get (instructions_in input.now) pc ≡ Some (Split r.0 r.1)) }
+{
+    choice_of(&later_instruction(input, pc))
+}
+
+/// Returns the alternatives of a choice, or `None` if the instruction is none.
+#[inline(always)]
+fn choice_of(instruction: &Instruction) -> Option<(usize, usize)>
+    ensures { IfSome result (λ r. instruction.now ≡ Split r.0 r.1) }
+{
+    match *instruction {
+        Instruction::Split { first, second } => Some((first, second)),
+        _ => None,
+    }
+}
+
+/// Returns the leaf that an instruction matches and the instruction after it, or `None` if it matches no leaf.
+///
+/// # Preconditions
+/// The input is one that `input_for` returns, and there is an instruction with this index.
+#[inline(always)]
+pub(crate) fn leaf_at(input: &Input<'_, '_>, pc: usize) -> Option<(usize, usize)>
+    requires input { IsInput input.now }
+    requires pc { pc < length (instructions_in input.now) }
+    ensures { IfSome result (λ r. slice_get (instructions_in input.now) pc ≡ Some (Leaf r.0 r.1)) }
+{
+    if pc < input.leading.len() {
+        leaf_of(&input.leading[pc])
+    } else {
+        later_leaf(input, pc)
+    }
+}
+
+/// Returns the same as [`leaf_at`], for an instruction that is not one of the first ones.
+///
+/// # Preconditions
+/// There is an instruction with this index.
+#[inline(always)]
+fn later_leaf(input: &Input<'_, '_>, pc: usize) -> Option<(usize, usize)>
+    requires { pc < length (instructions_in input.now) }
+    ensures { IfSome result (λ r. slice_get (instructions_in input.now) pc ≡ Some (Leaf r.0 r.1)) }
+{
+    leaf_of(&later_instruction(input, pc))
+}
+
+/// Returns the leaf that an instruction matches and the instruction after it, or `None` if it matches no leaf.
+#[inline(always)]
+fn leaf_of(instruction: &Instruction) -> Option<(usize, usize)>
+    ensures { IfSome result (λ r. instruction.now ≡ Leaf r.0 r.1) }
+{
+    match *instruction {
+        Instruction::Leaf { leaf, next } => Some((leaf, next)),
+        _ => None,
+    }
+}
+
+/// Returns whether there is an instruction with this index that ends the iterations of a greedy loop.
+///
+/// # Preconditions
+/// The input is one that `input_for` returns.
+#[inline(always)]
+pub(crate) fn repeats_at(input: &Input<'_, '_>, pc: usize, body: usize, next: usize) -> bool
+    requires { IsInput input.now }
+    ensures within { result ≡ true → pc < length (instructions_in input.now) }
+    ensures repeats { result ≡ true → slice_get (instructions_in input.now) pc ≡ Some (Repeat true body next) }
+{
+    if pc < input.leading.len() {
+        repeats(&input.leading[pc], body, next)
+    } else {
+        later_repeats(input, pc, body, next)
+    }
+}
+
+/// Returns the same as [`repeats_at`], for an instruction that is not one of the first ones. It is seldom called.
+#[cold]
+#[inline(never)]
+fn later_repeats(input: &Input<'_, '_>, pc: usize, body: usize, next: usize) -> bool
+    ensures within { result ≡ true → pc < length (instructions_in input.now) }
+    ensures repeats { result ≡ true → slice_get (instructions_in input.now) pc ≡ Some (Repeat true body next) }
+{
+    pc < input.routine.len() && repeats(&later_instruction(input, pc), body, next)
+}
+
+/// Returns whether an instruction ends the iterations of a greedy loop.
+#[inline(always)]
+fn repeats(instruction: &Instruction, body: usize, next: usize) -> bool
+    ensures { result ≡ true → instruction.now ≡ Repeat true body next }
+{
+    match *instruction {
+        Instruction::Repeat {
+            greedy,
+            body: start,
+            next: after,
+        } => greedy && start == body && after == next,
+        _ => false,
+    }
+}
+
 /// Returns an instruction of the routine, or `None` if it has none with this index.
+///
+/// # Preconditions
+/// The input is one that `input_for` returns.
 pub(crate) fn instruction_in(input: &Input<'_, '_>, pc: usize) -> Option<Instruction>
+    requires { IsInput input.now }
     ensures { IfSome result (λ instruction. (pc < length (instructions_in input.now))
         × (slice_get (instructions_in input.now) pc ≡ Some instruction)) }
 {

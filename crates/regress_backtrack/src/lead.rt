@@ -4,6 +4,7 @@ ghost use Rattle.regress_unicode.specs.declared.Tables.{Tables};
 ghost use Rattle.regress_program.specs.Program.{IsSolution, Out};
 ghost use Rattle.regress_code.specs.Code.{code_routines, outcomes_from, setting_with};
 ghost use Rattle.regress_code.specs.declared.code.Code.{Code};
+ghost use Rattle.regress_backtrack.specs.Next.{IsInput};
 ghost use Rattle.regress_backtrack.specs.Lead.{IsBegun, IsLead};
 ghost use Rattle.regress_backtrack.specs.Sweep.{IsAsciiLeaf};
 ghost use Rattle.regress_backtrack.specs.Searched.{IsFor};
@@ -26,8 +27,30 @@ pub(crate) struct Lead<'c> {
     pub(crate) set: &'c ByteBitmap,
 }
 
+/// Returns the loop at the start of the pattern, if there is one. It is `lead` if an attempt has failed before, which then
+/// asked for it.
+///
+/// # Preconditions
+/// The input is one that `input_for` returns, and `lead` is `None` or the loop.
+#[inline(always)]
+pub(crate) fn lead_after<'c>(
+    input: &Input<'c, '_>,
+    lead: Option<Lead<'c>>,
+    has_failed: bool,
+) -> Option<Lead<'c>>
+    requires input { IsInput input.now }
+    requires lead { IfSome lead (IsLead input.now) }
+    ensures { IfSome result (IsLead input.now) }
+{
+    if has_failed { lead } else { lead_of(input) }
+}
+
 /// Returns the loop at the start of the pattern, if there is one.
-pub(crate) fn lead_of<'c>(input: &Input<'c, '_>) -> Option<Lead<'c>>
+///
+/// # Preconditions
+/// The input is one that `input_for` returns.
+fn lead_of<'c>(input: &Input<'c, '_>) -> Option<Lead<'c>>
+    requires { IsInput input.now }
     ensures { IfSome result (IsLead input.now) }
 {
     match instruction_in(input, input.first)? {
@@ -47,7 +70,12 @@ pub(crate) fn lead_of<'c>(input: &Input<'c, '_>) -> Option<Lead<'c>>
 }
 
 /// Returns the ASCII characters of the loop that an instruction begins, if it is such a loop.
+///
+/// # Preconditions
+/// The input is one that `input_for` returns.
+#[inline(always)]
 fn loop_at<'c>(input: &Input<'c, '_>, pc: usize) -> Option<&'c ByteBitmap>
+    requires { IsInput input.now }
     ensures { IfSome result (λ set. IsBegun input.now pc set.now) }
 {
     let Instruction::BeginLoop { greedy, body, next } = instruction_in(input, pc)? else {

@@ -4,6 +4,7 @@
 mod alternatives;
 mod backtracker;
 mod beginning;
+mod boundary;
 mod cache;
 mod input;
 mod lead;

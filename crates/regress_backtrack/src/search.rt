@@ -20,7 +20,7 @@ use crate::backtracker::Backtracker;
 use crate::beginning::{Beginning, beginning_of, next_possible};
 use crate::cache::Cache;
 use crate::input::{Input, next_bytes_at};
-use crate::lead::{lead_of, next_after};
+use crate::lead::{lead_after, next_after};
 use regress_code::Code;
 use regress_found::{Found, MemoryFault, Outcome};
 use regress_leaves::known::Known;
@@ -158,8 +158,10 @@ impl Backtracker<'_, '_> {
         let text = self.text;
         let input = self.input();
         cache.machine.unset_all(code.program.groups)?;
-        let lead = lead_of(&input);
         let beginning = beginning_of(&input);
+        // many searches match at the first attempt, and need no lead
+        let mut lead = None;
+        let mut has_failed = false;
         let mut counted = from;
         let mut start = from;
         while start <= text.len() {
@@ -176,7 +178,11 @@ impl Backtracker<'_, '_> {
             if text.is_char_boundary(position) {
                 match self.match_in(alloc, &input, &mut cache.machine, position, remaining)? {
                     Outcome::Matched(found) => return Ok(Outcome::Matched(found)),
-                    Outcome::NoMatch => start = next_after(&input, lead, text, position),
+                    Outcome::NoMatch => {
+                        lead = lead_after(&input, lead, has_failed);
+                        has_failed = true;
+                        start = next_after(&input, lead, text, position);
+                    }
                     Outcome::OutOfSteps => return Ok(Outcome::OutOfSteps),
                 }
             }

@@ -22,6 +22,7 @@ ghost use Rattle.regress_backtrack.specs.Next.{CanStep, Inside, IsInput, Leads, 
 ghost use Rattle.regress_backtrack.specs.declared.step.Next.TheVariants.{Back, On, OutOfSteps};
 
 use crate::alternatives::{Looping, fork, iterate};
+use crate::boundary::boundary_end;
 use crate::input::{Input, test_at};
 use crate::machine::{Machine, Place};
 use regress_found::MemoryFault;
@@ -177,8 +178,8 @@ fn match_leaf(
     reach(here, next, to, remaining)
 }
 
-/// Returns the position at which a leaf ends, or `None` if it fails, as [`leaf_end`], which decides unless the next
-/// character and the leaf are simple enough.
+/// Returns the position at which a leaf ends, or `None` if it fails, as [`leaf_end`], which decides unless the characters
+/// next to the position and the leaf are simple enough.
 ///
 /// # Preconditions
 /// It is a set of strings only if it has exactly one string.
@@ -200,6 +201,31 @@ fn test_end(
         .start
         .ascii_end(input.text, input.rules.backwards, position)
     {
+        Some(to) => to,
+        None => other_end(input, test, position, captures, remaining),
+    }
+}
+
+/// Returns the position at which a leaf ends, as [`test_end`]. A word boundary is decided by the bytes next to it, if it can
+/// be.
+///
+/// # Preconditions
+/// It is a set of strings only if it has exactly one string.
+#[inline(always)]
+fn other_end(
+    input: &Input<'_, '_>,
+    test: &Test,
+    position: usize,
+    captures: &[Option<(usize, usize)>],
+    remaining: &mut u64,
+) -> Option<usize>
+    requires { IsPart (tree test.now.node) }
+    ensures to { let u = subject input.now.rules input.now.text.now in
+        steps u.setting u.bytes u.direction (tree test.now.node) (state captures.now position) ≡ put (state captures.now position) result }
+    ensures remaining { remaining.new ≤ remaining.old }
+    ensures costs { remaining.old ≤ remaining.new + compared (bytes_ahead (subject input.now.rules input.now.text.now).direction (length input.now.text.now) position) (tree test.now.node) (state captures.now position) }
+{
+    match boundary_end(input.text, &test.node, position) {
         Some(to) => to,
         None => leaf_end(
             input.text,

@@ -11,13 +11,12 @@ ghost use Rattle.regress_backtrack.specs.Sweep.{IsSwept};
 ghost use Rattle.regress_leaves.specs.Starts.{AreIn};
 
 use crate::alternatives::{Looping, fails, skip};
-use crate::input::{Input, instruction_at, is_possessive, test_at};
+use crate::input::{Input, is_possessive, leaf_at, repeats_at, test_at};
 use crate::machine::{Machine, Place};
 use regress_base::bytesearch::ByteBitmap;
 use regress_found::MemoryFault;
 use regress_leaves::ascii::count_of;
 use regress_leaves::start::Start;
-use regress_program::instruction::Instruction;
 
 /// A loop over a leaf that matches one character.
 #[derive(Clone, Copy)]
@@ -212,28 +211,20 @@ fn leave(input: &Input<'_, '_>, swept: Swept<'_>, looping: Looping, to: Place) -
 }
 
 /// Returns the leaf of a loop and the end of an iteration, if the body is a leaf that matches one character forwards.
+///
+/// # Preconditions
+/// The input is one that `input_for` returns, and the body is inside the routine.
 #[inline(always)]
 pub(crate) fn sole_leaf<'c>(input: &Input<'c, '_>, looping: Looping) -> Option<Swept<'c>>
-    requires { looping.body < length (instructions_in input.now) }
+    requires input { IsInput input.now }
+    requires body { looping.body < length (instructions_in input.now) }
     ensures { IfSome result (λ s. IsSwept input.now looping s.set.now s.repeat_pc) }
 {
     if input.rules.backwards {
         return None;
     }
-    let Instruction::Leaf {
-        leaf,
-        next: repeat_pc,
-    } = instruction_at(input, looping.body)
-    else {
-        return None;
-    };
-    if repeat_pc >= input.routine.len() {
-        return None;
-    }
-    let Instruction::Repeat { greedy, body, next } = instruction_at(input, repeat_pc) else {
-        return None;
-    };
-    if !greedy || body != looping.body || next != looping.next {
+    let (leaf, repeat_pc) = leaf_at(input, looping.body)?;
+    if !repeats_at(input, repeat_pc, looping.body, looping.next) {
         return None;
     }
     match &test_at(input, leaf)?.start {

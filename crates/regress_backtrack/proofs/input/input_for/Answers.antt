@@ -34,6 +34,7 @@ returns-in-Some-clause-input c =
       ops = refl;
       direction = refl;
       first = refl;
+      leading = c.leading.ensures;
       next_bytes = λ outs solve.
           subst (λ fs. AreNextBytes fs (direction_if r.backwards) c.args.text.now (outs i)) (sym c.deref.ensures.value)
           (code.bounded setting c.in-Some.ensures.folds c.args.text.now outs solve i a known (routine_in leaves r) in_program);
@@ -58,6 +59,7 @@ returns-in-None-clause-input c =
       ops = refl;
       direction = refl;
       first = refl;
+      leading = c.leading.ensures;
       next_bytes = λ outs solve pc next_byte is. let bad : ⊥ = cc in absurd bad;
       skips = λ pc p is. let bad : ⊥ = cc in absurd bad;
       possessive = λ pc is. let bad : ⊥ = cc in absurd bad;

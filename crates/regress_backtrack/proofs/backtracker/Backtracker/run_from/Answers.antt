@@ -16,6 +16,7 @@ use Rattle.regress_backtrack.proofs.backtracker.Backtracker.run_from.Goals as go
 pub loop-start-init : goal.loop-start-init
 loop-start-init c = record {
   unset = c.in_ok-unset_all.ensures.captures;
+  lead = tt;
   from = omega arith;
   on = omega arith;
   remaining = omega arith;
@@ -81,6 +82,7 @@ loop-start-preserved-in-NoMatch c =
     subst (IsMatchResult k (outcomes_at a outs k)) c.in-NoMatch.is (c.in_ok-found.ensures.solved outs are) in
     record {
       unset = c.in_ok-found.ensures.unset c.in-NoMatch.is ∙ so_far.unset;
+      lead = c.lead_after-lead.ensures;
       from = omega (arith, so_far.from, so_far.on, within.0);
       on = omega (arith, c.next_after-start.ensures.low);
       remaining = omega (arith, c.in_ok-found.ensures.remaining, c.saturating_sub.ensures, so_far.remaining);
@@ -110,6 +112,7 @@ loop-start-preserved c =
     let within = subst (λ r. IfSome r (λ (p : ℕ). (c.loop-start.start ≤ p) × (p ≤ length text))) c.in-Some.is c.next_start.ensures.within in
     record {
       unset = so_far.unset;
+      lead = so_far.lead;
       from = omega (arith, so_far.from, so_far.on, within.0);
       on = omega arith;
       remaining = omega (arith, c.saturating_sub.ensures, so_far.remaining);

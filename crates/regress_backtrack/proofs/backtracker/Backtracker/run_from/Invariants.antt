@@ -1,11 +1,12 @@
 -- Every group is unset, and no character boundary before the current position has an outcome. The steps so far are at most the cost of the positions
 -- that are counted, and at least one for each of them.
-use Rattle.std.proofs.Common.{◌≡◌, ◌≤◌, ◌+◌, ◌-◌, ℕ, None, length, replicate}
+use Rattle.std.proofs.Common.{◌≡◌, ◌≤◌, ◌+◌, ◌-◌, ℕ, IfSome, None, length, replicate}
 use Rattle.regress_found.specs.Found.{NoneBefore}
 use Rattle.regress_program.specs.Cost.{Cost}
 use Rattle.regress_program.specs.Program.{Out}
 use Rattle.regress_code.specs.Code.{code_groups}
 use Rattle.regress_backtrack.specs.Backtracker.{AreCosts, AreOutcomes, cost_at, outcomes_at, run_code, run_room, run_text, runs_cost_at}
+use Rattle.regress_backtrack.specs.Lead.{IsLead}
 use Rattle.regress_backtrack.specs.Memory.{IsWithin}
 use Rattle.regress_backtrack.proofs.CostLemmas.{tried}
 use Rattle.regress_backtrack.proofs.backtracker.Backtracker.run_from.Given as goal
@@ -13,6 +14,7 @@ use Rattle.regress_backtrack.proofs.backtracker.Backtracker.run_from.Given as go
 abbrev pub invariant-loop-start : goal.invariant-loop-start
 invariant-loop-start l = record {
   unset : l.cache.machine.captures.items ≡ replicate (code_groups (run_code l.self)) None;
+  lead : IfSome l.lead (IsLead l.input);
   from : l.fn.from ≤ l.counted;
   on : l.counted ≤ l.start;
   remaining : l.remaining ≤ l.fn.remaining;
