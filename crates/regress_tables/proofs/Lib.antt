@@ -11,6 +11,7 @@ mod MemoLemmas
 mod ProbeLemmas
 mod ResolveLemmas
 mod RowLemmas
+mod RunLemmas
 mod SearchLemmas
 mod SlotLemmas
 mod StepLemmas

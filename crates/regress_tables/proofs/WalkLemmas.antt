@@ -313,6 +313,3 @@ none-more text at origin start' none here p low high on =
       | inl same ↦ ap at same ∙ here (subst (IsCharBoundary text) same on)
       | inr other ↦ none p low (omega (arith, high, other)) on
     ]
-
-pub not-true : (b : Bool) → b ≡ false → IsTrue b → ⊥
-not-true b is h = let bad : true ≡ false = sym h ∙ is in cc

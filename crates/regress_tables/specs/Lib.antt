@@ -5,6 +5,7 @@ pub mod Memo
 pub mod Memory
 pub mod Probes
 pub mod RowSets
+pub mod Runs
 pub mod Search
 pub mod Searchable
 pub mod Slots

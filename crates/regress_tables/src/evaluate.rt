@@ -12,9 +12,11 @@ ghost use Rattle.regress_program.specs.Shape.{IsPart};
 ghost use Rattle.regress_code.specs.Code.{code_routines};
 ghost use Rattle.regress_program.specs.Views.{op_in};
 ghost use Rattle.regress_tables.specs.Evaluated.{CanEvaluate, IsOneEnd, reached_cell};
+ghost use Rattle.regress_tables.specs.Runs.{AreRuns};
 ghost use Rattle.regress_tables.specs.Table.{AreRight, AreTables, IsRight, TellsOf, has_outcome};
 
 use crate::characters::characters_end;
+use crate::runs::Runs;
 use crate::table::Table;
 use regress_code::Code;
 use regress_leaves::leaves::{accepts, all_of, exactly, simple_leaf};
@@ -55,6 +57,7 @@ impl<'t> Input<'_, 't> {
 pub(crate) fn evaluate(
     input: Input<'_, '_>,
     table: &Table,
+    runs: &Runs,
     instruction: Instruction,
     moved: bool,
     position: usize,
@@ -63,6 +66,7 @@ pub(crate) fn evaluate(
     requires tables { AreTables input.text.now (code_routines input.code.now) input.tables.now }
     requires read { option_map read_of read ≡ next_character (direction_if input.rules.backwards) (of_bytes input.text.now) position }
     requires can { CanEvaluate input table.now (op_in input.code.now.program.leaves.items instruction) moved position }
+    requires runs { AreRuns (subject input.rules input.text.now) input.code.now.program.leaves.items runs.now }
     ensures { (outs : ℕ → Out) → AreRight outs input.entry.tables.now → IsRight (outs (length input.entry.tables.now)) table.now →
         (let u = subject input.entry.rules input.entry.text.now in
         TellsOf (outcomes_by u.setting u.bytes u.direction (matcher_of u.setting u.bytes (code_routines input.entry.code.now) outs)
@@ -82,7 +86,8 @@ pub(crate) fn evaluate(
             let Some(test) = input.test(leaf) else {
                 return false;
             };
-            let to = characters_end(input.text, input.rules, test, count, position);
+            let run = runs.known_at(leaf, position);
+            let to = characters_end(input.text, input.rules, test, count, run, position);
             reached(table, next, moved, position, to)
         }
         Instruction::Split { first, second } => {

@@ -1,5 +1,6 @@
 //! Filling the table of a routine.
 ghost use Rattle.std.specs.Prelude.{◌≡◌, ◌≤◌, ◌+◌, ◌*◌, ◌^◌, ◌<◌, Bool, IfOk, List, Some, false, length, slice_get, true};
+ghost use Rattle.regress_leaves.specs.Subject.{subject};
 ghost use Rattle.regress_tree.specs.Reading.{direction_if};
 ghost use Rattle.regress_program.specs.Below.{row_of};
 ghost use Rattle.regress_program.specs.Tidy.{has_no_back_reference};
@@ -8,12 +9,14 @@ ghost use Rattle.regress_program.specs.Views.{routine_in};
 ghost use Rattle.regress_tables.specs.Bits.{bits_of};
 ghost use Rattle.regress_tables.specs.Evaluated.{CanFill, IsFilled};
 ghost use Rattle.regress_tables.specs.Memo.{IsKnown, SameRows};
+ghost use Rattle.regress_tables.specs.Runs.{AreRuns};
 ghost use Rattle.regress_tables.specs.Table.{AreTables, Grows, IsFull, IsTableOf, SameShape, evaluated, index, row_bits};
 
 use crate::cells::row_of;
 use crate::evaluate::{Input, evaluate};
 use crate::keys::{direct_row, key_at};
 use crate::memo::{Memo, slot_of};
+use crate::runs::Runs;
 use crate::table::Table;
 use regress_leaves::reading::next_read;
 use regress_leaves::rules::MatchContext;
@@ -70,9 +73,11 @@ fn fill_row(
     requires position { position ≤ table.old.length }
     requires at { index table.old 0 false position ≡ length (evaluated table.old) }
     requires known { IsKnown input.now (routine_in input.now.code.now.program.leaves.items routine.now) table.old memo.old }
+    requires runs { AreRuns (subject input.now.rules input.now.text.now) input.now.code.now.program.leaves.items memo.old.runs }
     ensures shape { IfOk result (λ _. SameShape table.old table.new) }
     ensures more { IfOk result (λ _. length (evaluated table.new) ≡ length (evaluated table.old) + 2 * table.old.width) }
     ensures known { IfOk result (λ _. IsKnown input.now (routine_in input.now.code.now.program.leaves.items routine.now) table.new memo.new) }
+    ensures runs { AreRuns (subject input.now.rules input.now.text.now) input.now.code.now.program.leaves.items memo.new.runs }
 {
     if table.rows.len() == row_of(table.backwards, table.length, position) {
         if let Some(number) = direct_row(input, routine, table, memo, position) {
@@ -81,7 +86,7 @@ fn fill_row(
         }
         return fill_shared(input, routine, table, memo, position);
     }
-    fill_both(*input, routine, table, position)?;
+    fill_both(*input, routine, table, &memo.runs, position)?;
     Ok(())
 }
 
@@ -103,16 +108,18 @@ fn fill_shared(
     requires at { index table.old 0 false position ≡ length (evaluated table.old) }
     requires numbered { length table.old.rows.items ≡ row_of (direction_if table.old.backwards) table.old.length position }
     requires known { IsKnown input.now (routine_in input.now.code.now.program.leaves.items routine.now) table.old memo.old }
+    requires runs { AreRuns (subject input.now.rules input.now.text.now) input.now.code.now.program.leaves.items memo.old.runs }
     ensures shape { IfOk result (λ _. SameShape table.old table.new) }
     ensures more { IfOk result (λ _. length (evaluated table.new) ≡ length (evaluated table.old) + 2 * table.old.width) }
     ensures known { IfOk result (λ _. IsKnown input.now (routine_in input.now.code.now.program.leaves.items routine.now) table.new memo.new) }
+    ensures runs { AreRuns (subject input.now.rules input.now.text.now) input.now.code.now.program.leaves.items memo.new.runs }
 {
     let key = key_at(input, routine, table, memo, position);
     if let Some(number) = memo.find(key, table.distinct) {
         table.repeat(number)?;
         return Ok(());
     }
-    fill_both(*input, routine, table, position)?;
+    fill_both(*input, routine, table, &memo.runs, position)?;
     if table.distinct > u32::MAX as usize {
         return Ok(());
     }
@@ -127,6 +134,7 @@ fn first_equal(table: &Table, memo: &mut Memo<'_>) -> usize
     requires one { length (bits_of table.now.bits) ≡ (table.now.distinct + 1) * (2 * table.now.width) }
     requires inside { table.now.distinct ≤ table.now.length }
     ensures rows { SameRows memo.old memo.new }
+    ensures runs { memo.new.runs ≡ memo.old.runs }
     ensures earlier { result ≤ table.now.distinct }
     ensures same { row_bits table.now result ≡ row_bits table.now table.now.distinct }
 {
@@ -154,6 +162,7 @@ fn fill_both(
     input: Input<'_, '_>,
     routine: &Routine,
     table: &mut Table,
+    runs: &Runs,
     position: usize,
 ) -> Result<(), AllocError>
     requires no_reference { has_no_back_reference (code_routines input.code.now) ≡ true }
@@ -161,13 +170,14 @@ fn fill_both(
     requires can { CanFill input (routine_in input.code.now.program.leaves.items routine.now) table.old }
     requires position { position ≤ table.old.length }
     requires at { index table.old 0 false position ≡ length (evaluated table.old) }
+    requires runs { AreRuns (subject input.rules input.text.now) input.code.now.program.leaves.items runs.now }
     ensures more { IfOk result (λ _. length (evaluated table.new) ≡ length (evaluated table.old) + 2 * table.old.width) }
     ensures shape { IfOk result (λ _. SameShape table.old table.new) }
     ensures grows { IfOk result (λ _. (extra : List Bool) × Grows table.old table.new extra) }
     ensures filled { IfOk result (λ _. IsFilled input.entry table.old → IsFilled input.entry table.new) }
 {
-    fill_half(input, routine, table, false, position)?;
-    fill_half(input, routine, table, true, position)?;
+    fill_half(input, routine, table, runs, false, position)?;
+    fill_half(input, routine, table, runs, true, position)?;
     Ok(())
 }
 
@@ -179,6 +189,7 @@ fn fill_half(
     input: Input<'_, '_>,
     routine: &Routine,
     table: &mut Table,
+    runs: &Runs,
     moved: bool,
     position: usize,
 ) -> Result<(), AllocError>
@@ -187,6 +198,7 @@ fn fill_half(
     requires can { CanFill input (routine_in input.code.now.program.leaves.items routine.now) table.old }
     requires position { position ≤ table.old.length }
     requires at { index table.old 0 moved position ≡ length (evaluated table.old) }
+    requires runs { AreRuns (subject input.rules input.text.now) input.code.now.program.leaves.items runs.now }
     ensures more { IfOk result (λ _. length (evaluated table.new) ≡ length (evaluated table.old) + table.old.width) }
     ensures shape { IfOk result (λ _. SameShape table.old table.new) }
     ensures grows { IfOk result (λ _. (extra : List Bool) × Grows table.old table.new extra) }
@@ -194,7 +206,7 @@ fn fill_half(
 {
     let read = next_read(input.text, input.rules.backwards, position);
     for pc in 0..routine.len() {
-        let bit = evaluate(input, table, routine.at(pc), moved, position, read);
+        let bit = evaluate(input, table, runs, routine.at(pc), moved, position, read);
         table.push(bit)?;
     }
     Ok(())

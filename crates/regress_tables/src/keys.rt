@@ -10,12 +10,14 @@ ghost use Rattle.regress_code.specs.Code.{code_routines};
 ghost use Rattle.regress_tables.specs.Evaluated.{CanFill};
 ghost use Rattle.regress_tables.specs.Memo.{AreFarBytes, HasKey, IsKept, SameRows};
 ghost use Rattle.regress_tables.specs.Probes.{Coded, digit};
+ghost use Rattle.regress_tables.specs.Runs.{AreRuns};
 ghost use Rattle.regress_tables.specs.Table.{AreRight, AreTables, IsRight, evaluated, index};
 
 use crate::cells::row_of;
 use crate::evaluate::Input;
 use crate::memo::{Key, Memo};
 use crate::probe::{Probe, digit, probe_at};
+use crate::runs::Runs;
 use crate::table::Table;
 use regress_leaves::ascii::next_ascii;
 use regress_leaves::reading::next_read;
@@ -35,12 +37,14 @@ pub(crate) fn key_at(
     requires position { position ≤ table.now.length }
     requires at { index table.now 0 false position ≡ length (evaluated table.now) }
     requires tests { memo.old.symbols.tests.now ≡ input.now.code.now.program.leaves.items }
+    requires runs { AreRuns (subject input.now.rules input.now.text.now) input.now.code.now.program.leaves.items memo.old.runs }
     ensures same { SameRows memo.old memo.new }
+    ensures runs { AreRuns (subject input.now.rules input.now.text.now) input.now.code.now.program.leaves.items memo.new.runs }
     ensures key { IfSome result (λ key. (outs : ℕ → Out) → AreRight outs input.now.tables.now →
         (let ops = (routine_in input.now.code.now.program.leaves.items routine.now).ops in
         IsRight (outs (length input.now.tables.now)) table.now → HasKey input.now outs ops table.now memo.old.far.items position key)) }
 {
-    let probes = probes_at(input, routine, table, &memo.far, position)?;
+    let probes = probes_at(input, routine, table, &memo.far, &mut memo.runs, position)?;
     match next_read(input.text, input.rules.backwards, position) {
         None => Some(Key {
             symbol: 0,
@@ -118,6 +122,7 @@ fn probes_at(
     routine: &Routine,
     table: &Table,
     far: &[usize],
+    runs: &mut Runs,
     position: usize,
 ) -> Option<u64>
     requires no_reference { has_no_back_reference (code_routines input.now.code.now) ≡ true }
@@ -125,7 +130,9 @@ fn probes_at(
     requires can { CanFill input.now (routine_in input.now.code.now.program.leaves.items routine.now) table.now }
     requires position { position ≤ table.now.length }
     requires at { index table.now 0 false position ≡ length (evaluated table.now) }
-    ensures { IfSome result (λ code. (outs : ℕ → Out) → AreRight outs input.now.tables.now → IsRight (outs (length input.now.tables.now)) table.now →
+    requires runs { AreRuns (subject input.now.rules input.now.text.now) input.now.code.now.program.leaves.items runs.old }
+    ensures runs { AreRuns (subject input.now.rules input.now.text.now) input.now.code.now.program.leaves.items runs.new }
+    ensures coded { IfSome result (λ code. (outs : ℕ → Out) → AreRight outs input.now.tables.now → IsRight (outs (length input.now.tables.now)) table.now →
         (let u = subject input.now.rules input.now.text.now in
         Coded u.setting u.bytes u.direction (matcher_of u.setting u.bytes (code_routines input.now.code.now) outs) (outs (length input.now.tables.now))
         (routine_in input.now.code.now.program.leaves.items routine.now).ops far.now position code)) }
@@ -136,7 +143,7 @@ fn probes_at(
         if pc >= routine.len() {
             return None;
         }
-        let probe = probe_at(*input, table, routine.at(pc), position);
+        let probe = probe_at(*input, table, runs, routine.at(pc), position);
         let next = with_digit(code, probe)?;
         code = next;
     }

@@ -18,6 +18,7 @@ mod probe;
 mod resolve;
 mod row_set;
 mod rows;
+mod runs;
 mod search;
 mod slots;
 mod step;

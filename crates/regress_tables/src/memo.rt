@@ -4,9 +4,11 @@ ghost use Rattle.regress_leaves.specs.Subject.{subject};
 ghost use Rattle.regress_program.specs.Listed.{listed};
 ghost use Rattle.regress_program.specs.Program.{Op};
 ghost use Rattle.regress_program.specs.Views.{op_in, ops_in};
+ghost use Rattle.regress_tables.specs.Runs.{AreRuns};
 ghost use Rattle.regress_tables.specs.Memo.{AreBytesOf, AreFarBytes, Covers, IsDirect, IsKept, IsNear, direct_index};
 
 use crate::evaluate::Input;
+use crate::runs::Runs;
 use crate::symbols::Symbols;
 use regress_base::bytesearch::ByteBitmap;
 use regress_code::next_bytes::{NextBytes, instruction_next_bytes};
@@ -41,6 +43,8 @@ pub(crate) struct Memo<'t> {
     pub(crate) far: Vec<usize>,
     /// The next bytes of all of those.
     pub(crate) far_bytes: NextBytes,
+    /// The characters in a row that leaves of those match.
+    pub(crate) runs: Runs,
     /// The representatives of characters.
     pub(crate) symbols: Symbols<'t>,
     /// Rows by the number of the row that they follow and the representative of the next character, for ASCII characters at
@@ -75,6 +79,7 @@ impl<'t> Memo<'t> {
         ensures bytes { IfOk result (λ memo. (let u = subject input.entry.rules input.entry.text.now in
             AreFarBytes u.setting u.bytes u.direction (ops_in input.entry.code.now.program.leaves.items (listed routine.now)) memo.far.items memo.far_bytes)) }
         ensures tests { IfOk result (λ memo. memo.symbols.tests.now ≡ input.entry.code.now.program.leaves.items) }
+        ensures runs { IfOk result (λ memo. AreRuns (subject input.entry.rules input.entry.text.now) input.entry.code.now.program.leaves.items memo.runs) }
         ensures empty { IfOk result (λ memo. (key : Key) (row : ℕ) → IsKept memo (Some key) row → ⊥) }
     {
         let count = SLOTS.min(input.text.len() + 1);
@@ -84,6 +89,7 @@ impl<'t> Memo<'t> {
         Ok(Memo {
             far,
             far_bytes,
+            runs: Runs::new(),
             symbols: Symbols::new(&input.code.program.leaves, rows > 0),
             direct: vec![in alloc; 0; rows * 128]?,
             slots: empty_slots(alloc, count)?,
@@ -120,6 +126,7 @@ impl<'t> Memo<'t> {
         ensures far { self.new.far.items ≡ self.old.far.items }
         ensures bytes { self.new.far_bytes ≡ self.old.far_bytes }
         ensures tests { self.new.symbols.tests ≡ self.old.symbols.tests }
+        ensures runs { self.new.runs ≡ self.old.runs }
         ensures kept { (k : Key) (n : ℕ) → IsKept self.new (Some k) n → IsKept self.old (Some k) n ⊎ ((key ≡ Some k) × (n ≡ row)) }
     {
         let Some(key) = key else {

@@ -5,10 +5,12 @@ ghost use Rattle.regress_program.specs.Program.{Out, matcher_of};
 ghost use Rattle.regress_program.specs.Views.{op_in};
 ghost use Rattle.regress_code.specs.Code.{code_routines};
 ghost use Rattle.regress_tables.specs.Probes.{CanProbe, IsProbe, digit, landing, stays_if};
+ghost use Rattle.regress_tables.specs.Runs.{AreRuns};
 ghost use Rattle.regress_tables.specs.Table.{AreRight, AreTables, IsRight};
 
 use crate::characters::characters_end;
 use crate::evaluate::{Input, leaf_end, looks};
+use crate::runs::Runs;
 use crate::table::Table;
 use regress_program::instruction::Instruction;
 
@@ -27,12 +29,15 @@ pub enum Probe {
 pub(crate) fn probe_at(
     input: Input<'_, '_>,
     table: &Table,
+    runs: &mut Runs,
     instruction: Instruction,
     position: usize,
 ) -> Probe
     requires tables { AreTables input.text.now (code_routines input.code.now) input.tables.now }
     requires can { CanProbe input table.now (op_in input.code.now.program.leaves.items instruction) position }
-    ensures { (outs : ℕ → Out) → AreRight outs input.entry.tables.now → IsRight (outs (length input.entry.tables.now)) table.now →
+    requires runs { AreRuns (subject input.rules input.text.now) input.code.now.program.leaves.items runs.old }
+    ensures runs { AreRuns (subject input.entry.rules input.entry.text.now) input.entry.code.now.program.leaves.items runs.new }
+    ensures probe { (outs : ℕ → Out) → AreRight outs input.entry.tables.now → IsRight (outs (length input.entry.tables.now)) table.now →
         (let u = subject input.entry.rules input.entry.text.now in
         IsProbe u.setting u.bytes u.direction (matcher_of u.setting u.bytes (code_routines input.entry.code.now) outs) (outs (length input.entry.tables.now))
         (op_in input.entry.code.now.program.leaves.items instruction) position result) }
@@ -49,7 +54,8 @@ pub(crate) fn probe_at(
             let Some(test) = input.test(leaf) else {
                 return Probe::Fails;
             };
-            let to = characters_end(input.text, input.rules, test, count, position);
+            let run = runs.length_at(input, test, leaf, position);
+            let to = characters_end(input.text, input.rules, test, count, run, position);
             landing(table, next, position, to)
         }
         Instruction::Look {

@@ -66,7 +66,7 @@ pub(crate) fn step(
             let Some(test) = input.test(leaf) else {
                 return Ok(false);
             };
-            let to = characters_end(input.text, input.rules, test, count, position);
+            let to = characters_end(input.text, input.rules, test, count, 0, position);
             return Ok(walker.reach(next, to));
         }
         Instruction::Split { first, second } => walker.split(table, first, second),

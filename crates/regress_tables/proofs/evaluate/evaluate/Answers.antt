@@ -41,7 +41,11 @@ pub characters_end-to-requires : goal.characters_end-to-requires
 characters_end-to-requires c =
     let can = c.requires.can in
     let fits = subst (Fits _ _ _) (characters_is _ _ _ _ _ _ c.in-Characters.is c.in-Some-test.ensures) can.fits in
-    record { one = fits.0.1; inside = omega (arith, can.length, can.next.position_in) }
+    record {
+      one = fits.0.1;
+      inside = omega (arith, can.length, can.next.position_in);
+      run = c.known_at-run.ensures (subject c.args.input.rules c.args.input.text.now) c.args.input.code.now.program.leaves.items c.requires.runs c.in-Some-test.test.now c.in-Some-test.ensures;
+    }
 
 pub looks-requires-clause-earlier : goal.looks-requires-clause-earlier
 looks-requires-clause-earlier c =

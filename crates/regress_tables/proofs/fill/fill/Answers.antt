@@ -30,6 +30,7 @@ loop-row-preserved c =
       };
       backwards = same.backwards ∙ so_far.backwards;
       rows = more ∙ ap (λ w. (c.loop-row.row + 1) * (2 * w)) (sym same.width);
+      runs = c.in_ok-fill_row.ensures.runs;
       known = c.in_ok-fill_row.ensures.known;
     }
 
@@ -44,6 +45,7 @@ loop-row-init c = record {
   };
   backwards = c.in_ok-table.ensures.backwards;
   rows = ap length c.in_ok-table.ensures.empty ∙ omega arith;
+  runs = c.in_ok-memo.ensures.runs;
   known = known-start _ _ c.in_ok-table.table c.in_ok-memo.memo c.in_ok-table.ensures.empty c.in_ok-memo.ensures.covers c.in_ok-memo.ensures.bytes c.in_ok-memo.ensures.tests c.in_ok-memo.ensures.empty;
 }
 

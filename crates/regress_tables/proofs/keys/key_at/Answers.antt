@@ -22,7 +22,7 @@ returns-in-None-clause-key c = λ outs tables right.
     let ops = (routine_in input.code.now.program.leaves.items c.args.routine.now).ops in
     let probes = c.in_ok-probes.probes in
     let coded = subst (λ (far : List ℕ). Coded u.setting u.bytes u.direction (matcher_of u.setting u.bytes (code_routines input.code.now) outs)
-    (outs (length input.tables.now)) ops far c.args.position probes) c.deref.ensures.value (c.in_ok-probes.ensures outs tables right) in
+    (outs (length input.tables.now)) ops far c.args.position probes) c.deref.ensures.value (c.in_ok-probes.ensures.coded outs tables right) in
     key-none input outs ops c.args.table.now c.args.memo.now.far.items c.args.position (record { symbol = 0; from = 0; probes = probes })
     (omega (arith, c.requires.position, c.requires.can.of.text)) coded
     (sym c.next_read.ensures ∙ ap (option_map read_of) c.in-None.is) refl
@@ -35,7 +35,7 @@ returns-else-row-len-clause-key c = λ outs tables right.
     let ops = (routine_in input.code.now.program.leaves.items c.args.routine.now).ops in
     let probes = c.in_ok-probes.probes in
     let coded = subst (λ (far : List ℕ). Coded u.setting u.bytes u.direction (matcher_of u.setting u.bytes (code_routines input.code.now) outs)
-    (outs (length input.tables.now)) ops far c.args.position probes) c.deref.ensures.value (c.in_ok-probes.ensures outs tables right) in
+    (outs (length input.tables.now)) ops far c.args.position probes) c.deref.ensures.value (c.in_ok-probes.ensures.coded outs tables right) in
     let to = c.in-Some.to in
     let within : to ≤ t.length = omega (arith, c.if-to-table.false) in
     let row_is : c.row_of-row.result ≡ row_of (direction_if t.backwards) t.length to = c.row_of-row.ensures.value in

@@ -25,6 +25,7 @@ probe_at-probe-requires-clause-can c =
 
 pub loop-k-init : goal.loop-k-init
 loop-k-init c = record {
+  runs = c.requires.runs;
   within = omega arith;
   coded = λ outs tables right.
       let input = c.args.input.now in
@@ -49,17 +50,18 @@ loop-k-preserved c =
     let is_op : slice_get (ops_in leaves items) pc ≡ Some (op_in leaves c.at.result) =
     slice_get-map (op_in leaves) items pc ∙ ap (option_map (op_in leaves)) c.at.ensures in
     record {
+      runs = c.probe_at-probe.ensures.runs;
       within = omega (arith, so_far.within);
       coded = λ outs tables right.
           let body_of = matcher_of u.setting u.bytes (code_routines input.code.now) outs in
           subst (λ n. Coded u.setting u.bytes u.direction body_of (outs (length input.tables.now)) (ops_in leaves items) (drop (k - 1) far) c.args.position n)
           (sym c.in_ok-next.ensures)
           (coded-more u.setting u.bytes u.direction body_of (outs (length input.tables.now)) (ops_in leaves items) far c.args.position k c.loop-k.code
-          (op_in leaves c.at.result) c.probe_at-probe.result some so_far.within is_op (c.probe_at-probe.ensures outs tables right) (so_far.coded outs tables right));
+          (op_in leaves c.at.result) c.probe_at-probe.result some so_far.within is_op (c.probe_at-probe.ensures.probe outs tables right) (so_far.coded outs tables right));
     }
 
-pub returns : goal.returns
-returns c = λ outs tables right.
+pub returns-clause-coded : goal.returns-clause-coded
+returns-clause-coded c = λ outs tables right.
     let input = c.args.input.now in
     let u = subject input.rules input.text.now in
     let e : c.loop-k.k ≡ 0 = omega (arith, c.loop-k-test.false) in

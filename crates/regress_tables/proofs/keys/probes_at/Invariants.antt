@@ -5,11 +5,13 @@ use Rattle.regress_program.specs.Program.{Out, matcher_of}
 use Rattle.regress_program.specs.Views.{routine_in}
 use Rattle.regress_code.specs.Code.{code_routines}
 use Rattle.regress_tables.specs.Probes.{Coded}
+use Rattle.regress_tables.specs.Runs.{AreRuns}
 use Rattle.regress_tables.specs.Table.{AreRight, IsRight}
 use Rattle.regress_tables.proofs.keys.probes_at.Given as goal
 
 abbrev pub invariant-loop-k : goal.invariant-loop-k
 invariant-loop-k l = record {
+  runs : AreRuns (subject l.input.rules l.input.text.now) l.input.code.now.program.leaves.items l.runs;
   within : l.k ≤ length l.far;
   coded : (outs : ℕ → Out) → AreRight outs l.input.tables.now → IsRight (outs (length l.input.tables.now)) l.table →
       (let u = subject l.input.rules l.input.text.now in

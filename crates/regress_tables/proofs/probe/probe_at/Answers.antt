@@ -38,7 +38,7 @@ pub characters_end-to-requires : goal.characters_end-to-requires
 characters_end-to-requires c =
     let can = c.requires.can in
     let fits = subst (Fits _ _ _) (characters_is _ _ _ _ _ _ c.in-Characters.is c.in-Some-test.ensures) can.fits in
-    record { one = fits.0.1; inside = omega (arith, can.length, can.position_in) }
+    record { one = fits.0.1; inside = omega (arith, can.length, can.position_in); run = c.length_at-run.ensures.run }
 
 pub looks-requires-clause-earlier : goal.looks-requires-clause-earlier
 looks-requires-clause-earlier c =
@@ -46,8 +46,8 @@ looks-requires-clause-earlier c =
     let fits = subst (Fits _ _ can.pc) (ap (op_in c.args.input.code.now.program.leaves.items) c.in-Look.is) can.fits in
     look-earlier _ _ c.in-Look.routine fits.0
 
-pub returns-in-Some : goal.returns-in-Some
-returns-in-Some c = λ outs tables right.
+pub returns-in-Some-clause-probe : goal.returns-in-Some-clause-probe
+returns-in-Some-clause-probe c = λ outs tables right.
     let u = subject c.args.input.rules c.args.input.text.now in
     let body_of = matcher_of u.setting u.bytes (code_routines c.args.input.code.now) outs in
     let can = c.requires.can in
@@ -58,8 +58,8 @@ returns-in-Some c = λ outs tables right.
     (part_lands u.setting u.bytes u.direction body_of (outs (length c.args.input.tables.now)) c.args.table.now right can.pc c.args.position can.at can.pc_in can.position_in
     (tree c.in-Some.test.now.node) c.in-Leaf.next c.leaf_end-to.result can.length (ap direction_if can.backwards) fits.1 c.leaf_end-to.ensures))
 
-pub returns-in-Some-test : goal.returns-in-Some-test
-returns-in-Some-test c = λ outs tables right.
+pub returns-in-Some-test-clause-probe : goal.returns-in-Some-test-clause-probe
+returns-in-Some-test-clause-probe c = λ outs tables right.
     let op_is = characters_is _ _ _ _ _ _ c.in-Characters.is c.in-Some-test.ensures in
     let fits = subst (Fits _ _ _) op_is c.requires.can.fits in
     let u = subject c.args.input.rules c.args.input.text.now in
@@ -71,8 +71,8 @@ returns-in-Some-test c = λ outs tables right.
     (part_lands u.setting u.bytes u.direction body_of (outs (length c.args.input.tables.now)) c.args.table.now right can.pc c.args.position can.at can.pc_in can.position_in
     (exactly c.in-Characters.count (tree c.in-Some-test.test.now.node)) c.in-Characters.next c.characters_end-to.result can.length (ap direction_if can.backwards) fits.1 c.characters_end-to.ensures))
 
-pub returns-in-Look : goal.returns-in-Look
-returns-in-Look c = λ outs tables right.
+pub returns-in-Look-clause-probe : goal.returns-in-Look-clause-probe
+returns-in-Look-clause-probe c = λ outs tables right.
     let u = subject c.args.input.rules c.args.input.text.now in
     let body_of = matcher_of u.setting u.bytes (code_routines c.args.input.code.now) outs in
     let op_is = ap (op_in c.args.input.code.now.program.leaves.items) c.in-Look.is in

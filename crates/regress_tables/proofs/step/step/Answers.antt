@@ -26,7 +26,7 @@ pub characters_end-to-requires : goal.characters_end-to-requires
 characters_end-to-requires c =
     let can = c.requires.can in
     let fits = subst (Fits _ _ _) (characters_is _ _ _ _ _ _ c.in-Characters.is c.in-Some-test.ensures) can.fits in
-    record { one = fits.0.1; inside = omega (arith, can.length, can.position) }
+    record { one = fits.0.1; inside = omega (arith, can.length, can.position); run = tt }
 
 pub returns-in-Leaf-clause-below : goal.returns-in-Leaf-clause-below
 returns-in-Leaf-clause-below c = λ yields.
