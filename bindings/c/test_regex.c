@@ -716,7 +716,7 @@ static void errors(void) {
     CHECK(compiled("\xFF", SMALL, &regex) == REGRESS_BAD_INPUT && kind == 0 && position == 0);
     CHECK(compiled("a", 64, &regex) == REGRESS_BAD_INPUT);
     /* too many instructions, in a small tree */
-    CHECK(compiled("(?:(?:ab){1000}){1000}", SMALL, &regex) == REGRESS_TOO_LARGE && kind == 0 && position == 0);
+    CHECK(compiled("(?:(?:ab){9999999999}){9999999999}", SMALL, &regex) == REGRESS_TOO_LARGE && kind == 0 && position == 0);
     CHECK(regex.inside == &mark_of_caller);
     CHECK(compiled_within(&one_step, "(a*)*\\1b", &regex) == REGRESS_OK);
     CHECK(found(&regex, "aaaaaaaaaaaaaaaaaaaaaaaaaaaaaaaa", 0, ROOM) == REGRESS_OUT_OF_STEPS && needed == 0
@@ -746,8 +746,10 @@ static void limits(void) {
     CHECK(compiled_within(&instructions, "a", &regex) == REGRESS_OK);
     regress_free(&regex);
     CHECK(compiled_within(&instructions, "(?:(a)|b){9}", &regex) == REGRESS_TOO_LARGE);
-    CHECK(compiled("(?:(?:ab){400}){700}", SMALL, &regex) == REGRESS_TOO_LARGE);
-    instructions.instructions = 10000000;
+    /* two iterations are stored, of five instructions with those inside */
+    instructions.instructions = 10;
+    CHECK(compiled_within(&instructions, "(?:(?:ab){400}){700}", &regex) == REGRESS_TOO_LARGE);
+    instructions.instructions = 11;
     CHECK(compiled_within(&instructions, "(?:(?:ab){400}){700}", &regex) == REGRESS_OK);
     regress_free(&regex);
     /* a program that is too long for tables is searched within the step limit */

@@ -471,7 +471,7 @@ class Calls(unittest.TestCase):
         self.assertEqual(caught.exception.kind, 'TooLarge')
         # Too many instructions, in a small tree.
         with self.assertRaises(regress.error) as caught:
-            regress.compile('(?:(?:ab){1000}){1000}')
+            regress.compile('(?:(?:ab){9999999999}){9999999999}')
         self.assertEqual(caught.exception.kind, 'TooLarge')
         pattern = regress.compile(r'(a*)*\1b', steps=100)
         for call in (pattern.search, pattern.findall, lambda text: pattern.sub('', text)):
@@ -512,9 +512,12 @@ class Calls(unittest.TestCase):
         self.assertEqual(pickle.loads(pickle.dumps(limited)), limited)
         large = '(?:(?:ab){400}){700}'
         with self.assertRaises(regress.error) as caught:
-            regress.compile(large)
+            regress.compile(large, instructions=10)
         self.assertEqual(caught.exception.kind, 'TooLarge')
-        self.assertTrue(regress.compile(large, instructions=10_000_000))
+        # Two iterations are stored, of five instructions with those inside.
+        for instructions in 11, 10_000_000:
+            pattern = regress.compile(large, instructions=instructions)
+            self.assertEqual(pattern.search('c' + 'ab' * 280_000).span(), (1, 560_001))
 
     def test_linear_patterns(self):
         pattern = regress.compile('(a*)*b')

@@ -445,7 +445,7 @@ fn limits_are_kept() {
     );
     // Too many instructions, in a small tree.
     assert_eq!(
-        Regex::new("(?:(?:ab){1000}){1000}").unwrap_err(),
+        Regex::new("(?:(?:ab){9999999999}){9999999999}").unwrap_err(),
         Error::TooLarge
     );
     let regex = Regex::with_options(r"(a*)*\1b", flags, options).unwrap();
@@ -569,8 +569,10 @@ fn the_number_of_instructions_is_limited() {
         };
         Regex::with_options("(?:(?:ab){400}){700}", Flags::default(), options)
     };
-    assert_eq!(within(0).unwrap_err(), Error::TooLarge);
-    assert_eq!(within(1000).unwrap_err(), Error::TooLarge);
+    assert_eq!(within(1).unwrap_err(), Error::TooLarge);
+    assert_eq!(within(10).unwrap_err(), Error::TooLarge);
+    // Two iterations are stored, of five instructions with those inside.
+    assert!(within(11).is_ok());
     assert!(within(10_000_000).is_ok());
 }
 

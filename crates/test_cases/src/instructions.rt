@@ -8,8 +8,8 @@ use regress_unicode::Tables;
 use std::sync::Arc;
 use test_notation::{Call, Fault, Promise};
 
-/// Reports whether the program of a pattern is too long for one instruction fewer than the next field states, and for
-/// that number.
+/// Reports whether the program of a pattern is too long for one stored instruction fewer than the next field states, and
+/// for that number.
 pub(crate) fn report_limits(call: &mut Call, flags: Flags, tables: &Arc<Tables>) {
     let parsed = parse_tree(call, flags, tables);
     let number = call.number() as usize;

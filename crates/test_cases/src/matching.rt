@@ -1,7 +1,7 @@
 //! The result of a test case for the matcher.
 
 use crate::linear::{instruction_limit, response_linear};
-use crate::outcome::{matcher_of, parse_question, response_question};
+use crate::outcome::{matcher_of, parse_question, response_question, shortest_matcher};
 use crate::parsing::parse_in;
 use crate::trees::optimize_watched;
 use regress_parse::Dialect;
@@ -15,6 +15,8 @@ use test_notation::{Call, Fault};
 enum Way {
     /// By backtracking in the program of the parsed tree.
     Backtracking,
+    /// By backtracking in a program of the parsed tree with few stored instructions: iterations are copied.
+    Copies,
     /// By a matcher of the optimized tree, which goes on with tables if its program is linear.
     Matcher,
     /// By the tables of the program of the parsed tree, if it has no back reference.
@@ -44,8 +46,8 @@ pub(crate) fn match_difference(
     }
 }
 
-/// Returns the first result that is not the expected one: by backtracking, unless the question is `linear`; by a matcher
-/// of the optimized tree; or by tables if the program has no back reference.
+/// Returns the first result that is not the expected one: by backtracking and by copies, unless the question is `linear`; by
+/// a matcher of the optimized tree; or by tables if the program has no back reference.
 fn difference_in(
     alloc: Global,
     fields: &str,
@@ -59,9 +61,14 @@ fn difference_in(
             return Ok(found);
         }
     }
-    // with tables there is no limit
+    // with tables there is no limit, and copies have other steps
     if expected == "out of steps" {
         return Ok(None);
+    }
+    if !fields.starts_with("linear") {
+        if let Some(found) = difference_by(alloc, fields, expected, tables, dialect, Way::Copies)? {
+            return Ok(Some(format!(in alloc; "{found} by copies")?));
+        }
     }
     if let Some(found) = difference_by(alloc, fields, expected, tables, dialect, Way::Matcher)? {
         return Ok(Some(format!(in alloc; "{found} by the optimized tree")?));
@@ -93,6 +100,13 @@ fn difference_by(
                 if let Some(matcher) = matcher_of(&mut call, regex, tables, 0) {
                     response_question(&mut call, question, &matcher, &text);
                 }
+            }
+            Way::Copies => {
+                let Some(matcher) = shortest_matcher(&mut call, &regex, tables) else {
+                    call.finish()?;
+                    return Ok(None);
+                };
+                response_question(&mut call, question, &matcher, &text);
             }
             Way::Matcher => {
                 optimize_watched(&mut call, &mut regex);

@@ -13,6 +13,9 @@ use test_notation::{Call, Fault, Promise, parse_decimal};
 /// The largest program of a test case. With tables it is this number divided by the positions in the text.
 pub(crate) const INSTRUCTIONS: usize = 1_000_000;
 
+/// Limits on stored instructions that are tried in turn.
+const FEW_INSTRUCTIONS: [usize; 4] = [8, 16, 32, 64];
+
 /// The number of matches after which a search for all ends.
 pub(crate) const MATCHES: u32 = 100;
 
@@ -75,6 +78,35 @@ pub(crate) fn matcher_of(
             None
         }
     }
+}
+
+/// Returns a matcher without tables whose program has few stored instructions, or `None` if the least number of them is above
+/// 64.
+pub(crate) fn shortest_matcher(
+    call: &mut Call,
+    regex: &Regex,
+    tables: &Arc<Tables>,
+) -> Option<Matcher> {
+    for instructions in FEW_INSTRUCTIONS {
+        let limits = Limits {
+            instructions,
+            linear_instructions: 0,
+            ..Limits::default()
+        };
+        let Ok(copy) = regex.try_clone(call.alloc()) else {
+            call.fail(Fault::Memory);
+            return None;
+        };
+        match Matcher::new(call.alloc(), copy, tables, limits) {
+            Ok(matcher) => return Some(matcher),
+            Err(CompileFault::Memory(_)) => {
+                call.fail(Fault::Memory);
+                return None;
+            }
+            Err(CompileFault::TooLong) => {}
+        }
+    }
+    None
 }
 
 /// Appends the outcome of a search.

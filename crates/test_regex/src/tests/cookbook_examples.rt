@@ -57,7 +57,8 @@ fn an_untrusted_pattern_has_limits(rt: HostRuntime) -> Result<(), Fail> {
         ..Options::default()
     };
     let tables = Arc::new(alloc, Tables::small(alloc)?)?;
-    match Regex::with_options(alloc, "(?:ab){20000}", Flags::default(), options, &tables) {
+    let pattern = "(?:(?:ab){9999999999}){9999999999}";
+    match Regex::with_options(alloc, pattern, Flags::default(), options, &tables) {
         Err(Error::TooLarge) => {}
         _ => assert!(rt; false, "it is too large"),
     }
