@@ -97,8 +97,8 @@ impl SizeWarning {
                 "with more than 1,000 instructions a search may take more than linear time, and stop at a step limit: \
                  (?:ab?){500} has 1,501",
             SizeWarning::TooLarge =>
-                "the pattern is too large for a search, as it has more than 250,000 instructions, or may have more than \
-                 1,000,000 nodes: (?:ab?){100000} has 300,001 instructions",
+                "the pattern is too large for a search: more than 250,000 instructions are stored, or there are 2^64 with all \
+                 iterations, as in (?:(?:ab){9999999999}){9999999999}, or it may have more than 1,000,000 nodes",
         }
     }
 }
