@@ -135,7 +135,7 @@ int main(void) {
     next_years(&date);
     search_for_user("\\d+", text);
     search_for_user("a)", text);
-    search_for_user("(?:ab){20000}", text);
+    search_for_user("(?:(?:ab){9999999999}){9999999999}", text);
     search_for_user("(a|a)*b", "aaaaaaaaaaaaaaaaaaaaaaaaaaaaaaaaaaaaaaaa");
     search_for_user("(a|a)*\\1b", "aaaaaaaaaaaaaaaaaaaaaaaaaaaaaaaaaaaaaaaa");
     printf("%d threads have found it\n", threads(&date));

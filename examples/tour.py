@@ -32,7 +32,7 @@ def search_for_user(pattern, text):
 
 print(search_for_user(r'\d+', TEXT))
 print(search_for_user('a)', TEXT))
-print(search_for_user('(?:ab){20000}', TEXT))
+print(search_for_user('(?:(?:ab){9999999999}){9999999999}', TEXT))
 print(search_for_user('(a|a)*b', 'a' * 100))
 
 # A search that takes too many steps

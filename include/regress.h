@@ -98,8 +98,8 @@ typedef struct regress_searcher {
 
    - steps: the steps of a search that is not linear, by default a billion. docs/performance.md says what a step is.
    - nodes: the nodes of the tree of the pattern, as regress_front_node_bound_utf8 bounds them, by default a million.
-   - instructions: those of its program, where the body of a loop {n,m} counts m times, or if it is one character, about
-     m / 64 times, and if that is too much, a few times; by default 250,000.
+   - instructions: those of its program that are stored, where the body of a loop {n,m} counts m times, or if it is one
+     character, about m / 64 times; but if that is too much, a few times; by default 250,000.
    - linear_instructions: the number of instructions up to which a search may be linear, where one character always counts
      about m / 64 times; by default a thousand. It takes up to two bits of memory for each instruction and byte of the
      text.

@@ -134,8 +134,8 @@ def compile(pattern, flags='', *, dialect='ecma', steps=None, nodes=None, instru
 
         steps         the steps of one search that does not take linear time; a billion by default
         nodes         the nodes of the tree of the pattern, as node_bound() bounds them; a million by default
-        instructions  those of its program, where the body of a loop {n,m} counts m times, or if it is one character,
-                      about m / 64 times, and if that is too much, a few times; 250,000 by default
+        instructions  those of its program that are stored, where the body of a loop {n,m} counts m times, or if it is
+                      one character, about m / 64 times; but if that is too much, a few times; 250,000 by default
         linear_instructions
                       the instructions up to which a search may take linear time, where one character always counts
                       about m / 64 times; a thousand by default. It takes up to two bits of memory for each

@@ -83,8 +83,8 @@ pub struct Options {
     /// The number of nodes that the tree of the pattern may have, as [`node_bound`](crate::node_bound) bounds it. By
     /// default a million.
     pub nodes: usize,
-    /// The number of instructions that the program of the pattern may have, where the body of a loop `{n,m}` counts m
-    /// times, or if it is one character, about m / 64 times, and if that is too much, a few times. By default 250,000.
+    /// The number of instructions of the pattern's program that may be stored, where the body of a loop `{n,m}` counts m
+    /// times, or if it is one character, about m / 64 times; but if that is too much, a few times. By default 250,000.
     pub instructions: usize,
     /// The number of instructions up to which a search may be linear, where one character always counts about m / 64 times.
     /// By default a thousand. It takes up to two bits of memory for each instruction and byte of the text.
@@ -138,7 +138,7 @@ impl Regex {
     /// # Errors
     /// - [`Error::Syntax`] if the pattern is rejected.
     /// - [`Error::TooLarge`] if its tree may have more nodes than `options.nodes`, whether or not it is valid; or if
-    ///   its program has more instructions than `options.instructions`.
+    ///   more instructions of its program are stored than `options.instructions`, or there are 2^64 with all iterations.
     /// - [`Error::Memory`] if the library is out of memory.
     pub fn with_options(pattern: &str, flags: Flags, options: Options) -> Result<Regex, Error> {
         if !ffi::has_abi() {

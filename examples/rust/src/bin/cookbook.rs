@@ -228,7 +228,7 @@ fn main() -> Result<(), Failure> {
         Err("Unbalanced parenthesis at 1".to_string())
     );
     assert_eq!(
-        search_for_a_user("(?:ab){20000}", ""),
+        search_for_a_user("(?:(?:ab){9999999999}){9999999999}", ""),
         Err("use a shorter pattern".to_string())
     );
     let hostile = search_for_a_user(r"(a|a)*\1b", &"a".repeat(40));

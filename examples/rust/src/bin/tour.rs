@@ -83,7 +83,7 @@ fn main() -> Result<(), Box<dyn std::error::Error>> {
     replacing(&date)?;
     println!("{:?}", search_for_user(r"\d+", TEXT));
     println!("{:?}", search_for_user("a)", TEXT));
-    println!("{:?}", search_for_user("(?:ab){20000}", TEXT));
+    println!("{:?}", search_for_user("(?:(?:ab){9999999999}){9999999999}", TEXT));
     println!("{:?}", search_for_user("(a|a)*b", &"a".repeat(100)));
     println!("{:?}", search_for_user(r"(a|a)*\1b", &"a".repeat(100)));
     println!("{:?}", Regex::new(r"(a)\1")?.nonlinear());
