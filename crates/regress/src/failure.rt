@@ -25,8 +25,8 @@ pub enum Error {
     /// The letters specify no flags. Only [`Regex::with_flags`](crate::Regex::with_flags) returns it.
     #[error("{0}")]
     Flags(FlagsError),
-    /// The tree of the pattern may have more nodes, or its program has more instructions, than
-    /// [`Options`](crate::Options) allow.
+    /// The tree of the pattern may have more nodes, or its program stores more instructions, than
+    /// [`Options`](crate::Options) allow; or there would be too many with all iterations.
     #[error("the pattern is too large")]
     TooLarge,
     /// An allocation failed, whether or not the pattern is valid.

@@ -15,8 +15,8 @@ pub enum Nonlinear {
     /// time if [`Matcher::is_find_linear`], all together are not.
     #[error("a lookaround contains a capture group")]
     CapturingLookaround,
-    /// The program has more instructions than the limit on tables, or would have more than it may have if each matched at
-    /// most 64 characters.
+    /// The program has more instructions than the limit on tables, or would store more than it may if each matched at most
+    /// 64 characters.
     #[error("the pattern needs too many instructions")]
     TooManyInstructions,
 }

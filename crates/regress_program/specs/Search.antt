@@ -20,7 +20,7 @@ flags_of p = p.flags
 abbrev pub groups_of : Program → ℕ
 groups_of p = p.groups
 
--- how large the counts of its instructions are
+-- how its loops were compiled
 abbrev pub counts_of : Program → Counts
 counts_of p = p.counts
 

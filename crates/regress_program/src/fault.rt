@@ -10,7 +10,7 @@ pub enum CompileFault {
     /// An allocation failed.
     #[error("out of memory")]
     Memory(AllocError),
-    /// The program would have more instructions than the limit.
+    /// More instructions would be stored than the limit allows, or there would be too many with all copies.
     #[error("the program is too long")]
     TooLong,
 }

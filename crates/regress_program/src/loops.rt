@@ -26,7 +26,7 @@ pub(crate) fn is_never(quantifier: Quantifier) -> bool
 }
 
 /// The iterations of a loop: the half-open range of the ids of the groups inside, whether the loop is greedy, and the
-/// index of the first leaf inside; and how large the counts of characters inside are.
+/// index of the first leaf inside; and how loops are compiled.
 #[derive(Clone, Copy)]
 pub(crate) struct Iterations {
     pub(crate) start: usize,
