@@ -1,0 +1,8 @@
+//! Strings of bytes, for finding those that stand at a position of a text.
+#![tactic(auto)]
+
+mod links;
+mod order;
+mod strings;
+
+pub use strings::Strings;
