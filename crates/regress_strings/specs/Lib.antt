@@ -1,4 +1,6 @@
 pub mod Contents
 pub mod Links
 pub mod Order
+pub mod Ordered
+pub mod Pairs
 pub mod Strings

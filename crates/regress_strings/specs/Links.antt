@@ -1,12 +1,25 @@
--- Equal strings and prefixes.
-use Rattle.std.specs.Prelude.{◌≡◌, ℕ, ◌<◌, ◌≤◌, List, length, slice_index, IsTrue, Vec}
-use Rattle.std.specs.declared.alloc.Global.{Global}
+-- Links of an order of strings.
+use Rattle.std.specs.Prelude.{◌≡◌, ℕ, Bool, true, false, nat_eq, ◌-◌, ◌<◌, ◌≤◌, List, Some, slice_get}
+use Rattle.std.specs.List.{starts_with}
 use Rattle.std.proofs.Props.{props}
-use Rattle.regress_strings.specs.declared.links.Links.{Links}
+use Rattle.regress_strings.specs.declared.link.Link.{Link}
 
--- The order has the indices of the strings.
-pub record AreLinks (strings : List (Vec ℕ Global)) (order : List ℕ) (links : Links) : Type 0 where
-  pub count : length links.firsts.items ≡ length strings
+-- The strings from `first` up to the place are equal. Those below `prefix` are shorter, and the last of them is the last of the strings that the one
+-- at the place begins with.
+pub record IsLink (string : ℕ → List ℕ) (place : ℕ) (link : Link) : Type 0 where
+  pub first : link.first ≤ place
+  pub prefix : link.prefix ≤ link.first
+  pub equal : (i : ℕ) → link.first ≤ i → i ≤ place → string i ≡ string place
+  pub begins : 0 < link.prefix → starts_with nat_eq (string place) (string (link.prefix - 1)) ≡ true
+  pub last : (i : ℕ) → link.prefix ≤ i → i < link.first → starts_with nat_eq (string place) (string i) ≡ false
 
-pub AreLinks-prop : (strings : List (Vec ℕ Global)) (order : List ℕ) (links : Links) → IsProp (AreLinks strings order links)
-AreLinks-prop strings order links = hlevel props
+-- The links are those of the places from 0 on.
+abbrev pub AreLinks : (string : ℕ → List ℕ) → List Link → Type 0
+AreLinks string links = (place : ℕ) (link : Link) → slice_get links place ≡ Some link → IsLink string place link
+
+-- Each property has at most one proof.
+pub IsLink-prop : (string : ℕ → List ℕ) (place : ℕ) (link : Link) → IsProp (IsLink string place link)
+IsLink-prop string place link = hlevel props
+
+pub AreLinks-prop : (string : ℕ → List ℕ) (links : List Link) → IsProp (AreLinks string links)
+AreLinks-prop string links = hlevel (props, IsLink-prop)

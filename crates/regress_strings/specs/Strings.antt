@@ -1,12 +1,12 @@
 -- Strings, and which of them stand at a position of a text.
-use Rattle.std.specs.Prelude.{◌≡◌, ℕ, Bool, true, false, nat_eq, ◌+◌, ◌<◌, ◌≤◌, List, map, length, drop, slice_get, Option, Some, MatchOption}
+use Rattle.std.specs.Prelude.{◌≡◌, ℕ, Bool, true, false, nat_eq, ◌+◌, ◌<◌, ◌≤◌, List, length, drop, slice_get, Option, Some, MatchOption}
 use Rattle.std.specs.List.{starts_with}
 use Rattle.regress_strings.specs.declared.strings.Strings.{Strings}
 use Rattle.regress_strings.specs.Contents.{contents}
 
 -- the strings, by their indices
 abbrev pub strings_of : Strings → List (List ℕ)
-strings_of s = contents s.strings.items
+strings_of s = contents s.order.strings.items
 
 -- whether the string stands in the text at the position
 abbrev pub stands : (text : List ℕ) (position : ℕ) (string : List ℕ) → Bool

@@ -1,47 +1,65 @@
-//! Which strings are equal, and which are prefixes of others.
+//! The links of an order of strings.
+ghost use Rattle.std.specs.Prelude.{◌≡◌, ◌<◌, ◌≤◌, IfOk, length};
+ghost use Rattle.regress_strings.specs.Links.{AreLinks, IsLink};
+ghost use Rattle.regress_strings.specs.Ordered.{IsPrefixCount, NoneAfter, place_count, string_of};
 
+use crate::link::Link;
+use crate::order::Order;
 use std::alloc::{AllocError, Global};
 
-/// For each place in an ascending order of strings, where the strings stand that are equal to the one there, and its
-/// longest proper prefix.
-#[derive(Drop)]
-pub(crate) struct Links {
-    /// The first place of an equal string.
-    pub(crate) firsts: Vec<usize>,
-    /// One more than the last place of a proper prefix, or 0 if there is none.
-    pub(crate) prefixes: Vec<usize>,
+/// Returns the link of each place.
+///
+/// # Complexity
+/// O(n) comparisons of two strings for n strings, and as many again as a string begins with others.
+///
+/// # Errors
+/// Returns [`AllocError`] if an allocation fails.
+pub(crate) fn links_of(alloc: Global, order: &Order) -> Result<Vec<Link>, AllocError>
+    ensures links { IfOk result (λ links. AreLinks (string_of order.now) links.items) }
+    ensures each { IfOk result (λ links. length links.items ≡ place_count order.now) }
+{
+    let mut links = Vec::new(alloc);
+    for _ in 0..order.len() {
+        let link = next_link(order, &links);
+        links.push(link)?;
+    }
+    Ok(links)
 }
 
-impl Links {
-    /// Returns the links of strings in ascending order.
-    ///
-    /// # Complexity
-    /// O(n) comparisons of two strings for n strings.
-    ///
-    /// # Errors
-    /// Returns [`AllocError`] if an allocation fails.
-    pub(crate) fn new(alloc: Global, strings: &[Vec<u8>], order: &[usize]) -> Result<Links, AllocError>
-    {
-        let mut links = Links {
-            firsts: Vec::new(alloc),
-            prefixes: Vec::new(alloc),
-        };
-        for place in 0..order.len() {
-            let string = strings[order[place]].as_slice();
-            if place > 0 && strings[order[place - 1]].as_slice() == string {
-                let first = links.firsts[place - 1];
-                let prefix = links.prefixes[place - 1];
-                links.firsts.push(first)?;
-                links.prefixes.push(prefix)?;
-            } else {
-                let mut count = place;
-                while count > 0 && !string.starts_with(&strings[order[count - 1]]) {
-                    count = links.prefixes[count - 1];
-                }
-                links.firsts.push(place)?;
-                links.prefixes.push(count)?;
-            }
-        }
-        Ok(links)
+/// Returns the link of the place after those that have their links.
+fn next_link(order: &Order, links: &[Link]) -> Link
+    requires some { length links.now < place_count order.now }
+    requires links { AreLinks (string_of order.now) links.now }
+    ensures { IsLink (string_of order.now) (length links.now) result }
+{
+    let place = links.len();
+    let string = order.string(place);
+    if place > 0 && order.string(place - 1) == string {
+        return links[place - 1];
     }
+    Link {
+        first: place,
+        prefix: prefix_count(order, links, string, place),
+    }
+}
+
+/// Returns one more than the last place below `count` of a string that `text` begins with, or 0 if there is none.
+///
+/// # Complexity
+/// A comparison for each string that the one before `count` begins with.
+///
+/// # Preconditions
+/// The strings below `count` do not come after `text`.
+pub(crate) fn prefix_count(order: &Order, links: &[Link], text: &[u8], count: usize) -> usize
+    requires in_range { count ≤ length links.now }
+    requires ordered { length links.now ≤ place_count order.now }
+    requires links { AreLinks (string_of order.now) links.now }
+    requires at_most { NoneAfter (string_of order.now) text.now count }
+    ensures { IsPrefixCount (string_of order.now) text.now count result }
+{
+    let mut found = count;
+    while found > 0 && !text.starts_with(order.string(found - 1)) {
+        found = links[found - 1].prefix;
+    }
+    found
 }

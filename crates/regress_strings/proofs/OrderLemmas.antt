@@ -1,0 +1,1 @@
+-- Lemmas on an order of strings.
