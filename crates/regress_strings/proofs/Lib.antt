@@ -1,2 +1,5 @@
+pub mod LinkLemmas
 pub mod OrderLemmas
+pub mod PairLemmas
 pub mod PrefixLemmas
+pub mod StandingLemmas

@@ -1,5 +1,5 @@
 -- Links of an order of strings.
-use Rattle.std.specs.Prelude.{◌≡◌, ℕ, Bool, true, false, nat_eq, ◌-◌, ◌<◌, ◌≤◌, List, Some, slice_get}
+use Rattle.std.specs.Prelude.{◌≡◌, ℕ, true, false, nat_eq, ◌-◌, ◌<◌, ◌≤◌, List, Some, slice_get}
 use Rattle.std.specs.List.{starts_with}
 use Rattle.std.proofs.Props.{props}
 use Rattle.regress_strings.specs.declared.link.Link.{Link}

@@ -33,3 +33,10 @@ pub record IsPrefixCount (string : ℕ → List ℕ) (text : List ℕ) (count re
 pub record IsLastBelow (order : Order) (first count before result : ℕ) : Type 0 where
   pub found : 0 < result → (i : ℕ) × (first ≤ i) × (i < count) × (slice_index order.indices.items i < before) × (slice_index order.indices.items i + 1 ≡ result)
   pub greatest : (i : ℕ) → first ≤ i → i < count → slice_index order.indices.items i < before → slice_index order.indices.items i < result
+
+-- The result is one more than the greatest index below `before` of a string that the text begins with, or 0 if there is none.
+pub record IsGreatest (order : Order) (text : List ℕ) (before result : ℕ) : Type 0 where
+  pub found : 0 < result → (i : ℕ) × (i < place_count order) × (starts_with nat_eq text (string_of order i) ≡ true) × (slice_index order.indices.items i < before)
+      × (slice_index order.indices.items i + 1 ≡ result)
+  pub greatest : (i : ℕ) → i < place_count order → starts_with nat_eq text (string_of order i) ≡ true → slice_index order.indices.items i < before
+      → slice_index order.indices.items i < result

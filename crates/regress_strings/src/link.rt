@@ -1,7 +1,5 @@
 //! Which strings are equal, and which begin with others.
 
-
-
 /// For a place in the order of strings, where the strings are that the string there begins with.
 #[derive(Clone, Copy)]
 pub(crate) struct Link {

@@ -1,7 +1,7 @@
 //! The links of an order of strings.
 ghost use Rattle.std.specs.Prelude.{◌≡◌, ◌<◌, ◌≤◌, IfOk, length};
 ghost use Rattle.regress_strings.specs.Links.{AreLinks, IsLink};
-ghost use Rattle.regress_strings.specs.Ordered.{IsPrefixCount, NoneAfter, place_count, string_of};
+ghost use Rattle.regress_strings.specs.Ordered.{IsGreatest, IsPrefixCount, NoneAfter, place_count, string_of};
 
 use crate::link::Link;
 use crate::order::Order;
@@ -19,9 +19,8 @@ pub(crate) fn links_of(alloc: Global, order: &Order) -> Result<Vec<Link>, AllocE
     ensures each { IfOk result (λ links. length links.items ≡ place_count order.now) }
 {
     let mut links = Vec::new(alloc);
-    for _ in 0..order.len() {
-        let link = next_link(order, &links);
-        links.push(link)?;
+    while links.len() < order.len() {
+        links.push(next_link(order, &links))?;
     }
     Ok(links)
 }
@@ -43,6 +42,26 @@ fn next_link(order: &Order, links: &[Link]) -> Link
     }
 }
 
+/// Returns one more than the greatest index below `before` of a string that `text` begins with, or 0 if there is none.
+///
+/// # Complexity
+/// O(log n) comparisons of a string with the text for n strings, and O(log n) for each of the different strings that the
+/// text begins with.
+pub(crate) fn greatest_index(order: &Order, links: &[Link], text: &[u8], before: usize) -> usize
+    requires links { AreLinks (string_of order.now) links.now }
+    requires each { length links.now ≡ place_count order.now }
+    ensures { IsGreatest order.now text.now before result }
+{
+    let mut count = prefix_count(order, links, text, order.count_at_most(text));
+    let mut greatest = 0;
+    while count > 0 {
+        let link = links[count - 1];
+        greatest = greatest.max(order.last_below(link.first, count, before));
+        count = link.prefix;
+    }
+    greatest
+}
+
 /// Returns one more than the last place below `count` of a string that `text` begins with, or 0 if there is none.
 ///
 /// # Complexity
@@ -50,7 +69,7 @@ fn next_link(order: &Order, links: &[Link]) -> Link
 ///
 /// # Preconditions
 /// The strings below `count` do not come after `text`.
-pub(crate) fn prefix_count(order: &Order, links: &[Link], text: &[u8], count: usize) -> usize
+fn prefix_count(order: &Order, links: &[Link], text: &[u8], count: usize) -> usize
     requires in_range { count ≤ length links.now }
     requires ordered { length links.now ≤ place_count order.now }
     requires links { AreLinks (string_of order.now) links.now }

@@ -4,7 +4,7 @@ ghost use Rattle.regress_strings.specs.Links.{AreLinks, AreLinks-prop};
 ghost use Rattle.regress_strings.specs.Ordered.{place_count, string_of};
 
 use crate::link::Link;
-use crate::links::{links_of, prefix_count};
+use crate::links::{greatest_index, links_of};
 use crate::order::Order;
 use std::alloc::{AllocError, Global};
 
@@ -44,8 +44,8 @@ impl Strings {
     /// none does.
     ///
     /// # Complexity
-    /// O(log n) comparisons of a string with the text for n strings, and O(log n) for each of different strings that stand
-    /// there.
+    /// O(log n) comparisons of a string with the text for n strings, and O(log n) for each of the different strings that
+    /// stand there.
     ///
     /// # Preconditions
     /// `position` is at most the length of `text`.
@@ -53,20 +53,7 @@ impl Strings {
         requires { position ≤ length text.now }
         ensures { IsLastAt (strings_of self.now) text.now position before result }
     {
-        let rest = &text[position..];
-        let mut count = prefix_count(
-            &self.order,
-            &self.links,
-            rest,
-            self.order.count_at_most(rest),
-        );
-        // One more than the greatest index so far, or 0.
-        let mut last = 0;
-        while count > 0 {
-            let link = self.links[count - 1];
-            last = last.max(self.order.last_below(link.first, count, before));
-            count = link.prefix;
-        }
-        last.checked_sub(1)
+        let last = greatest_index(&self.order, &self.links, &text[position..], before);
+        if last == 0 { None } else { Some(last - 1) }
     }
 }
