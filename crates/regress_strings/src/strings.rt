@@ -21,7 +21,7 @@ pub struct Strings {
 }
 
 impl Strings {
-    ghost use Rattle.std.specs.Prelude.{◌≤◌, IfOk};
+    ghost use Rattle.std.specs.Prelude.{◌↔◌, ◌≤◌, [], IfOk, IsTrue};
     ghost use Rattle.regress_strings.specs.Contents.{contents};
     ghost use Rattle.regress_strings.specs.Strings.{IsLastAt, strings_of};
 
@@ -38,6 +38,20 @@ impl Strings {
         let order = Order::new(alloc, strings)?;
         let links = links_of(alloc, &order)?;
         Ok(Strings { order, links })
+    }
+
+    /// Returns the number of the strings.
+    pub fn len(&self) -> usize
+        ensures { result ≡ length (strings_of self.now) }
+    {
+        self.order.strings.len()
+    }
+
+    /// Returns whether there is no string.
+    pub fn is_empty(&self) -> bool
+        ensures { IsTrue result ↔ (strings_of self.now ≡ []) }
+    {
+        self.order.strings.is_empty()
     }
 
     /// Returns the greatest index below `before` of a string that stands in `text` at the byte offset `position`, or `None` if
