@@ -1,3 +1,4 @@
+pub mod KeyLemmas
 pub mod LinkLemmas
 pub mod OrderLemmas
 pub mod PairLemmas

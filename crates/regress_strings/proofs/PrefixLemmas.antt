@@ -7,10 +7,10 @@ use Rattle.regress_strings.specs.Order.{is_after}
 
 -- ---- the first bytes decide
 
-after-same : (x y : ℕ) (xs ys : List ℕ) → x ≡ y → is_after (x ∷ xs) (y ∷ ys) ≡ is_after xs ys
+pub after-same : (x y : ℕ) (xs ys : List ℕ) → x ≡ y → is_after (x ∷ xs) (y ∷ ys) ≡ is_after xs ys
 after-same x y xs ys same = rw (le-ltb x y (omega arith), eq-eqb x y same) refl
 
-after-greater : (x y : ℕ) (xs ys : List ℕ) → y < x → is_after (x ∷ xs) (y ∷ ys) ≡ true
+pub after-greater : (x y : ℕ) (xs ys : List ℕ) → y < x → is_after (x ∷ xs) (y ∷ ys) ≡ true
 after-greater x y xs ys lt = rw (le-ltb x y (omega arith), ne_eqb x y (λ e. omega arith)) refl
 
 starts-parts : (x y : ℕ) (xs ys : List ℕ) → starts_with nat_eq (y ∷ ys) (x ∷ xs) ≡ true → (x ≡ y) × (starts_with nat_eq ys xs ≡ true)

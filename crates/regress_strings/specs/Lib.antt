@@ -1,4 +1,5 @@
 pub mod Contents
+pub mod Keys
 pub mod Links
 pub mod Order
 pub mod Ordered

@@ -1,6 +1,7 @@
 //! Strings of bytes, for finding those that stand at a position of a text.
 #![tactic(auto)]
 
+mod keys;
 mod link;
 mod links;
 mod order;

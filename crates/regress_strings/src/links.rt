@@ -1,8 +1,10 @@
 //! The links of an order of strings.
 ghost use Rattle.std.specs.Prelude.{◌≡◌, ◌<◌, ◌≤◌, IfOk, length};
+ghost use Rattle.regress_strings.specs.Keys.{AreKeys};
 ghost use Rattle.regress_strings.specs.Links.{AreLinks, IsLink};
 ghost use Rattle.regress_strings.specs.Ordered.{IsGreatest, IsPrefixCount, NoneAfter, place_count, string_of};
 
+use crate::keys::count_at_most;
 use crate::link::Link;
 use crate::order::Order;
 use std::alloc::{AllocError, Global};
@@ -47,12 +49,20 @@ fn next_link(order: &Order, links: &[Link]) -> Link
 /// # Complexity
 /// O(log n) comparisons of a string with the text for n strings, and O(log n) for each of the different strings that the
 /// text begins with.
-pub(crate) fn greatest_index(order: &Order, links: &[Link], text: &[u8], before: usize) -> usize
+pub(crate) fn greatest_index(
+    order: &Order,
+    keys: &[u64],
+    links: &[Link],
+    text: &[u8],
+    before: usize,
+) -> usize
+    requires keys { AreKeys (string_of order.now) keys.now }
+    requires each_key { length keys.now ≡ place_count order.now }
     requires links { AreLinks (string_of order.now) links.now }
     requires each { length links.now ≡ place_count order.now }
     ensures { IsGreatest order.now text.now before result }
 {
-    let mut count = prefix_count(order, links, text, order.count_at_most(text));
+    let mut count = prefix_count(order, links, text, count_at_most(order, keys, text));
     let mut greatest = 0;
     while count > 0 {
         let link = links[count - 1];

@@ -17,7 +17,7 @@ pub(crate) struct Order {
 
 impl Order {
     ghost use Rattle.std.specs.Prelude.{◌≡◌, ℕ, ◌<◌, ◌≤◌, slice_index};
-    ghost use Rattle.regress_strings.specs.Ordered.{IsCountAtMost, IsLastBelow, place_count, string_of};
+    ghost use Rattle.regress_strings.specs.Ordered.{IsLastBelow, place_count, string_of};
 
     /// Returns the order of strings.
     ///
@@ -49,26 +49,6 @@ impl Order {
         ensures { result.now ≡ string_of self.now place }
     {
         &self.strings[self.indices[place]]
-    }
-
-    /// Returns the number of the strings that do not come after `text` in lexicographic order.
-    ///
-    /// # Complexity
-    /// O(log n) comparisons of a string with the text for n strings.
-    pub(crate) fn count_at_most(&self, text: &[u8]) -> usize
-        ensures { IsCountAtMost self.now text.now result }
-    {
-        let mut low = 0;
-        let mut high = self.len();
-        while low < high {
-            let middle = low + (high - low) / 2;
-            if self.string(middle).cmp(&text).is_gt() {
-                high = middle;
-            } else {
-                low = middle + 1;
-            }
-        }
-        low
     }
 
     /// Returns one more than the greatest index below `before` at the places from `first` on and below `count`, or 0 if there

@@ -1,8 +1,10 @@
 //! Strings, for finding those that stand at a position of a text.
 ghost use Rattle.std.specs.Prelude.{◌≡◌, length};
+ghost use Rattle.regress_strings.specs.Keys.{AreKeys, AreKeys-prop};
 ghost use Rattle.regress_strings.specs.Links.{AreLinks, AreLinks-prop};
 ghost use Rattle.regress_strings.specs.Ordered.{place_count, string_of};
 
+use crate::keys::keys_of;
 use crate::link::Link;
 use crate::links::{greatest_index, links_of};
 use crate::order::Order;
@@ -14,8 +16,12 @@ use std::alloc::{AllocError, Global};
 #[derive(Drop)]
 pub struct Strings {
     order: Order,
+    /// The key of the string at each place of the order.
+    keys: Vec<u64>,
     /// The link of each place of the order.
     links: Vec<Link>,
+    ghost keyed: { AreKeys (string_of order) keys.items } by { AreKeys-prop (string_of order) keys.items },
+    ghost each_key: { length keys.items ≡ place_count order },
     ghost linked: { AreLinks (string_of order) links.items } by { AreLinks-prop (string_of order) links.items },
     ghost each: { length links.items ≡ place_count order },
 }
@@ -36,8 +42,9 @@ impl Strings {
         ensures { IfOk result (λ s. strings_of s ≡ contents strings.items) }
     {
         let order = Order::new(alloc, strings)?;
+        let keys = keys_of(alloc, &order)?;
         let links = links_of(alloc, &order)?;
-        Ok(Strings { order, links })
+        Ok(Strings { order, keys, links })
     }
 
     /// Returns the number of the strings.
@@ -67,7 +74,13 @@ impl Strings {
         requires { position ≤ length text.now }
         ensures { IsLastAt (strings_of self.now) text.now position before result }
     {
-        let last = greatest_index(&self.order, &self.links, &text[position..], before);
+        let last = greatest_index(
+            &self.order,
+            &self.keys,
+            &self.links,
+            &text[position..],
+            before,
+        );
         if last == 0 { None } else { Some(last - 1) }
     }
 }

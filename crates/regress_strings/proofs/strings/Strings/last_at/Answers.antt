@@ -10,7 +10,7 @@ use Rattle.regress_strings.proofs.strings.Strings.last_at.Goals as goal
 
 pub greatest_index-last-requires-clause-links : goal.greatest_index-last-requires-clause-links
 greatest_index-last-requires-clause-links c =
-    subst (λ (links : List Link). AreLinks (string_of c.args.self.now.order) links) (sym c.deref.ensures.value) c.args.self.now.linked
+    subst (λ (links : List Link). AreLinks (string_of c.args.self.now.order) links) (sym c.deref-2.ensures.value) c.args.self.now.linked
 
 pub returns-then-last-eq0 : goal.returns-then-last-eq0
 returns-then-last-eq0 c =

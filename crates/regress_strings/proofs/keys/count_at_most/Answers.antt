@@ -1,18 +1,17 @@
 -- The string in the middle decides for those on one side of it.
-use Rattle.std.proofs.Common.{◌≡◌, ℕ, ◌+◌, ◌-◌, ◌/◌, true, false, sym, subst, ◌∙◌, ap, arith}
-use Rattle.std.specs.Ordering.{is_gt}
+use Rattle.std.proofs.Common.{◌≡◌, ℕ, ◌+◌, ◌-◌, ◌/◌, true, false, sym, ◌∙◌, arith}
 use Rattle.regress_strings.specs.Order.{is_after}
 use Rattle.regress_strings.specs.Ordered.{string_of}
 use Rattle.regress_strings.proofs.OrderLemmas.{none-below, all-above}
-use Rattle.regress_strings.proofs.order.Order.count_at_most.Goals as goal
+use Rattle.regress_strings.proofs.keys.count_at_most.Goals as goal
 
-pub loop-low-preserved-then-is_gt : goal.loop-low-preserved-then-is_gt
-loop-low-preserved-then-is_gt c =
-    let order = c.args.self.now in
+pub loop-low-preserved-then-is_after : goal.loop-low-preserved-then-is_after
+loop-low-preserved-then-is_after c =
+    let order = c.args.order.now in
     let text = c.args.text.now in
     let middle : ℕ = c.loop-low.low + (c.loop-low.high - c.loop-low.low) / 2 in
     let after : is_after (string_of order middle) text ≡ true =
-    subst (λ s. is_after s text ≡ true) c.string.ensures (sym (ap is_gt c.cmp.ensures) ∙ (sym c.is_gt.ensures ∙ c.if-is_gt.true)) in
+    sym c.is_after.ensures ∙ c.if-is_after.true in
     record {
       ordered = omega arith;
       within = omega arith;
@@ -22,11 +21,11 @@ loop-low-preserved-then-is_gt c =
 
 pub loop-low-preserved : goal.loop-low-preserved
 loop-low-preserved c =
-    let order = c.args.self.now in
+    let order = c.args.order.now in
     let text = c.args.text.now in
     let middle : ℕ = c.loop-low.low + (c.loop-low.high - c.loop-low.low) / 2 in
     let after : is_after (string_of order middle) text ≡ false =
-    subst (λ s. is_after s text ≡ false) c.string.ensures (sym (ap is_gt c.cmp.ensures) ∙ (sym c.is_gt.ensures ∙ c.if-is_gt.false)) in
+    sym c.is_after.ensures ∙ c.if-is_after.false in
     record {
       ordered = omega arith;
       within = c.loop-low.invariant.within;
