@@ -3,4 +3,4 @@ pub mod LinkLemmas
 pub mod OrderLemmas
 pub mod PairLemmas
 pub mod PrefixLemmas
-pub mod StandingLemmas
+pub mod SearchLemmas

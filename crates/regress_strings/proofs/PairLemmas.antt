@@ -80,9 +80,9 @@ module _ (strings : List (List ℕ)) (pairs sorted : List Pair) (indices : List 
   unfolding IsPairOf
   string-is i pair lt = ap (λ n. slice_index_or strings n []) (index i pair lt) ∙ sym (are-pairs i pair (omega (arith, count))).1
 
-  in-order : (i j : ℕ) (pair : Pair) → i ≤ j → j < length indices
+  ordered-pairs : (i j : ℕ) (pair : Pair) → i ≤ j → j < length indices
       → is_lt (ordering_then (slice_cmp nat_cmp (string_at strings indices j) (string_at strings indices i)) (nat_cmp (slice_index indices j) (slice_index indices i))) ≡ false
-  in-order i j pair le lt =
+  ordered-pairs i j pair le lt =
       rw (string-is i pair (omega arith), string-is j pair lt, index i pair (omega arith), index j pair lt)
       (sorted_far (λ x y. is_lt (pair_cmp x y)) (ranks_by pair_cmp-total (λ (p : Pair). p)) sorted up i j pair le (omega (arith, count)))
 
@@ -94,8 +94,8 @@ module _ (strings : List (List ℕ)) (pairs sorted : List Pair) (indices : List 
         let at = Contains-permutation pairs sorted (pair-of k lt) moved (Contains-get_or pairs k (some-element pairs k (omega (arith, are.count))) (omega (arith, are.count))) in
         none at.0 (omega (arith, at.1, count)) (index at.0 (pair-of k lt) (omega (arith, at.1, count)) ∙ ap (λ (p : Pair). p.1) at.2
         ∙ are.index k (some-element pairs k (omega (arith, are.count))) (omega (arith, are.count))));
-    ascend = λ i j le lt. not_after-from (string_at strings indices i) (string_at strings indices j) (first-not-less _ _ (in-order i j (pair-at j lt) le lt));
+    ascend = λ i j le lt. not_after-from (string_at strings indices i) (string_at strings indices j) (first-not-less _ _ (ordered-pairs i j (pair-at j lt) le lt));
     stable = λ i j le lt same. not-less (slice_index indices j) (slice_index indices i)
         (second-not-less _ _ (subst (λ s. slice_cmp nat_cmp s (string_at strings indices i) ≡ Equal) same (tied_itself nat_list_cmp_total (string_at strings indices i)))
-        (in-order i j (pair-at j lt) le lt));
+        (ordered-pairs i j (pair-at j lt) le lt));
   }

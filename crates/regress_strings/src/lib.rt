@@ -1,4 +1,4 @@
-//! Strings of bytes, for finding those that stand at a position of a text.
+//! Strings of bytes, for finding those that occur at a position of a text.
 #![tactic(auto)]
 
 mod keys;

@@ -1,4 +1,4 @@
-//! Strings, for finding those that stand at a position of a text.
+//! Strings, for finding those that occur at a position of a text.
 ghost use Rattle.std.specs.Prelude.{◌≡◌, length};
 ghost use Rattle.regress_strings.specs.Keys.{AreKeys, AreKeys-prop};
 ghost use Rattle.regress_strings.specs.Links.{AreLinks, AreLinks-prop};
@@ -10,7 +10,7 @@ use crate::links::{greatest_index, links_of};
 use crate::order::Order;
 use std::alloc::{AllocError, Global};
 
-/// Strings of bytes, for finding those that stand at a position of a text.
+/// Strings of bytes, for finding those that occur at a position of a text.
 ///
 /// The index of a string is its place in the list that they were made of. Strings can be equal or empty.
 #[derive(Drop)]
@@ -61,12 +61,12 @@ impl Strings {
         self.order.strings.is_empty()
     }
 
-    /// Returns the greatest index below `before` of a string that stands in `text` at the byte offset `position`, or `None` if
+    /// Returns the greatest index below `before` of a string that occurs in `text` at the byte offset `position`, or `None` if
     /// none does.
     ///
     /// # Complexity
     /// O(log n) comparisons of a string with the text for n strings, and O(log n) for each of the different strings that
-    /// stand there.
+    /// occur there.
     ///
     /// # Preconditions
     /// `position` is at most the length of `text`.

@@ -2,7 +2,7 @@
 use Rattle.std.proofs.Common.{◌-◌, sym, ◌∙◌, arith}
 use Rattle.regress_strings.specs.Ordered.{string_of}
 use Rattle.regress_strings.proofs.LinkLemmas.{link-of}
-use Rattle.regress_strings.proofs.StandingLemmas.{searched-none, searched-more}
+use Rattle.regress_strings.proofs.SearchLemmas.{searched-none, searched-more}
 use Rattle.regress_strings.proofs.links.greatest_index.Goals as goal
 
 pub loop-count-init : goal.loop-count-init

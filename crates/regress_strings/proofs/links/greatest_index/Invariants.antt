@@ -1,5 +1,5 @@
 -- The strings from `count` on are searched.
-use Rattle.regress_strings.proofs.StandingLemmas.{IsSearchedFrom}
+use Rattle.regress_strings.proofs.SearchLemmas.{IsSearchedFrom}
 use Rattle.regress_strings.proofs.links.greatest_index.Given as goal
 
 abbrev pub invariant-loop-count : goal.invariant-loop-count

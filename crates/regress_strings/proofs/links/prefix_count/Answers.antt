@@ -4,7 +4,7 @@ use Rattle.std.specs.List.{starts_with}
 use Rattle.std.proofs.lemmas.Bool.{cases_lt}
 use Rattle.regress_strings.specs.Ordered.{string_of}
 use Rattle.regress_strings.proofs.LinkLemmas.{link-of}
-use Rattle.regress_strings.proofs.StandingLemmas.{none-from-prefix}
+use Rattle.regress_strings.proofs.SearchLemmas.{none-from-prefix}
 use Rattle.regress_strings.proofs.links.prefix_count.Goals as goal
 
 pub loop-found-smaller : goal.loop-found-smaller

@@ -11,7 +11,7 @@ use Rattle.regress_strings.specs.Contents.{contents}
 use Rattle.regress_strings.specs.Order.{is_after}
 use Rattle.regress_strings.specs.Links.{IsLink}
 use Rattle.regress_strings.specs.Ordered.{IsPrefixCount, IsLastBelow, IsCountAtMost, IsGreatest, place_count, string_of}
-use Rattle.regress_strings.specs.Strings.{IsLast, NoneStands, stands}
+use Rattle.regress_strings.specs.Strings.{IsLast, NoneOccurs, occurs_at}
 use Rattle.regress_strings.proofs.PrefixLemmas.{prefix-before, prefix-between, prefix-prefix}
 
 -- Of the strings at the places from `count` on that the text begins with, `last` is one more than the greatest index below `before`, or 0 if there is
@@ -25,9 +25,9 @@ pub record IsSearchedFrom (order : Order) (text : List ℕ) (before count last :
       → slice_index order.indices.items i < last
 
 -- A string that the text begins with, at a place up to that of another such string, is equal to it or a prefix of it.
-pub standing-prefix : (order : Order) (text : List ℕ) (i j : ℕ) → i ≤ j → j < place_count order → starts_with nat_eq text (string_of order i) ≡ true
+pub begun-prefix : (order : Order) (text : List ℕ) (i j : ℕ) → i ≤ j → j < place_count order → starts_with nat_eq text (string_of order i) ≡ true
     → is_after (string_of order j) text ≡ false → starts_with nat_eq (string_of order j) (string_of order i) ≡ true
-standing-prefix order text i j le lt begins none =
+begun-prefix order text i j le lt begins none =
     prefix-between text (string_of order j) (string_of order i) begins (order.is_order.ascend i j le lt) none
 
 -- ---- the last prefix
@@ -38,7 +38,7 @@ pub none-from-prefix : (order : Order) (text : List ℕ) (place : ℕ) (link : L
     → (i : ℕ) → link.prefix ≤ i → i ≤ place → starts_with nat_eq text (string_of order i) ≡ false
 none-from-prefix order text place link is lt none not i ge le =
     false_from_ne_true (starts_with nat_eq text (string_of order i)) (λ begins. elim (cases_lt i link.first) [
-      | inl below ↦ both_ways (starts_with nat_eq (string_of order place) (string_of order i)) (is.last i ge below) (standing-prefix order text i place le lt begins none)
+      | inl below ↦ both_ways (starts_with nat_eq (string_of order place) (string_of order i)) (is.last i ge below) (begun-prefix order text i place le lt begins none)
       | inr above ↦ both_ways (starts_with nat_eq text (string_of order place)) not (subst (λ s. starts_with nat_eq text s ≡ true) (is.equal i above le) begins)
     ])
 
@@ -84,19 +84,12 @@ searched-more order text before count last link here last' so some is least grea
       greatest = λ i ge lt begins below. elim (cases_lt i count) [
         | inl less ↦ elim (cases_lt i link.first) [
           | inl under ↦ absurd (both_ways (starts_with nat_eq (string_of order place) (string_of order i)) (is.last i ge under)
-              (standing-prefix order text i place (omega arith) within begins (prefix-before text (string_of order place) begins_here)))
+              (begun-prefix order text i place (omega arith) within begins (prefix-before text (string_of order place) begins_here)))
           | inr above ↦ (let at = least.greatest i above less below in omega arith)
         ]
         | inr more ↦ (let at = so.greatest i more lt begins below in omega arith)
       ];
     }
-
--- at the end
-pub searched-all : (order : Order) (text : List ℕ) (before count last : ℕ) → IsSearchedFrom order text before count last → count ≡ 0 → IsGreatest order text before last
-searched-all order text before count last so none = record {
-  found = so.found;
-  greatest = λ i lt begins below. so.greatest i (omega arith) lt begins below;
-}
 
 -- ---- by the indices
 
@@ -107,11 +100,11 @@ string-at order i k string same is =
     ap (λ n. get_or (contents order.strings.items) n []) same ∙ get_or_from_slice_get (contents order.strings.items) k string [] is
 
 pub none-past : (order : Order) (text : List ℕ) (position before last : ℕ) → IsGreatest order (drop position text) before last
-    → NoneStands (contents order.strings.items) text position last before
+    → NoneOccurs (contents order.strings.items) text position last before
 none-past order text position before last so k string ge lt is =
-    false_from_ne_true (stands text position string) (λ begins.
+    false_from_ne_true (occurs_at text position string) (λ begins.
     order.is_order.every k (slice_get_within (contents order.strings.items) k string is) (λ i within same. (
-    let at = so.greatest i within (subst (λ s. stands text position s ≡ true) (sym (string-at order i k string same is)) begins) (omega (arith, same)) in
+    let at = so.greatest i within (subst (λ s. occurs_at text position s ≡ true) (sym (string-at order i k string same is)) begins) (omega (arith, same)) in
     omega (arith, at, same))))
 
 pub last-is : (order : Order) (text : List ℕ) (position before last : ℕ) → IsGreatest order (drop position text) before last → 0 < last
@@ -123,6 +116,6 @@ last-is order text position before last so some =
     record {
       below = omega (arith, found.3, same);
       within = rw (← same) (order.is_order.within found.0 found.1);
-      stands_there = λ string is. subst (λ s. stands text position s ≡ true) (string-at order found.0 (last - 1) string same is) found.2;
-      last = subst (λ n. NoneStands (contents order.strings.items) text position n before) next (none-past order text position before last so);
+      occurs = λ string is. subst (λ s. occurs_at text position s ≡ true) (string-at order found.0 (last - 1) string same is) found.2;
+      last = subst (λ n. NoneOccurs (contents order.strings.items) text position n before) next (none-past order text position before last so);
     }
