@@ -12,7 +12,7 @@ use std::alloc::{AllocError, Global};
 /// Returns the link of each place.
 ///
 /// # Complexity
-/// O(n) comparisons of two strings for n strings, and as many again as a string begins with others.
+/// O(n) comparisons of two strings for n strings.
 ///
 /// # Errors
 /// Returns [`AllocError`] if an allocation fails.
@@ -47,8 +47,8 @@ fn next_link(order: &Order, links: &[Link]) -> Link
 /// Returns one more than the greatest index below `before` of a string that `text` begins with, or 0 if there is none.
 ///
 /// # Complexity
-/// O(log n) comparisons of a string with the text for n strings, and O(log n) for each of the different strings that the
-/// text begins with.
+/// For n strings O(log n) comparisons with the text, one for each string that the last string before the text begins with,
+/// and O(log n) for each of the different strings that the text begins with.
 pub(crate) fn greatest_index(
     order: &Order,
     keys: &[u64],
@@ -75,7 +75,7 @@ pub(crate) fn greatest_index(
 /// Returns one more than the last place below `count` of a string that `text` begins with, or 0 if there is none.
 ///
 /// # Complexity
-/// A comparison for each string that the one before `count` begins with.
+/// A comparison for each string that the last string below `count` begins with.
 ///
 /// # Preconditions
 /// The strings below `count` do not come after `text`.

@@ -65,8 +65,8 @@ impl Strings {
     /// none does.
     ///
     /// # Complexity
-    /// O(log n) comparisons of a string with the text for n strings, and O(log n) for each of the different strings that
-    /// occur there.
+    /// For n strings O(log n) comparisons with the text, one for each string that the last string before the text begins
+    /// with, and O(log n) for each of the different strings that occur there.
     ///
     /// # Preconditions
     /// `position` is at most the length of `text`.
