@@ -13,6 +13,15 @@ use std::alloc::{AllocError, Global};
 /// Strings of bytes, for finding those that occur at a position of a text.
 ///
 /// The index of a string is its place in the list that they were made of. Strings can be equal or empty.
+///
+/// # Examples
+/// ```
+/// let mut list = Vec::new(alloc);
+/// for name in ["Jan", "January", "Jun"] {
+///     list.push(name.as_bytes().to_vec(alloc)?)?;
+/// }
+/// let strings = Strings::new(alloc, list)?;
+/// ```
 #[derive(Drop)]
 pub struct Strings {
     order: Order,
@@ -48,6 +57,11 @@ impl Strings {
     }
 
     /// Returns the number of the strings.
+    ///
+    /// # Examples
+    /// ```
+    /// assert_eq!(rt; strings.len(), 3);
+    /// ```
     pub fn len(&self) -> usize
         ensures { result ≡ length (strings_of self.now) }
     {
@@ -55,6 +69,11 @@ impl Strings {
     }
 
     /// Returns whether there is no string.
+    ///
+    /// # Examples
+    /// ```
+    /// assert!(rt; !strings.is_empty());
+    /// ```
     pub fn is_empty(&self) -> bool
         ensures { IsTrue result ↔ (strings_of self.now ≡ []) }
     {
@@ -70,6 +89,15 @@ impl Strings {
     ///
     /// # Preconditions
     /// `position` is at most the length of `text`.
+    ///
+    /// # Examples
+    /// The strings are `Jan`, `January` and `Jun`.
+    /// ```
+    /// let text = "in January".as_bytes();
+    /// assert_eq!(rt; strings.last_at(text, 3, 3), Some(1));
+    /// assert_eq!(rt; strings.last_at(text, 3, 1), Some(0));
+    /// assert_eq!(rt; strings.last_at(text, 0, 3), None);
+    /// ```
     pub fn last_at(&self, text: &[u8], position: usize, before: usize) -> Option<usize>
         requires { position ≤ length text.now }
         ensures { IsLastAt (strings_of self.now) text.now position before result }

@@ -23,6 +23,7 @@ mod linting;
 mod passes;
 mod pictures;
 mod search_examples;
+mod string_examples;
 mod theorems;
 mod walks;
 
