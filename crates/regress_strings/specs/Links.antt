@@ -4,8 +4,8 @@ use Rattle.std.specs.List.{starts_with}
 use Rattle.std.proofs.Props.{props}
 use Rattle.regress_strings.specs.declared.link.Link.{Link}
 
--- The strings from `first` up to the place are equal. Those below `prefix` are shorter, and the last of them is the last of the strings that the one
--- at the place begins with.
+-- From `first` up to the place the strings are equal. `prefix` is one more than the last place below `first` of a string that the one at the place begins
+-- with, or 0 if there is none.
 pub record IsLink (string : ℕ → List ℕ) (place : ℕ) (link : Link) : Type 0 where
   pub first : link.first ≤ place
   pub prefix : link.prefix ≤ link.first
