@@ -42,6 +42,7 @@ mod HullLemmas
 mod WrittenLemmas
 mod OptionalCopies
 mod StoredLemmas
+mod StringLemmas
 mod AppendLemmas
 mod FindLemmas
 mod ExactlyLemmas

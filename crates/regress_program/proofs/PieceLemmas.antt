@@ -660,17 +660,6 @@ plain_one (cat parts) is = refl
 plain_one (alt left right) is = refl
 plain_one (wrapped w body) is = refl
 
--- one more string before others
-pub holds_string : (a b c e : Code) (t : Tree) (next entry first at : ℕ) → Grown a b → is_back_ref t ≡ false → Holds a b nothing next entry →
-    Pushed b c (part t next) first → Pushed c e (split first entry) at → Holds a e nothing next at
-holds_string a b c e t next entry first at grown plain rest text joined =
-    let more = longer-push b c (part t next) first text in
-    holds_plain_or a c e next first entry at
-    (record { ops = Extends-then a.ops b.ops c.ops grown.ops more.ops; routines = Extends-then a.routines b.routines c.routines grown.routines more.routines })
-    (adds-then a b c nothing more.ops more.routines rest.adds (adds-quiet b c (part t next) first nothing text (λ none. plain) (λ ranges. refl) (refl, λ program. refl)))
-    (tidies_quiet a b c nothing (part t next) next first grown.ops text refl (λ ranges set. (tt, refl)))
-    (tidies_later a b c nothing next entry more rest.tidies) joined
-
 -- some characters before the rest, or something else
 pub holds_preferred : (a b c e : Code) (greedy : Bool) (next rest first other at : ℕ) → Grown a b → Grown b c → Holds a b nothing next rest →
     Holds b c nothing rest first → Tidies a b nothing next other → Pushed c e (preferred greedy first other) at → Holds a e nothing next at

@@ -63,47 +63,6 @@ sequence_more a b c parts i j x next entry entry' at some within is rest first =
     subst (λ xs. Compiled a c (matching (cat (trees xs))) next entry') (sym (from_index parts i j x at some within is))
     (compiled_then a b c (matching (tree x)) (matching (cat (trees (drop i parts)))) next entry entry' rest first)
 
--- ---- sets of strings
-
-abbrev Strings : Type 0
-Strings = List (BoxedSlice ℕ Global)
-
--- the set of the strings
-abbrev set_of : Strings → Bool → Tree
-set_of ss icase = strings (map boxed_slice_items ss) icase
-
-pub no_strings : (a b : Code) (ss : Strings) (icase : Bool) (next at : ℕ) → length ss ≡ 0 → Pushed a b programs.fail at →
-    Compiled a b (matching (set_of ss icase)) next at
-no_strings a b ss icase next at none pushed =
-    subst (λ xs. Compiled a b (matching (set_of xs icase)) next at) (sym (nil_from_length ss none)) (compiled_no_strings a b icase next at pushed)
-
-one_string : (a b : Code) (s : List ℕ) (icase : Bool) (next at : ℕ) → next < length a.ops → Pushed a b (part (leaf (string_set (s ∷ []) icase)) next) at →
-    Compiled a b (matching (strings (s ∷ []) icase)) next at
-one_string a b s icase next at lt pushed = compiled_part a b (strings (s ∷ []) icase) next at tt lt pushed
-
-pub last_string : (a b : Code) (ss : Strings) (i : ℕ) (x : BoxedSlice ℕ Global) (s : List ℕ) (icase : Bool) (next at : ℕ) → i ≡ length ss - 1 →
-    0 < length ss → x ≡ get_or ss i x → s ≡ boxed_slice_items x → next < length a.ops → Pushed a b (part (leaf (string_set (s ∷ []) icase)) next) at →
-    Compiled a b (matching (set_of (drop i ss) icase)) next at
-last_string a b ss i x s icase next at is-i some is is-s lt pushed =
-    let all : drop i ss ≡ x ∷ [] =
-    from_index ss (length ss) i x is-i some (omega arith) is ∙ ap (λ xs. x ∷ xs) (drop_all (length ss) ss (omega arith)) in
-    subst (λ xs. Compiled a b (matching (set_of xs icase)) next at) (sym all)
-    (subst (λ cs. Compiled a b (matching (strings (cs ∷ []) icase)) next at) is-s (one_string a b s icase next at lt pushed))
-
-pub more_strings : (a b c e : Code) (ss : Strings) (i j : ℕ) (x : BoxedSlice ℕ Global) (s : List ℕ) (icase : Bool) (next first entry at : ℕ) → j ≡ i - 1 →
-    0 < i → i ≤ length ss → x ≡ get_or ss j x → s ≡ boxed_slice_items x → next < length a.ops → Compiled a b (matching (set_of (drop i ss) icase)) next entry →
-    Pushed b c (part (leaf (string_set (s ∷ []) icase)) next) first → Pushed c e (split first entry) at →
-    Compiled a e (matching (set_of (drop j ss) icase)) next at
-more_strings a b c e ss i j x s icase next first entry at is-j some within is is-s lt rest text joined =
-    let f = matching (strings (boxed_slice_items x ∷ []) icase) in
-    let g = matching (set_of (drop i ss) icase) in
-    let left : Compiled b c f next first =
-    subst (λ cs. Compiled b c (matching (strings (cs ∷ []) icase)) next first) is-s
-    (one_string b c s icase next first (omega (arith, lt, rest.grown.ops.grown)) text) in
-    subst (λ xs. Compiled a e (matching (set_of xs icase)) next at) (sym (from_index ss i j x is-j some within is))
-    (compiled_strings a c e (boxed_slice_items x) (map boxed_slice_items (drop i ss)) icase next first entry at
-    (compiled_earlier a b c f next first rest.grown left) (compiled_later a b c g next entry left.grown rest) joined)
-
 -- ---- the last routine
 
 pub no_routines : (leaves : List Test) (routines : List declared.Routine) → routines ≡ [] → IsProgram (program_in leaves routines)
