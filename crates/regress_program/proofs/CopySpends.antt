@@ -1,5 +1,6 @@
 -- What iterations cost, of which two are compiled and the others are copies.
-use Rattle.std.proofs.Common.{◌≡◌, ◌≤◌, ◌<◌, inr, ℕ, zero, suc, ◌+◌, ◌-◌, ◌*◌, true, false, length, refl, sym, ap, ◌∙◌, arith}
+use Rattle.std.proofs.Common.{◌≡◌, ◌≤◌, ◌<◌, inr, ℕ, zero, suc, ◌+◌, ◌-◌, ◌*◌, true, false, min, nat_lt, length, refl, sym, ap, ◌∙◌, arith}
+use Rattle.std.proofs.lemmas.Bool.{ltb-false}
 use Rattle.std.proofs.lemmas.Nat.{mul-le}
 use Rattle.regress_program.specs.CodeOf.{Exceeds, Spends}
 use Rattle.regress_program.specs.Listed.{all_of, stored_total}
@@ -17,10 +18,10 @@ two-stored Bounded n is le = cc
 two-stored Unbounded n is le = cc
 two-stored Copied n is le = omega (arith, le)
 
-pub all-stored : (counts : Counts) (n : ℕ) → is_copied counts ≡ false → stored_of counts n ≡ n
+pub all-stored : (counts : Counts) (n : ℕ) → nat_lt (stored_of counts n) n ≡ false → stored_of counts n ≡ n
 all-stored Bounded n is = refl
 all-stored Unbounded n is = refl
-all-stored Copied n is = cc
+all-stored Copied n is = omega (arith, ltb-false (min n 2) n is)
 
 pub few-stored : (counts : Counts) (n : ℕ) → n ≤ 2 → stored_of counts n ≡ n
 few-stored Bounded n le = refl

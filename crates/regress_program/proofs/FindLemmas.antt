@@ -175,6 +175,7 @@ none-begins stored (r ∷ rs) none = cc
 -- What the last copies that start at the instruction with the index or before tell of it. They are those with the index j.
 pub record Last (stored : List Instruction) (copies : List Copies) (count pc j : ℕ) (r : Copies) : Type 0 where
   pub low : r.start ≤ pc
+  pub some : 0 < r.width
   pub all : end_of r ≤ length (expanded stored copies)
   pub after : end_of r ≤ pc → (r.stored + (pc - end_of r) < length stored) ×
       (slice_get (expand stored copies count (length stored)) pc ≡ slice_get stored (r.stored + (pc - end_of r)))
@@ -193,6 +194,7 @@ found-last is count pc begun r within begins inside some e =
     slice_get_read is.copies.items (length is.copies.items) (begun - 1) r refl (omega (arith, next, begins.within, within)) e in
     record {
       low = starts is.stored.items is.copies.items is.are count pc begun within begins inside (begun - 1) r next last;
+      some = (is.are (begun - 1) r last).some;
       all = records-end is.stored.items is.copies.items is.are (begun - 1) r last;
       after = found-after is.stored.items is.copies.items is.are count pc begun within begins inside (begun - 1) r next last;
       original = found-original is.stored.items is.copies.items is.are count pc begun within begins inside (begun - 1) r next last;

@@ -1,8 +1,8 @@
 -- Where an instruction is stored that is not a copy, and that is replaced.
-use Rattle.std.proofs.Common.{◌≡◌, ℕ, suc, ◌+◌, ◌-◌, ◌≤◌, ◌<◌, inl, inr, List, length, take, set, slice_get, Some, refl, sym, ap, subst, ◌∙◌, arith}
+use Rattle.std.proofs.Common.{◌≡◌, ◌≢◌, ℕ, suc, ◌+◌, ◌-◌, ◌≤◌, ◌<◌, inl, inr, List, length, take, set, get_or, slice_get, Some, refl, sym, ap, subst, ◌∙◌, arith}
 use Rattle.std.proofs.lemmas.Bool.{cases_lt}
 use Rattle.std.proofs.lemmas.List.{length-take, length-set}
-use Rattle.std.proofs.lemmas.Option.{slice_get_within, same_Some}
+use Rattle.std.proofs.lemmas.Option.{slice_get_read, slice_get_within, same_Some}
 use Rattle.regress_program.specs.Compiled.{Extends}
 use Rattle.regress_program.specs.Copies.{NamesBelow, end_of, expand, expanded}
 use Rattle.regress_program.specs.Listed.{Appends, IsAlone, IsBegun, IsStoredAt, all_of}
@@ -168,6 +168,19 @@ module _ (is : Instructions) (at begun : ℕ) (begins : IsBegun is.copies.items 
               omega (arith, all, len, low, within))
           | inr ge ↦ (let far = grown.apart j r ge last in omega (arith, far.0))
         ]
+
+-- what the last copies that start before it tell
+pub slot-after : (is : Instructions) (at begun count : ℕ) (r : Copies) → count ≡ length is.copies.items → IsBegun is.copies.items count at begun →
+    at < length (all_of is) → IsAlone is at → begun ≢ 0 → r ≡ get_or is.copies.items (begun - 1) r →
+    (end_of r ≤ at) × IsStoredAt is at (r.stored + (at - end_of r))
+slot-after is at begun count r all begins within alone some e =
+    let begins' : IsBegun is.copies.items (length is.copies.items) at begun = subst (λ (n : ℕ). IsBegun is.copies.items n at begun) all begins in
+    let next : suc (begun - 1) ≡ begun = omega (arith, some) in
+    let last : slice_get is.copies.items (begun - 1) ≡ Some r =
+    slice_get_read is.copies.items (length is.copies.items) (begun - 1) r refl (omega (arith, next, begins'.within)) e in (
+      slot-past is at begun begins' within alone (begun - 1) r next last,
+      slot-last is at begun begins' within alone (begun - 1) r next last,
+    )
 
 -- ---- the instruction is replaced
 

@@ -1,7 +1,7 @@
 -- Sets of strings as instructions: a leaf for each string, and then the choices between them.
-use Rattle.std.proofs.Common.{◌≡◌, ℕ, zero, suc, ◌+◌, ◌-◌, ◌≤◌, ◌<◌, inl, inr, Bool, false, List, [], ◌∷◌, ◌++◌, length, drop, get_or, map, min, slice_get, Some, refl, sym, ap, subst, ◌∙◌, arith, Global}
+use Rattle.std.proofs.Common.{◌≡◌, ℕ, zero, suc, ◌+◌, ◌<◌, inl, inr, Bool, List, [], ◌∷◌, ◌++◌, length, drop, map, min, slice_get, Some, refl, sym, ap, subst, ◌∙◌, arith, Global}
 use Rattle.std.proofs.lemmas.Bool.{cases_lt}
-use Rattle.std.proofs.lemmas.List.{drop_all, length-map, nil_from_length}
+use Rattle.std.proofs.lemmas.List.{nil_from_length}
 use Rattle.std.proofs.lemmas.Option.{slice_get_within, same_Some}
 use Rattle.std.specs.Box.{boxed_slice_items}
 use Rattle.std.specs.declared.boxed.BoxedSlice.{BoxedSlice}
@@ -16,7 +16,7 @@ use Rattle.regress_program.specs.Listed.{Appends, all_of}
 use Rattle.regress_program.specs.Program.{part, split}
 use Rattle.regress_program.specs.Pushed.{Pushed}
 use Rattle.regress_program.specs.Program as programs
-use Rattle.regress_program.specs.Views.{leaf_in, ops_in}
+use Rattle.regress_program.specs.Views.{leaf_in}
 use Rattle.regress_program.specs.declared.compiler.Compiler.{Compiler}
 use Rattle.regress_program.proofs.AddLemmas.{adds-then, longer}
 use Rattle.regress_program.proofs.AppendLemmas.{Appends-then}

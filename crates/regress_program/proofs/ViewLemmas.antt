@@ -1,24 +1,19 @@
 -- What was compiled, for lists of nodes and strings from an index on.
-use Rattle.std.proofs.Common.{◌≡◌, ℕ, ◌+◌, ◌-◌, ◌≤◌, ◌<◌, Bool, true, slice_get, List, [], ◌∷◌, length, drop, get_or, map, sym, ap, subst, ◌∙◌, arith, Global}
-use Rattle.std.proofs.lemmas.List.{drop_more, drop_all, nil_from_length, length-map}
-use Rattle.std.specs.Box.{boxed_slice_items}
-use Rattle.std.specs.declared.boxed.BoxedSlice.{BoxedSlice}
+use Rattle.std.proofs.Common.{◌≡◌, ℕ, ◌+◌, ◌-◌, ◌≤◌, ◌<◌, true, slice_get, List, [], ◌∷◌, length, drop, get_or, sym, ap, subst, ◌∙◌, arith}
+use Rattle.std.proofs.lemmas.List.{drop_more, length-map}
 use Rattle.regress_tree.specs.Reading.{forwards}
 use Rattle.regress_tree.specs.Tree.{empty, goal, char, byte_sequence, byte_set, char_set, match_any, match_any_except_line_terminator, anchor, word_boundary, bracket, back_ref, string_set, Tree, leaf, cat, alt, wrapped, tree, trees}
 use Rattle.regress_tree.specs.declared.ir.node.Node.{Node}
 use Rattle.regress_leaves.specs.Leaves.{has_one_outcome}
 use Rattle.regress_leaves.specs.declared.test.Test.{Test}
-use Rattle.regress_program.specs.Compiled.{World, matching, strings, Code, Compiled, HasRoutine, IsPattern}
-use Rattle.regress_program.specs.Program.{part, split, Routine, matcher_of}
-use Rattle.regress_program.specs.Program as programs
-use Rattle.regress_program.specs.Pushed.{Pushed}
+use Rattle.regress_program.specs.Compiled.{World, matching, Code, Compiled, HasRoutine, IsPattern}
+use Rattle.regress_program.specs.Program.{matcher_of}
 use Rattle.regress_program.specs.Shape.{IsPart, IsProgram}
 use Rattle.regress_program.specs.Views.{op_in, ops_in, program_in}
 use Rattle.regress_program.specs.declared.instruction.Instruction.{Instruction}
 use Rattle.regress_program.specs.declared.instruction.Routine as declared
 use Rattle.regress_program.proofs.CodeLemmas.{Extends-same}
-use Rattle.regress_program.proofs.CompileLemmas.{compiled_nothing, compiled_part, compiled_then, compiled_later, compiled_earlier}
-use Rattle.regress_program.proofs.RoutineLemmas.{compiled_no_strings, compiled_strings}
+use Rattle.regress_program.proofs.CompileLemmas.{compiled_nothing, compiled_then}
 
 pub below : (leaves : List Test) (items : List Instruction) (next : ℕ) → next < length items → next < length (ops_in leaves items)
 below leaves items next lt = omega (arith, length-map items (op_in leaves), lt)

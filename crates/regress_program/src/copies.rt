@@ -24,6 +24,22 @@ pub(crate) struct Copies {
     pub(crate) stored: usize,
 }
 
+impl Copies {
+    ghost use Rattle.std.specs.Prelude.{◌≤◌};
+    ghost use Rattle.regress_program.specs.Copies.{end_of};
+
+    /// Returns the index after the copies.
+    ///
+    /// # Preconditions
+    /// It fits a `usize`.
+    fn end(self) -> usize
+        requires { end_of self ≤ usize.MAX }
+        ensures { result ≡ end_of self }
+    {
+        self.start + self.count * self.width
+    }
+}
+
 /// The instructions of a routine. Copies of the last ones are not stored.
 #[derive(Drop)]
 pub struct Instructions {
@@ -108,12 +124,11 @@ impl Instructions {
             return self.stored[pc];
         }
         let last = self.copies[begun - 1];
-        let after = pc - last.start;
-        let copied = last.count * last.width;
-        if after >= copied {
-            return self.stored[last.stored + (after - copied)];
+        let end = last.end();
+        if pc >= end {
+            return self.stored[last.stored + (pc - end)];
         }
-        let back = (after / last.width + 1) * last.width;
+        let back = ((pc - last.start) / last.width + 1) * last.width;
         self.at_before(begun - 1, pc - back).moved(last.from, back)
     }
 
@@ -196,6 +211,6 @@ impl Instructions {
             return at;
         }
         let last = self.copies[begun - 1];
-        last.stored + (at - (last.start + last.count * last.width))
+        last.stored + (at - last.end())
     }
 }

@@ -1,5 +1,5 @@
 //! How loops are compiled.
-ghost use Rattle.std.specs.Prelude.{◌≡◌, ◌≤◌, ◌<◌, ◌+◌, ◌-◌, true};
+ghost use Rattle.std.specs.Prelude.{◌≡◌, ◌≤◌, ◌<◌, ◌+◌, ◌-◌, nat_lt, true};
 ghost use Rattle.regress_program.specs.Size.{is_bounded, is_copied, room_within, size_of_exactly, stored_of};
 
 /// The largest number of characters that one instruction matches if counts are bounded.
@@ -41,6 +41,13 @@ impl Counts {
             Counts::Copied => true,
             Counts::Bounded | Counts::Unbounded => false,
         }
+    }
+
+    /// Returns whether some of `count` iterations are copies.
+    pub(crate) fn has_copies(self, count: usize) -> bool
+        ensures { result ≡ nat_lt (stored_of self count) count }
+    {
+        count > STORED && self.is_copied()
     }
 
     /// Returns how many instructions there may be, copies included, where at most `limit` are stored.

@@ -94,7 +94,7 @@ impl Compiler {
         ensures too_long { IfErr result (λ fault. fault ≡ TooLong → Exceeds self.old iterations.counts
             (λ counted. iteration_size iterations (tree body.now) counted * counted count)) }
     {
-        if count > STORED && iterations.counts.is_copied() {
+        if iterations.counts.has_copies(count) {
             return self.exactly_copied(body, iterations, count, next);
         }
         let mut entry = next;
@@ -258,7 +258,7 @@ impl Compiler {
         if count == 0 {
             return Ok(next);
         }
-        if count > STORED && iterations.counts.is_copied() {
+        if iterations.counts.has_copies(count) {
             return self.at_most_copied(body, iterations, count, next);
         }
         let greedy = iterations.greedy;

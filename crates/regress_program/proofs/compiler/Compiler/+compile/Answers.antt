@@ -20,7 +20,7 @@ use Rattle.regress_program.specs.Listed.{Appends, all_of, listed, IsAlone}
 use Rattle.regress_program.specs.Program.{part}
 use Rattle.regress_program.specs.Pushed.{Pushed}
 use Rattle.regress_program.specs.declared.loops.Iterations.{Iterations}
-use Rattle.regress_program.specs.Size.{sized, sized_parts, size_of_loop, is_copied, stored_of, size_of_characters, size_of_exactly, size_of_extra, size_of_up_to, size_of_iteration}
+use Rattle.regress_program.specs.Size.{sized, sized_parts, size_of_loop, is_copied, size_of_characters, size_of_exactly, size_of_extra, size_of_up_to, size_of_iteration}
 use Rattle.regress_program.specs.Views.{leaf_in, ops_in, routine_in, program_in}
 use Rattle.regress_program.proofs.AddLemmas.{IsPartOf, part-same, part-left, part-right, adds-none, adds-part, adds-then, longer, longer-push, pushed-ops, pushed-routines}
 use Rattle.regress_program.proofs.AlternativeLemmas.{waiting_none, waiting_push, waiting_pop, waiting_later, waiting_done, compiled_alternative, tidies_alternative}
@@ -40,9 +40,9 @@ use Rattle.regress_program.proofs.RoutineLemmas.{compiled_look, has_routine}
 use Rattle.regress_program.proofs.SizeLemmas.{too_long, copies-more, parts-more, parts-within}
 use Rattle.regress_program.proofs.ViewLemmas.{below, part_if_leaf, nothing_at_empty, nothing_at_goal, sequence_more}
 use Rattle.regress_program.proofs.lemmas.Onward.{Stays-iteration, Stays-tree}
-use Rattle.regress_program.proofs.compiler.Compiler.+compile.Goals.{exactly_iterations-else-count-gt-STORED-via-then-count-gt-STORED+else-is_copied, exactly_iterations-else-count-gt-STORED-via-else-count-gt-STORED, at_most-else-count-gt-STORED-via-then-count-gt-STORED+else-is_copied, at_most-else-count-gt-STORED-via-else-count-gt-STORED, iteration-else-not-begins-via-then-not-begins+else-self-before, iteration-else-not-begins-via-else-not-begins, repeat-in-None+in_ok-entry-in-None, repeat-in-Some+in_ok-entry-in-Some, repeat_character-in-None+in_ok-entry-in-None, repeat_character-in-Some+in_ok-entry-in-Some}
+use Rattle.regress_program.proofs.compiler.Compiler.+compile.Goals.{iteration-else-not-begins-via-then-not-begins+else-self-before, iteration-else-not-begins-via-else-not-begins, repeat-in-None+in_ok-entry-in-None, repeat-in-Some+in_ok-entry-in-Some, repeat_character-in-None+in_ok-entry-in-None, repeat_character-in-Some+in_ok-entry-in-Some}
 use Rattle.regress_program.proofs.CopiedLemmas.{HasCopied, emits-copied, optional-copied}
-use Rattle.regress_program.proofs.CopySpends.{all-stored, few-stored, exceeds-again, exceeds-another, exceeds-begin, exceeds-begun, exceeds-copies, exceeds-end, exceeds-ended, exceeds-last, exceeds-next, exceeds-one, exceeds-optional-copies, exceeds-repeat, exceeds-start, spends-begun, spends-exactly, spends-no-optional, spends-optional}
+use Rattle.regress_program.proofs.CopySpends.{all-stored, exceeds-again, exceeds-another, exceeds-begin, exceeds-begun, exceeds-copies, exceeds-end, exceeds-ended, exceeds-last, exceeds-next, exceeds-one, exceeds-optional-copies, exceeds-repeat, exceeds-start, spends-begun, spends-exactly, spends-no-optional, spends-optional}
 use Rattle.regress_program.proofs.ExactlyLemmas.{emits-more, emits-none, emits-loop}
 use Rattle.regress_program.proofs.LoopLemmas.{exceeds-pushed, spends-body, spends-pushed, Spends-plain, characters-none, characters-some, characters_size, emits-repeated, exceeds-extra, exceeds-least, extra-none, extra-some, extra_size, loop-bounded, loop-unbounded, many-loop-size, one-loop-size, single-size, spends-loop, spends-never, exceeds-plain}
 use Rattle.regress_program.proofs.OptionalLemmas.{EmitsOptional, emits-any_number, optional-begun, optional-last, optional-more, optional-none}
@@ -101,11 +101,7 @@ pub exactly_iterations-returns-in_err-entry-clause-too_long : goal.exactly_itera
 exactly_iterations-returns-in_err-entry-clause-too_long t c =
     let l = c.loop-i in
     let i = c.args.iterations in
-    let stored : stored_of i.counts c.args.count ≡ c.args.count =
-    elim c.else-count-gt-STORED.branch [
-      | exactly_iterations-else-count-gt-STORED-via-then-count-gt-STORED+else-is_copied w ↦ all-stored i.counts c.args.count (sym w.is_copied.ensures ∙ w.if-is_copied.false)
-      | exactly_iterations-else-count-gt-STORED-via-else-count-gt-STORED w ↦ few-stored i.counts c.args.count w.if-count-gt-STORED.false
-    ] in
+    let stored = all-stored i.counts c.args.count (sym c.has_copies.ensures ∙ c.if-has_copies.false) in
     too_long c.from_residual.result _ _ c.from_residual.ensures.1
     (λ is.
     exceeds-next c.args.self.now l.self i.counts (iteration_size i (tree c.args.body.now)) c.args.count l._i stored (omega (arith, c.loop-i-test.true, l.auto._i-end))
@@ -405,11 +401,7 @@ at_most-returns-clause-spends t c =
     let f = iterating i (matching (tree c.args.body.now)) in
     let cf = iteration_of i (content (tree c.args.body.now)) in
     let ts = leaves_of (tree c.args.body.now) in
-    let stored : stored_of i.counts c.args.count ≡ c.args.count =
-    elim c.else-count-gt-STORED.branch [
-      | at_most-else-count-gt-STORED-via-then-count-gt-STORED+else-is_copied w ↦ all-stored i.counts c.args.count (sym w.is_copied.ensures ∙ w.if-is_copied.false)
-      | at_most-else-count-gt-STORED-via-else-count-gt-STORED w ↦ few-stored i.counts c.args.count w.if-count-gt-STORED.false
-    ] in
+    let stored = all-stored i.counts c.args.count (sym c.has_copies.ensures ∙ c.if-has_copies.false) in
     let some : 0 < c.args.count = omega (arith, c.if-count-eq0.false) in
     let l = c.loop-i in
     let all : l._i ≡ c.args.count = omega (arith, l.auto._i, l.auto._i-end, c.loop-i-test.false, c.if-count-eq0.false) in
@@ -424,11 +416,7 @@ at_most-returns-clause-too_long t c =
     let f = iterating i (matching (tree c.args.body.now)) in
     let cf = iteration_of i (content (tree c.args.body.now)) in
     let ts = leaves_of (tree c.args.body.now) in
-    let stored : stored_of i.counts c.args.count ≡ c.args.count =
-    elim c.else-count-gt-STORED.branch [
-      | at_most-else-count-gt-STORED-via-then-count-gt-STORED+else-is_copied w ↦ all-stored i.counts c.args.count (sym w.is_copied.ensures ∙ w.if-is_copied.false)
-      | at_most-else-count-gt-STORED-via-else-count-gt-STORED w ↦ few-stored i.counts c.args.count w.if-count-gt-STORED.false
-    ] in
+    let stored = all-stored i.counts c.args.count (sym c.has_copies.ensures ∙ c.if-has_copies.false) in
     let some : 0 < c.args.count = omega (arith, c.if-count-eq0.false) in
     let l = c.loop-i in
     let all : l._i ≡ c.args.count = omega (arith, l.auto._i, l.auto._i-end, c.loop-i-test.false, c.if-count-eq0.false) in
@@ -443,11 +431,7 @@ at_most-returns-in_err-end-clause-too_long t c =
     let f = iterating i (matching (tree c.args.body.now)) in
     let cf = iteration_of i (content (tree c.args.body.now)) in
     let ts = leaves_of (tree c.args.body.now) in
-    let stored : stored_of i.counts c.args.count ≡ c.args.count =
-    elim c.else-count-gt-STORED.branch [
-      | at_most-else-count-gt-STORED-via-then-count-gt-STORED+else-is_copied w ↦ all-stored i.counts c.args.count (sym w.is_copied.ensures ∙ w.if-is_copied.false)
-      | at_most-else-count-gt-STORED-via-else-count-gt-STORED w ↦ few-stored i.counts c.args.count w.if-count-gt-STORED.false
-    ] in
+    let stored = all-stored i.counts c.args.count (sym c.has_copies.ensures ∙ c.if-has_copies.false) in
     let some : 0 < c.args.count = omega (arith, c.if-count-eq0.false) in
     too_long c.from_residual.result _ _ c.from_residual.ensures.1
     (λ is. exceeds-ended z i.counts n c.args.count stored some (c.in_err-end.ensures.too_long i.counts is))
@@ -460,11 +444,7 @@ at_most-returns-in_err-start-clause-too_long t c =
     let f = iterating i (matching (tree c.args.body.now)) in
     let cf = iteration_of i (content (tree c.args.body.now)) in
     let ts = leaves_of (tree c.args.body.now) in
-    let stored : stored_of i.counts c.args.count ≡ c.args.count =
-    elim c.else-count-gt-STORED.branch [
-      | at_most-else-count-gt-STORED-via-then-count-gt-STORED+else-is_copied w ↦ all-stored i.counts c.args.count (sym w.is_copied.ensures ∙ w.if-is_copied.false)
-      | at_most-else-count-gt-STORED-via-else-count-gt-STORED w ↦ few-stored i.counts c.args.count w.if-count-gt-STORED.false
-    ] in
+    let stored = all-stored i.counts c.args.count (sym c.has_copies.ensures ∙ c.if-has_copies.false) in
     let some : 0 < c.args.count = omega (arith, c.if-count-eq0.false) in
     too_long c.from_residual-in_err-start.result _ _ c.from_residual-in_err-start.ensures.1
     (λ is.
@@ -478,11 +458,7 @@ at_most-returns-in_err-again-clause-too_long t c =
     let f = iterating i (matching (tree c.args.body.now)) in
     let cf = iteration_of i (content (tree c.args.body.now)) in
     let ts = leaves_of (tree c.args.body.now) in
-    let stored : stored_of i.counts c.args.count ≡ c.args.count =
-    elim c.else-count-gt-STORED.branch [
-      | at_most-else-count-gt-STORED-via-then-count-gt-STORED+else-is_copied w ↦ all-stored i.counts c.args.count (sym w.is_copied.ensures ∙ w.if-is_copied.false)
-      | at_most-else-count-gt-STORED-via-else-count-gt-STORED w ↦ few-stored i.counts c.args.count w.if-count-gt-STORED.false
-    ] in
+    let stored = all-stored i.counts c.args.count (sym c.has_copies.ensures ∙ c.if-has_copies.false) in
     let some : 0 < c.args.count = omega (arith, c.if-count-eq0.false) in
     let l = c.loop-i in
     too_long c.from_residual-in_err-again.result _ _ c.from_residual-in_err-again.ensures.1
@@ -498,11 +474,7 @@ at_most-returns-in_err-start-2-clause-too_long t c =
     let f = iterating i (matching (tree c.args.body.now)) in
     let cf = iteration_of i (content (tree c.args.body.now)) in
     let ts = leaves_of (tree c.args.body.now) in
-    let stored : stored_of i.counts c.args.count ≡ c.args.count =
-    elim c.else-count-gt-STORED.branch [
-      | at_most-else-count-gt-STORED-via-then-count-gt-STORED+else-is_copied w ↦ all-stored i.counts c.args.count (sym w.is_copied.ensures ∙ w.if-is_copied.false)
-      | at_most-else-count-gt-STORED-via-else-count-gt-STORED w ↦ few-stored i.counts c.args.count w.if-count-gt-STORED.false
-    ] in
+    let stored = all-stored i.counts c.args.count (sym c.has_copies.ensures ∙ c.if-has_copies.false) in
     let some : 0 < c.args.count = omega (arith, c.if-count-eq0.false) in
     let l = c.loop-i in
     too_long c.from_residual-in_err-start-2.result _ _ c.from_residual-in_err-start-2.ensures.1

@@ -1,8 +1,7 @@
 -- One more leaf.
-use Rattle.std.proofs.Common.{◌≡◌, ℕ, ◌+◌, ◌-◌, ◌≤◌, ◌<◌, List, [], ◌∷◌, ◌++◌, length, drop, length-drop, refl, sym, ap, subst, ◌∙◌, arith}
+use Rattle.std.proofs.Common.{◌≡◌, ℕ, ◌+◌, ◌-◌, ◌<◌, [], ◌∷◌, ◌++◌, length, drop, length-drop, refl, sym, ap, subst, ◌∙◌, arith}
 use Rattle.std.proofs.lemmas.List.{drop_all}
 use Rattle.std.specs.Box.{boxed_slice_items}
-use Rattle.regress_tree.specs.Tree.{Tree}
 use Rattle.regress_program.specs.CodeOf.{Spends}
 use Rattle.regress_program.specs.Listed.{all_of}
 use Rattle.regress_program.proofs.AppendLemmas.{Appends-then}

@@ -1,4 +1,4 @@
-use Rattle.std.proofs.Common.{◌≡◌, ◌+◌, ◌-◌, ◌≤◌, Bool, drop, length}
+use Rattle.std.proofs.Common.{◌≡◌, ◌+◌, ◌-◌, Bool, drop, length}
 use Rattle.regress_program.specs.CodeOf.{Spends}
 use Rattle.regress_program.specs.Listed.{Appends, all_of}
 use Rattle.regress_program.specs.declared.counts.Counts.{Counts}

@@ -1,12 +1,12 @@
 -- One more string is joined.
-use Rattle.std.proofs.Common.{◌≡◌, ℕ, suc, ◌+◌, ◌-◌, ◌*◌, ◌≤◌, ◌<◌, Bool, false, List, [], ◌∷◌, ◌++◌, length, drop, map, slice_get, Some, refl, sym, ap, subst, ◌∙◌, arith, Global}
+use Rattle.std.proofs.Common.{◌≡◌, ℕ, ◌+◌, ◌-◌, ◌<◌, Bool, false, List, [], ◌∷◌, length, drop, map, slice_get, Some, sym, ap, subst, ◌∙◌, arith, Global}
 use Rattle.std.proofs.lemmas.List.{drop_all, length-map, nil_from_length}
 use Rattle.std.proofs.lemmas.Result.{IfOk-weaker, IfErr-weaker}
 use Rattle.std.specs.Box.{boxed_slice_items}
 use Rattle.std.specs.declared.boxed.BoxedSlice.{BoxedSlice}
-use Rattle.regress_tree.specs.Tree.{Tree, string_set}
+use Rattle.regress_tree.specs.Tree.{string_set}
 use Rattle.regress_program.specs.CodeOf.{code_in, Emits}
-use Rattle.regress_program.specs.Compiled.{matching, strings}
+use Rattle.regress_program.specs.Compiled.{matching}
 use Rattle.regress_program.specs.Contents.{nothing}
 use Rattle.regress_program.specs.LeavesOf.{leaves_of_strings}
 use Rattle.regress_program.specs.Listed.{all_of}

@@ -1,7 +1,6 @@
-use Rattle.std.proofs.Common.{◌+◌, ◌-◌, Bool, drop, length, map}
-use Rattle.std.specs.Box.{boxed_slice_items}
+use Rattle.std.proofs.Common.{◌+◌, ◌-◌, Bool, drop, length}
 use Rattle.regress_program.specs.CodeOf.{Emits, Spends}
-use Rattle.regress_program.specs.Compiled.{matching, strings}
+use Rattle.regress_program.specs.Compiled.{matching}
 use Rattle.regress_program.specs.Contents.{nothing}
 use Rattle.regress_program.specs.declared.counts.Counts.{Counts}
 use Rattle.regress_program.proofs.StringLemmas.{EmitsEach, leaves_in, set_of}
