@@ -1,6 +1,6 @@
 -- What iterations cost, of which two are compiled and the others are copies.
 use Rattle.std.proofs.Common.{◌≡◌, ◌≤◌, ◌<◌, inr, ℕ, zero, suc, ◌+◌, ◌-◌, ◌*◌, true, false, min, nat_lt, length, refl, sym, ap, ◌∙◌, arith}
-use Rattle.std.proofs.lemmas.Bool.{ltb-false}
+use Rattle.std.proofs.lemmas.Bool.{ltb-false, ltb-true}
 use Rattle.std.proofs.lemmas.Nat.{mul-le}
 use Rattle.regress_program.specs.CodeOf.{Exceeds, Spends}
 use Rattle.regress_program.specs.Listed.{all_of, stored_total}
@@ -17,6 +17,11 @@ pub two-stored : (counts : Counts) (n : ℕ) → is_copied counts ≡ true → 2
 two-stored Bounded n is le = cc
 two-stored Unbounded n is le = cc
 two-stored Copied n is le = omega (arith, le)
+
+pub some-copied : (counts : Counts) (n : ℕ) → nat_lt (stored_of counts n) n ≡ true → (2 < n) × (is_copied counts ≡ true)
+some-copied Bounded n is = absurd (omega (arith, ltb-true n n is))
+some-copied Unbounded n is = absurd (omega (arith, ltb-true n n is))
+some-copied Copied n is = (omega (arith, ltb-true (min n 2) n is), refl)
 
 pub all-stored : (counts : Counts) (n : ℕ) → nat_lt (stored_of counts n) n ≡ false → stored_of counts n ≡ n
 all-stored Bounded n is = refl

@@ -42,7 +42,7 @@ use Rattle.regress_program.proofs.ViewLemmas.{below, part_if_leaf, nothing_at_em
 use Rattle.regress_program.proofs.lemmas.Onward.{Stays-iteration, Stays-tree}
 use Rattle.regress_program.proofs.compiler.Compiler.+compile.Goals.{iteration-else-not-begins-via-then-not-begins+else-self-before, iteration-else-not-begins-via-else-not-begins, repeat-in-None+in_ok-entry-in-None, repeat-in-Some+in_ok-entry-in-Some, repeat_character-in-None+in_ok-entry-in-None, repeat_character-in-Some+in_ok-entry-in-Some}
 use Rattle.regress_program.proofs.CopiedLemmas.{HasCopied, emits-copied, optional-copied}
-use Rattle.regress_program.proofs.CopySpends.{all-stored, exceeds-again, exceeds-another, exceeds-begin, exceeds-begun, exceeds-copies, exceeds-end, exceeds-ended, exceeds-last, exceeds-next, exceeds-one, exceeds-optional-copies, exceeds-repeat, exceeds-start, spends-begun, spends-exactly, spends-no-optional, spends-optional}
+use Rattle.regress_program.proofs.CopySpends.{all-stored, some-copied, exceeds-again, exceeds-another, exceeds-begin, exceeds-begun, exceeds-copies, exceeds-end, exceeds-ended, exceeds-last, exceeds-next, exceeds-one, exceeds-optional-copies, exceeds-repeat, exceeds-start, spends-begun, spends-exactly, spends-no-optional, spends-optional}
 use Rattle.regress_program.proofs.ExactlyLemmas.{emits-more, emits-none, emits-loop}
 use Rattle.regress_program.proofs.LoopLemmas.{exceeds-pushed, spends-body, spends-pushed, Spends-plain, characters-none, characters-some, characters_size, emits-repeated, exceeds-extra, exceeds-least, extra-none, extra-some, extra_size, loop-bounded, loop-unbounded, many-loop-size, one-loop-size, single-size, spends-loop, spends-never, exceeds-plain}
 use Rattle.regress_program.proofs.OptionalLemmas.{EmitsOptional, emits-any_number, optional-begun, optional-last, optional-more, optional-none}
@@ -57,6 +57,16 @@ use Rattle.regress_program.specs.declared.instruction.Routine as declared
 use Rattle.regress_program.proofs.compiler.Compiler.+compile.Goals as goal
 
 -- ---- loops
+
+pub exactly_iterations-exactly_copied-requires : goal.exactly_iterations-exactly_copied-requires
+exactly_iterations-exactly_copied-requires t c =
+    let copied = some-copied c.args.iterations.counts c.args.count (sym c.has_copies.ensures ∙ c.if-has_copies.true) in
+    (search rules, (c.requires, copied))
+
+pub at_most-at_most_copied-requires : goal.at_most-at_most_copied-requires
+at_most-at_most_copied-requires t c =
+    let copied = some-copied c.args.iterations.counts c.args.count (sym c.has_copies.ensures ∙ c.if-has_copies.true) in
+    (search rules, (c.requires, copied))
 
 pub exactly_iterations-loop-i-init : goal.exactly_iterations-loop-i-init
 exactly_iterations-loop-i-init t c =
