@@ -1,4 +1,5 @@
 pub mod lemmas
+pub mod CaselessLemmas
 pub mod PackingLemmas
 pub mod ListLemmas
 pub mod CaseMapLemmas

@@ -8,3 +8,4 @@ pub mod Shifts
 pub mod TableOf
 pub mod SourceIndex
 pub mod UppercaseClosure
+pub mod Caseless

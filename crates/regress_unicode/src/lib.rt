@@ -6,6 +6,7 @@ ghost use Rattle.regress_unicode.specs.Parts.{parts_from, parts_with};
 ghost use Rattle.regress_unicode.specs.SourceIndex.{IsIndexOf};
 ghost use Rattle.regress_unicode.specs.ValidEntries.{IsSound};
 
+mod caseless;
 mod checks;
 mod closure;
 mod fold_range;
@@ -20,6 +21,7 @@ mod small;
 mod tables_error;
 mod unfold;
 
+pub use caseless::{are_caseless, fold_keeps_caseless, is_caseless, uppercase_keeps_caseless};
 pub use closure::{add_icase_code_points, add_uppercase_code_points};
 pub use fold_range::FoldRange;
 use index::SourceIndex;
