@@ -1,15 +1,17 @@
 -- What is known of how a match of a leaf begins.
-use Rattle.std.specs.Prelude.{◌≡◌, ℕ, ◌<◌, true, false, List, [], ◌∷◌, ◌+◌, length, get_or, slice_index}
+use Rattle.std.specs.Prelude.{IsTrue, ◌≡◌, ℕ, ◌<◌, true, false, List, [], ◌∷◌, ◌+◌, length, get_or, slice_index}
 use Rattle.std.specs.Coded.{Unit-prop}
 use Rattle.std.proofs.Props.{props}
 use Rattle.regress_base.specs.ByteBitmap.{contains}
 use Rattle.regress_base.specs.declared.bytesearch.bitmap.ByteBitmap.{ByteBitmap}
+use Rattle.regress_base.specs.Intervals.{Bounds, is_within}
 use Rattle.regress_tree.specs.Matching.{steps}
 use Rattle.regress_tree.specs.Reading.{forwards}
 use Rattle.regress_tree.specs.Steps.{MatchState, Setting}
 use Rattle.regress_tree.specs.Tree.{Tree, leaf, string_set}
 use Rattle.regress_prefilter.specs.FirstSets.{BeginsWithByteOf}
 use Rattle.regress_prefilter.specs.OneCharacter.{takes_one, test_of}
+use Rattle.regress_unicode.specs.Caseless.{KeepsCaseless}
 use Rattle.regress_leaves.specs.Known.{HasAsciiCase}
 use Rattle.regress_leaves.specs.declared.start.Start.{Start}
 use Rattle.regress_leaves.specs.declared.start.Start.TheVariants as starts
@@ -25,14 +27,19 @@ pub record IsNextOutside (set : ByteBitmap) (bytes : List ℕ) (position : ℕ) 
   pub byte : get_or bytes position 0 < 256
   pub out : contains set (get_or bytes position 0) ≡ false
 
--- Where canonical forms of ASCII characters are those of ASCII, no match begins with another byte.
+-- Where canonical forms are as usual, no match begins with another byte.
 abbrev pub BeginsFolded : ByteBitmap → Tree → Type 0
 BeginsFolded set t = (setting : Setting) (bytes : List ℕ) (s : MatchState) → HasAsciiCase setting → IsNextOutside set bytes s.position →
     steps setting bytes forwards t s ≡ []
 
--- The tree is one string that begins with this ASCII character, and is compared by canonical forms.
+-- The tree is one string that begins with this character, and is compared by canonical forms.
 abbrev pub IsFoldedFrom : (c : ℕ) → Tree → Type 0
-IsFoldedFrom c t = (c < 128) × ((rest : List ℕ) × (t ≡ leaf (string_set ((c ∷ rest) ∷ []) true)))
+IsFoldedFrom c t = (rest : List ℕ) × (t ≡ leaf (string_set ((c ∷ rest) ∷ []) true))
+
+-- The interval contains each character with the canonical form of c, where characters without case are the only ones
+-- with theirs.
+abbrev pub HasClass : Bounds → (c : ℕ) → Type 0
+HasClass interval c = (f : ℕ → ℕ) → KeepsCaseless f → (x : ℕ) → f x ≡ f c → IsTrue (is_within interval x)
 
 -- A match of the leaf begins with one of these bytes; of a leaf that matches one character, these are the ASCII
 -- characters that it matches.

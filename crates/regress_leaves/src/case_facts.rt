@@ -5,7 +5,7 @@ ghost use Rattle.regress_unicode.specs.TableOf.{table_of};
 ghost use Rattle.regress_leaves.specs.Known.{AreFactsOf, HasAsciiFold, HasAsciiUppercase};
 
 use regress_base::types::Flags;
-use regress_unicode::{Tables, fold, uppercase};
+use regress_unicode::{Tables, fold, fold_keeps_caseless, uppercase, uppercase_keeps_caseless};
 
 /// What is precomputed about case mappings, once for any number of searches.
 #[derive(Clone, Copy)]
@@ -14,6 +14,10 @@ pub struct CaseFacts {
     pub(crate) ascii_fold: bool,
     /// Whether the upper case of each ASCII character is known to be its capital letter, or itself.
     pub(crate) ascii_uppercase: bool,
+    /// Whether a character without case is known to have its simple case folding alone.
+    pub(crate) caseless_fold: bool,
+    /// Whether a character without case is known to have its upper case alone.
+    pub(crate) caseless_uppercase: bool,
 }
 
 impl CaseFacts {
@@ -21,15 +25,18 @@ impl CaseFacts {
     /// without `i`, which a modifier may set. With `i` alone it is about the upper case.
     ///
     /// # Complexity
-    /// At most one lookup for each ASCII character.
+    /// At most one lookup for each ASCII character, and linear in the number of entries.
     pub fn find(tables: &Tables, flags: Flags) -> CaseFacts
         ensures holds { AreFactsOf (table_of tables.now) result }
         ensures fold { flags.unicode ≡ true → HasAsciiFold (table_of tables.now) → result.ascii_fold ≡ true }
         ensures uppercase { flags.unicode ≡ false → flags.icase ≡ true → HasAsciiUppercase (table_of tables.now) → result.ascii_uppercase ≡ true }
     {
+        let uppercase = flags.icase && !flags.unicode;
         CaseFacts {
             ascii_fold: flags.unicode && has_ascii_fold(tables),
-            ascii_uppercase: flags.icase && !flags.unicode && has_ascii_uppercase(tables),
+            ascii_uppercase: uppercase && has_ascii_uppercase(tables),
+            caseless_fold: flags.unicode && fold_keeps_caseless(tables),
+            caseless_uppercase: uppercase && uppercase_keeps_caseless(tables),
         }
     }
 }

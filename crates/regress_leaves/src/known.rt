@@ -37,14 +37,17 @@ impl<'t> Known<'t> {
     }
 
     /// Returns whether the canonical form of each ASCII character (Canonicalize) is known to be its small letter with the
-    /// flag `u`, and without it its capital letter, or itself if it is no letter.
+    /// flag `u`, and without it its capital letter, or itself if it is no letter, and that a character without case
+    /// ([`is_caseless`]) has its canonical form alone.
+    ///
+    /// [`is_caseless`]: regress_unicode::is_caseless
     pub fn has_ascii_case(self, flags: Flags) -> bool
         ensures { result ≡ true → HasAsciiCase (record { flags = flags; table = table_of self.entry.tables.now }) }
     {
         if flags.unicode {
-            self.facts.ascii_fold
+            self.facts.ascii_fold && self.facts.caseless_fold
         } else {
-            self.facts.ascii_uppercase
+            self.facts.ascii_uppercase && self.facts.caseless_uppercase
         }
     }
 

@@ -1,20 +1,25 @@
 //! How a match of a leaf begins.
 ghost use Rattle.std.specs.Char.{to_ascii_lowercase};
-ghost use Rattle.std.specs.Prelude.{◌≡◌, ◌<◌, ℕ, IfSome, false};
+ghost use Rattle.std.specs.Prelude.{◌≡◌, ◌<◌, ◌∷◌, ℕ, List, [], IfSome, IsTrue, false, true};
 ghost use Rattle.regress_base.specs.ByteBitmap.{contains};
 ghost use Rattle.regress_tree.specs.Matching.{steps};
 ghost use Rattle.regress_tree.specs.Reading.{direction_if};
 ghost use Rattle.regress_tree.specs.Steps.{MatchState, Setting};
-ghost use Rattle.regress_tree.specs.Tree.{Tree, tree};
+ghost use Rattle.regress_base.specs.Intervals.{is_within};
+ghost use Rattle.regress_prefilter.specs.FirstSets.{IsCovered};
+ghost use Rattle.regress_tree.specs.Tree.{Tree, leaf, string_set, tree};
 ghost use Rattle.regress_leaves.specs.Leaves.{put};
-ghost use Rattle.regress_leaves.specs.Starts.{IsFoldedFrom, IsStart};
+ghost use Rattle.regress_leaves.specs.Starts.{BeginsFolded, HasClass, IsFoldedFrom, IsStart};
 
 use crate::ascii::next_ascii;
 use crate::ascii_sets::{ascii_of, others};
 use crate::leaves::takes_one;
 use regress_base::bytesearch::ByteBitmap;
+use regress_base::codepointset::{CODE_POINT_MAX, Interval};
+use regress_base::util::add_utf8_first_bytes_to_bitmap;
 use regress_prefilter::first_sets::first_bytes;
 use regress_tree::ir::Node;
+use regress_unicode::is_caseless;
 
 /// What is known of how a match of a leaf begins.
 #[derive(Clone, Copy)]
@@ -23,7 +28,7 @@ pub enum Start {
     Any,
     /// A match begins with one of these bytes, in the forward direction.
     Bytes(ByteBitmap),
-    /// The same if canonical forms of ASCII characters are those of ASCII ([`Known::has_ascii_case`]).
+    /// The same if canonical forms are as usual ([`Known::has_ascii_case`]).
     ///
     /// [`Known::has_ascii_case`]: crate::known::Known::has_ascii_case
     Folded(ByteBitmap),
@@ -38,8 +43,8 @@ pub fn start_of(node: &Node) -> Start
     if takes_one(node) {
         return Start::Ascii(ascii_of(node));
     }
-    if let Some(c) = folded_first(node) {
-        return Start::Folded(case_variants(c));
+    if let Some(set) = folded_bytes(node) {
+        return Start::Folded(set);
     }
     match first_bytes(node) {
         Some(set) => Start::Bytes(set),
@@ -47,9 +52,17 @@ pub fn start_of(node: &Node) -> Start
     }
 }
 
-/// Returns the first character of a string that a leaf compares by canonical forms, if it is ASCII. It is `None` if the
-/// leaf is not exactly one such string.
-fn folded_first(node: &Node) -> Option<u8>
+/// Returns bytes with which a string begins that a leaf compares by canonical forms. It is `None` if the leaf is not
+/// exactly one such string.
+fn folded_bytes(node: &Node) -> Option<ByteBitmap>
+    ensures { IfSome result (λ set. BeginsFolded set (tree node.now)) }
+{
+    variants(folded_first(node)?)
+}
+
+/// Returns the first character of a string that a leaf compares by canonical forms. It is `None` if the leaf is not
+/// exactly one such string.
+fn folded_first(node: &Node) -> Option<u32>
     ensures { IfSome result (λ c. IsFoldedFrom c (tree node.now)) }
 {
     let Node::StringSet {
@@ -63,8 +76,46 @@ fn folded_first(node: &Node) -> Option<u8>
         return None;
     }
     let first = alternatives[0].first()?;
-    let c = u8::try_from(*first).ok()?;
-    if c.is_ascii() { Some(c) } else { None }
+    Some(*first)
+}
+
+/// Returns the first bytes of the characters with the canonical form of `c`, if something is known of them.
+fn variants(c: u32) -> Option<ByteBitmap>
+    ensures { IfSome result (λ set. (rest : List ℕ) → BeginsFolded set (leaf (string_set ((c ∷ rest) ∷ []) true))) }
+{
+    if let Some(interval) = class_interval(c) {
+        return Some(first_bytes_of(interval));
+    }
+    let c = u8::try_from(c).ok()?;
+    if c.is_ascii() {
+        Some(case_variants(c))
+    } else {
+        None
+    }
+}
+
+/// Returns an interval of the characters with the canonical form of `c`: a character without case alone, and the circled
+/// letters.
+fn class_interval(c: u32) -> Option<Interval>
+    ensures { IfSome result (λ interval. HasClass interval c) }
+{
+    if matches!(c, 0x24B6..=0x24E9) {
+        return Some(Interval::new(0x24B6, 0x24E9));
+    }
+    if is_caseless(c) && c <= CODE_POINT_MAX {
+        Some(Interval::new(c, c))
+    } else {
+        None
+    }
+}
+
+/// Returns the first bytes of the UTF-8 encodings of the code points of the interval.
+fn first_bytes_of(interval: Interval) -> ByteBitmap
+    ensures { (c : ℕ) → IsTrue (is_within interval c) → IsCovered (contains result) c }
+{
+    let mut set = ByteBitmap::default();
+    add_utf8_first_bytes_to_bitmap(interval, &mut set);
+    set
 }
 
 /// Returns both cases of an ASCII character, with each byte that is not ASCII.
