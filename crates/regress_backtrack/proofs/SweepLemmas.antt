@@ -26,7 +26,7 @@ use Rattle.regress_leaves.specs.Starts.{AreIn, IsStart}
 use Rattle.regress_backtrack.specs.Sweep.{IsAsciiLeaf, IsSwept}
 use Rattle.regress_program.specs.Views.{part_of}
 use Rattle.regress_backtrack.proofs.RunLemmas.{solved}
-use Rattle.regress_leaves.proofs.lemmas.Starts.{ascii_matches}
+use Rattle.regress_leaves.proofs.lemmas.Starts.{ascii_fails, ascii_matches}
 
 module _ (out : Out) (g : Groups) (body repeat_pc next low : ℕ) (moved : Bool) where
   abbrev again : ℕ → List MatchState
@@ -78,6 +78,25 @@ module _ (input : Input) (is : IsInput input) (outs : ℕ → Out) (solve : Solv
       ∙ ap (flat_map (λ s. out (reach next (at p g) s))) one
       ∙ append-nil _
       ∙ ap (λ b. out (at (record { pc = next; moved = b; position = k + 1 }) g)) (ends_moved moved k)
+
+  -- an ASCII character that it does not match
+  pub other_character : (leaf : ℕ) (set : ByteBitmap) → (ascii : IsAsciiLeaf input leaf set) → input.rules.backwards ≡ false → (pc next : ℕ) (moved : Bool) →
+      pc < length (instructions_in input) → slice_get (instructions_in input) pc ≡ Some (insts.Leaf leaf next) →
+      (k : ℕ) → k < length input.text.now → slice_index input.text.now k < 128 → contains set (slice_index input.text.now k) ≡ false →
+      outs input.index (at (record { pc = pc; moved = moved; position = k }) g) ≡ []
+  other_character leaf set ascii forward pc next moved pc_in at_pc k lt small member =
+      let u = subject input.rules input.text.now in
+      let out = outs input.index in
+      let body_of = matcher_of u.setting u.bytes (code_routines input.code.now) outs in
+      let p : Place = record { pc = pc; moved = moved; position = k } in
+      let start : IsStart (starts.Ascii set) (tree ascii.test.node) = subst (λ x. IsStart x (tree ascii.test.node)) ascii.starts ascii.test.begins in
+      let none : steps u.setting u.bytes u.direction (tree ascii.test.node) (state g.captures k) ≡ [] =
+      subst (λ b. steps u.setting u.bytes (direction_if b) (tree ascii.test.node) (state g.captures k) ≡ []) (sym forward)
+      (ascii_fails set (tree ascii.test.node) start.0 start.1 u.setting u.bytes forwards (state g.captures k) (slice_index input.text.now k) (k + 1) small
+      (ascii_after input.text.now k (slice_index input.text.now k) small lt refl) member) in
+      solved input is p (insts.Leaf leaf next) pc_in at_pc u.setting u.bytes outs u.direction g solve is.direction (omega (arith, lt))
+      ∙ ap (λ o. outcomes_by u.setting u.bytes u.direction body_of out (part_of o next) (at p g)) ascii.is_test
+      ∙ ap (flat_map (λ s. out (reach next (at p g) s))) none
 
 module _ (input : Input) (is : IsInput input) (looping : Looping) (set : ByteBitmap) (repeat_pc : ℕ) (swept : IsSwept input looping set repeat_pc)
     (body_in : looping.body < length (instructions_in input)) (outs : ℕ → Out) (solve : Solve input outs) (g : Groups) where

@@ -20,7 +20,7 @@ use crate::backtracker::Backtracker;
 use crate::beginning::{Beginning, beginning_of, next_possible};
 use crate::cache::Cache;
 use crate::input::{Input, next_bytes_at};
-use crate::lead::{lead_after, next_after};
+use crate::lead::{lead_of, next_after, passed};
 use regress_code::Code;
 use regress_found::{Found, MemoryFault, Outcome};
 use regress_leaves::known::Known;
@@ -83,10 +83,11 @@ impl Backtracker<'_, '_> {
     /// than the text has from there on, for each 64 characters before one that fails in a loop that is one instruction,
     /// and for each 64 groups that it unsets. A loop over ASCII characters whose iterations are run at once counts 1
     /// for each of them. A search counts 1 for each 64 groups of the pattern, and 1 for each byte offset up to the
-    /// match, also where no match is known to begin: by the first byte, or since an attempt that failed has passed there
-    /// in the loop at the start of the pattern. The result is [`Outcome::OutOfSteps`] as soon as `remaining` is used up,
-    /// and with 0 for each `from` in the text. A step that is begun is completed, even if it counts more than remains.
-    /// If the first bytes show that no match begins in the rest of the text, that rest counts nothing.
+    /// match, also where no match is known to begin: by the first byte, since an attempt that failed has passed there
+    /// in the loop at the start of the pattern, or since what follows this loop cannot begin where its characters end.
+    /// The result is [`Outcome::OutOfSteps`] as soon as `remaining` is used up, and with 0 for each `from` in the text.
+    /// A step that is begun is completed, even if it counts more than remains. If the first bytes show that no match
+    /// begins in the rest of the text, that rest counts nothing.
     ///
     /// A search that finds a match takes at least a step for each byte offset up to its start and one for each 64 groups,
     /// or all steps that remain. It takes at most its cost: the steps that following every outcome from every byte offset
@@ -176,14 +177,27 @@ impl Backtracker<'_, '_> {
             counted = position + 1;
             start = counted;
             if text.is_char_boundary(position) {
-                match self.match_in(alloc, &input, &mut cache.machine, position, remaining)? {
-                    Outcome::Matched(found) => return Ok(Outcome::Matched(found)),
-                    Outcome::NoMatch => {
-                        lead = lead_after(&input, lead, has_failed);
-                        has_failed = true;
-                        start = next_after(&input, lead, text, position);
+                match passed(&input, &lead, text, position) {
+                    Some(to) => start = to,
+                    None => {
+                        match self.match_in(
+                            alloc,
+                            &input,
+                            &mut cache.machine,
+                            position,
+                            remaining,
+                        )? {
+                            Outcome::Matched(found) => return Ok(Outcome::Matched(found)),
+                            Outcome::NoMatch => {
+                                if !has_failed {
+                                    lead = lead_of(&input);
+                                    has_failed = true;
+                                }
+                                start = next_after(&input, &lead, text, position);
+                            }
+                            Outcome::OutOfSteps => return Ok(Outcome::OutOfSteps),
+                        }
                     }
-                    Outcome::OutOfSteps => return Ok(Outcome::OutOfSteps),
                 }
             }
         }

@@ -24,7 +24,7 @@ pub(crate) struct Swept<'c> {
     /// The ASCII characters that the leaf matches.
     pub(crate) set: &'c ByteBitmap,
     /// The instruction that ends an iteration, and begins another one or goes on after the loop.
-    repeat_pc: usize,
+    pub(crate) repeat_pc: usize,
 }
 
 /// Consumes the ASCII characters at a place at once, if the body of a greedy loop is a leaf that matches one character.
