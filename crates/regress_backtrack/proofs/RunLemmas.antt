@@ -4,7 +4,6 @@ use Rattle.std.proofs.lemmas.List.{length-map}
 use Rattle.std.proofs.lemmas.List.Elements.{All-nil, All-cons}
 use Rattle.std.proofs.lemmas.Option.{slice_get-map}
 use Rattle.regress_tree.specs.Lookaround.{looked, lookaround_matcher}
-use Rattle.regress_leaves.specs.Subject.{subject}
 use Rattle.regress_tree.specs.Reading.{Direction}
 use Rattle.regress_tree.specs.Steps.{MatchState, Matcher, CaptureSpan, Setting}
 use Rattle.regress_found.specs.Found.{state}
@@ -24,7 +23,7 @@ use Rattle.regress_backtrack.specs.declared.step.Next.{Next}
 use Rattle.regress_backtrack.specs.declared.step.Next.TheVariants as nexts
 use Rattle.regress_backtrack.specs.Machine.{Groups, at, groups_of, points}
 use Rattle.regress_backtrack.specs.Memory.{AreWithin}
-use Rattle.regress_backtrack.specs.Next.{CanStep, Fails, IsInput, Inside, Solve, ahead, Leads, instructions_in}
+use Rattle.regress_backtrack.specs.Next.{CanStep, IsInput, Inside, ahead, Leads, instructions_in}
 use Rattle.regress_backtrack.specs.Run.{IsResponseOf, IsAfter}
 use Rattle.regress_program.specs.declared.instruction.Instruction.TheVariants as insts
 use Rattle.regress_backtrack.proofs.MachineLemmas.{points-none}
@@ -168,17 +167,6 @@ same_entries entries outs costs k = same_run (λ s b p i cs. IsCost s b p outs c
 pub same_within : (room room' : ℕ) (m m' : Machine) → room' ≡ room → (AreWithin room' m → AreWithin room' m') → AreWithin room m → AreWithin room m'
 same_within room room' m m' same within =
     subst (λ k. AreWithin k m → AreWithin k m') same within
-
--- a run that fails where it starts has no outcome
-pub fails_response : (input : Input) → IsInput input → (m : Machine) (captures : List (Option CaptureSpan)) (k : ℕ) (outs : ℕ → Out) →
-    Fails input (record { pc = input.first; moved = true; position = k }) → Solve input outs →
-    IsResponseOf (matcher_of (subject input.rules input.text.now).setting input.text.now (code_routines input.code.now) outs input.index (state captures k)) m
-    responses.NoMatch
-fails_response input is m captures k outs none solve =
-    let u = subject input.rules input.text.now in
-    ap (λ o. outs input.index (start u.setting input.text.now o (state captures k))) is.is
-    ∙ ap (λ pc. outs input.index (record { pc = pc; moved = true; state = state captures k; begins = [] })) (sym is.first)
-    ∙ none outs (record { captures = captures; begins = [] }) solve
 
 -- ---- lookarounds
 

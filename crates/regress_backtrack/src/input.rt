@@ -1,10 +1,13 @@
 //! What a run of a routine reads.
-ghost use Rattle.std.specs.Prelude.{◌≡◌, ◌<◌, IfSome, MatchOption, None, Some, length, slice_get, true};
+ghost use Rattle.std.specs.Prelude.{◌≡◌, ◌<◌, [], ℕ, IfSome, List, MatchOption, None, Option, Some, length, slice_get, true};
 ghost use Rattle.regress_leaves.specs.Subject.{subject};
 ghost use Rattle.regress_unicode.specs.TableOf.{table_of};
 ghost use Rattle.regress_code.specs.Code.{code_routines};
 ghost use Rattle.regress_code.specs.NextBytes.{FoldsIf};
-ghost use Rattle.regress_backtrack.specs.Next.{IsInput, instructions_in};
+ghost use Rattle.regress_tree.specs.Steps.{CaptureSpan};
+ghost use Rattle.regress_found.specs.Found.{state};
+ghost use Rattle.regress_program.specs.Program.{Out, matcher_of};
+ghost use Rattle.regress_backtrack.specs.Next.{IsInput, Solve, instructions_in};
 ghost use Rattle.regress_program.specs.declared.instruction.Instruction.TheVariants.{Leaf, Repeat, Split};
 ghost use Rattle.regress_code.specs.Possessive.{IsPossessive};
 ghost use Rattle.regress_code.specs.Skips.{AreCounts};
@@ -103,6 +106,27 @@ fn analysis_of<'c>(code: &'c Code, rules: MatchContext<'_>, index: usize) -> Opt
     } else {
         None
     }
+}
+
+/// Returns whether a routine is known to fail at a position, by the byte next to it.
+///
+/// # Preconditions
+/// There is a routine with this index.
+#[inline(always)]
+pub(crate) fn routine_fails(input: &Input<'_, '_>, index: usize, position: usize) -> bool
+    requires { index < length (code_routines input.now.code.now) }
+    ensures { result ≡ true → (outs : ℕ → Out) → Solve input.now outs → (captures : List (Option CaptureSpan)) →
+        (let u = subject input.now.rules input.now.text.now in
+        matcher_of u.setting u.bytes (code_routines input.now.code.now) outs index (state captures position) ≡ []) }
+{
+    let Some(analysis) = analysis_of(input.code, input.rules, index) else {
+        return false;
+    };
+    let routine = &input.code.program.routines[index];
+    if routine.entry >= analysis.next_bytes.len() {
+        return false;
+    }
+    analysis.next_bytes[routine.entry].excludes(input.text, routine.backwards, position)
 }
 
 /// Returns whether the next bytes of a program hold under these flags and case mappings.

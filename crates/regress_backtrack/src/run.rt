@@ -16,7 +16,7 @@ ghost use Rattle.regress_backtrack.specs.declared.run.Response.TheVariants.{NoMa
 ghost use Rattle.regress_backtrack.specs.declared.step.Next.TheVariants as nexts;
 
 use crate::alternatives::fails;
-use crate::input::{Input, input_for, instruction_at};
+use crate::input::{Input, input_for, instruction_at, routine_fails};
 use crate::machine::{Machine, Place};
 use crate::step::{Next, step};
 use crate::sweep::points_that_may_match;
@@ -251,6 +251,9 @@ fn look(
         pc: looking.next,
         ..here
     };
+    if routine_fails(input, looking.routine, here.position) {
+        return Ok(on_if(looking.negate, after));
+    }
     let inside = input_for(
         input.text,
         input.rules,
@@ -258,14 +261,6 @@ fn look(
         looking.routine,
         input.room,
     );
-    let start = Place {
-        pc: inside.first,
-        moved: true,
-        position: here.position,
-    };
-    if fails(&inside, start) {
-        return Ok(on_if(looking.negate, after));
-    }
     let outer = machine.enter(alloc);
     let response = run(alloc, &inside, here.position, machine, remaining)?;
     machine.leave(outer, input.room)?;

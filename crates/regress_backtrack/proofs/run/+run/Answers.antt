@@ -1,4 +1,4 @@
-use Rattle.std.proofs.Common.{rules, ◌≡◌, ◌+◌, ◌≤◌, IfErr, ◌++◌, ◌∷◌, [], All, IfSome, MatchOption, true, flat_map, length, reverse, refl, sym, ap, ◌∙◌, subst, arith}
+use Rattle.std.proofs.Common.{rules, ◌≡◌, ◌+◌, ◌≤◌, IfErr, ◌++◌, ◌∷◌, [], All, IfSome, MatchOption, flat_map, length, reverse, refl, sym, ap, ◌∙◌, subst, arith}
 use Rattle.std.proofs.lemmas.List.{length-take}
 use Rattle.std.proofs.lemmas.List.Elements.{All-head, All-tail}
 use Rattle.regress_leaves.specs.Subject.{subject}
@@ -13,12 +13,12 @@ use Rattle.regress_program.specs.Views.{op_in}
 use Rattle.regress_backtrack.specs.Machine.{Groups, at, changes_of, groups_of, points, rewound}
 use Rattle.regress_backtrack.specs.declared.run.Response.TheVariants as responses
 use Rattle.regress_backtrack.specs.Memory.{IsStackWithin, entry_count}
-use Rattle.regress_backtrack.specs.Next.{Fails, Inside}
+use Rattle.regress_backtrack.specs.Next.{Inside}
 use Rattle.regress_backtrack.specs.Run.{IsResponseOf}
 use Rattle.regress_backtrack.proofs.CostLemmas.{costed}
 use Rattle.regress_backtrack.proofs.MachineLemmas.{left-lookaround, rewound-none}
 use Rattle.regress_backtrack.proofs.StepLemmas.{Goes, err_map, not_look, ok_map}
-use Rattle.regress_backtrack.proofs.RunLemmas.{fails_response, can_step, advanced, look_fits, on_same, back_same, accept_same, on_all, back_all, begins-inside, begins-same, begins_cost, same_response, same_cost, same_entries, same_within, look_cost, look_goes, look_inside}
+use Rattle.regress_backtrack.proofs.RunLemmas.{can_step, advanced, look_fits, on_same, back_same, accept_same, on_all, back_all, begins-inside, begins-same, begins_cost, same_response, same_cost, same_entries, same_within, look_cost, look_goes, look_inside}
 use Rattle.regress_backtrack.proofs.run.+run.Goals as goal
 
 -- ---- one instruction
@@ -128,29 +128,24 @@ look-run-requires t c =
       ),
     )
 
-pub look-fails-requires : goal.look-fails-requires
-look-fails-requires t c = record { input = c.input_for-inside.ensures.input }
+pub look-routine_fails-requires : goal.look-routine_fails-requires
+look-routine_fails-requires t c =
+    omega (arith, c.requires.routine, length-take c.args.input.now.index (code_routines c.args.input.now.code.now))
 
-pub look-returns-then-fails-clause-leads : goal.look-returns-then-fails-clause-leads
-look-returns-then-fails-clause-leads t c = λ outs out solution.
+pub look-returns-then-routine_fails-clause-leads : goal.look-returns-then-routine_fails-clause-leads
+look-returns-then-routine_fails-clause-leads t c = λ outs out solution.
     let input = c.args.input.now in
     let u = subject input.rules input.text.now in
     let m = c.args.machine.now in
-    let inside = c.input_for-inside.ensures in
-    let none : Fails c.input_for-inside.result (record { pc = c.input_for-inside.result.first; moved = true; position = c.args.here.position }) =
-    c.fails.ensures c.if-fails.true in
     let responds : IsResponseOf (matcher_of u.setting u.bytes (code_routines input.code.now) outs c.args.looking.routine
     (state m.captures.items c.args.here.position)) m responses.NoMatch =
-    same_response m responses.NoMatch outs c.args.here.position _ _ _ _ _ _ _ _ _ _
-    (fails_response c.input_for-inside.result inside.input m m.captures.items c.args.here.position outs none) inside.setting
-    inside.text
-    (ap code_routines inside.code) inside.index refl solution in
+    c.routine_fails.ensures c.if-routine_fails.true outs solution m.captures.items in
     look_goes out m m refl refl c.args.here c.args.looking.next
     c.args.looking.negate (matcher_of u.setting u.bytes (code_routines input.code.now) outs c.args.looking.routine) m responses.NoMatch
     c.on_if.result responds refl (λ none. refl) c.on_if.ensures
 
-pub look-returns-then-fails-clause-inside : goal.look-returns-then-fails-clause-inside
-look-returns-then-fails-clause-inside t c = λ lt.
+pub look-returns-then-routine_fails-clause-inside : goal.look-returns-then-routine_fails-clause-inside
+look-returns-then-routine_fails-clause-inside t c = λ lt.
     let m = c.args.machine.now in
     look_inside c.args.input.now m m responses.NoMatch c.args.looking.negate _ c.on_if.result refl c.on_if.ensures lt c.requires.inside.position
 
@@ -373,20 +368,14 @@ advance-returns-in-Look-clause-costs t c =
     omega (arith, here, is, all))
     c.look.ensures.costs
 
-pub look-returns-then-fails-clause-costs : goal.look-returns-then-fails-clause-costs
-look-returns-then-fails-clause-costs t c = λ outs costs has.
+pub look-returns-then-routine_fails-clause-costs : goal.look-returns-then-routine_fails-clause-costs
+look-returns-then-routine_fails-clause-costs t c = λ outs costs has.
     let input = c.args.input.now in
     let u = subject input.rules input.text.now in
     let m = c.args.machine.now in
-    let inside = c.input_for-inside.ensures in
     let body = matcher_of u.setting u.bytes (code_routines input.code.now) outs c.args.looking.routine in
-    let none : Fails c.input_for-inside.result (record { pc = c.input_for-inside.result.first; moved = true; position = c.args.here.position }) =
-    c.fails.ensures c.if-fails.true in
     let responds : IsResponseOf (body (state m.captures.items c.args.here.position)) m responses.NoMatch =
-    same_response m responses.NoMatch outs c.args.here.position _ _ _ _ _ _ _ _ _ _
-    (fails_response c.input_for-inside.result inside.input m m.captures.items c.args.here.position outs none) inside.setting
-    inside.text
-    (ap code_routines inside.code) inside.index refl has.outcomes in
+    c.routine_fails.ensures c.if-routine_fails.true outs has.outcomes m.captures.items in
     let ahead = look_cost (outs input.index) m m refl refl c.args.here c.args.looking.next (costs input.index) c.args.looking.negate body m responses.NoMatch
     c.on_if.result responds refl (λ none. refl) c.on_if.ensures in
     omega (arith, ahead)
@@ -472,9 +461,9 @@ advance-returns-in-Look-clause-too_much t c =
     omega (arith, here, is, all))
     c.look.ensures.too_much
 
-pub look-returns-then-fails-clause-grows : goal.look-returns-then-fails-clause-grows
-look-returns-then-fails-clause-grows t c = λ outs costs has.
-    let taken = look-returns-then-fails-clause-costs t c outs costs has in
+pub look-returns-then-routine_fails-clause-grows : goal.look-returns-then-routine_fails-clause-grows
+look-returns-then-routine_fails-clause-grows t c = λ outs costs has.
+    let taken = look-returns-then-routine_fails-clause-costs t c outs costs has in
     omega (arith, taken)
 
 pub look-returns-in_err-response-clause-within : goal.look-returns-in_err-response-clause-within
