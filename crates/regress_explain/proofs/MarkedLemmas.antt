@@ -42,15 +42,6 @@ module _ (whole : List ℕ) (ranges : List (Range ℕ)) where
               (shown (pair ++ rest) (inl (markable, (rest, shows, refl))));
         }
 
-    -- the range is not marked
-    pub unmarked : ¬ IsMarkable whole at range → MarkedSoFar whole ranges (i + 1) at before after
-    unmarked none = record {
-      boundary = so_far.boundary;
-      pieces = so_far.pieces;
-      added = so_far.added;
-      completes = λ rest shows. shown rest (inr (none, shows));
-    }
-
   pub all_marked : (i at : ℕ) (before after new : List ℕ) → length ranges ≤ i → MarkedSoFar whole ranges i at before after →
       new ≡ after ++ piece_bytes (text (shown_text (drop at whole))) → Adds (ShowsMarked whole 0 ranges) before new
   all_marked i at before after new over so_far added =

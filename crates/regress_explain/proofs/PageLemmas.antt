@@ -77,9 +77,6 @@ element_grouped a b c d = simp (append_assoc, append-nil)
 element_more : (a b c d e : List ℕ) → (a ++ (b ++ c ++ d)) ++ e ≡ a ++ (b ++ (c ++ (d ++ (e ++ []))))
 element_more a b c d e = simp (append_assoc, append-nil)
 
-link_bytes : (a b c d e f : List ℕ) → ((a ++ b) ++ (c ++ d ++ e)) ++ f ≡ a ++ (b ++ (c ++ (d ++ (e ++ (f ++ [])))))
-link_bytes a b c d e f = simp (append_assoc, append-nil)
-
 pub adds_element : (element : Element) (content old new : List ℕ) → new ≡ old ++ element_bytes element content → Adds IsAnything old new
 adds_element element content old new is = record {
   pieces = tag (Open element) ∷ text content ∷ tag (Close element) ∷ [];
@@ -165,13 +162,6 @@ element_then element content last a b c first second =
 -- an element
 pub element_alone : (element : Element) (content a b : List ℕ) → b ≡ a ++ element_bytes element content → b ≡ a ++ pieces_bytes (element_pieces element content)
 element_alone element content a b is = is ∙ element_grouped a (tag_bytes (Open element)) (escaped_text content) (tag_bytes (Close element))
-
--- a link
-pub link_written : (to : Tag) (content a b c d : List ℕ) → b ≡ a ++ tag_bytes to → c ≡ b ++ element_bytes Small content → d ≡ c ++ tag_bytes (Close Link) →
-    d ≡ a ++ pieces_bytes (link_pieces to content)
-link_written to content a b c d opened inside closed =
-    closed ∙ ap (λ all. all ++ tag_bytes (Close Link)) (inside ∙ ap (λ all. all ++ element_bytes Small content) opened)
-    ∙ link_bytes a (tag_bytes to) (tag_bytes (Open Small)) (escaped_text content) (tag_bytes (Close Small)) (tag_bytes (Close Link))
 
 -- pieces without a link to the picture
 pub no_lead : (P : List Piece → Type 0) (ps : List Piece) → P ps → ((lines : List ℕ) → (number : ℕ) → AllByRecursion (LeadsBack lines number) ps) → HasNoLead P ps

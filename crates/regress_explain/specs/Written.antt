@@ -1,7 +1,7 @@
 -- What is written to a page.
 use Rattle.std.specs.Prelude.{◌≡◌, ⊤, ℕ, List, [], ◌∷◌, ◌++◌, All}
 use Rattle.regress_parse.specs.declared.span.Span.{Span}
-use Rattle.regress_explain.specs.declared.lines.Line.{Line}
+use Rattle.regress_outline.specs.declared.lines.Line.{Line}
 use Rattle.regress_explain.specs.declared.markup.Element.TheVariants.{Link, Small}
 use Rattle.regress_explain.specs.declared.markup.Tag.{Tag}
 use Rattle.regress_explain.specs.declared.markup.Tag.TheVariants.{Close}

@@ -1,7 +1,7 @@
 //! Gathers characters that are one text, and what is inside groups with modifiers.
 
-use crate::outline::{Kind, Part, Parts};
 use regress_labels::Character;
+use regress_outline::{Kind, Part, Parts};
 use regress_parse::Span;
 use regress_words::{Modifier, Source, TextEnd, text_words};
 use std::alloc::AllocError;

@@ -4,15 +4,15 @@ ghost use Rattle.regress_svg.specs.Links.{IsLinkedDocument};
 ghost use Rattle.regress_explain.specs.Page.{AreLines, Contains, ContainsMatches, IsPageOf, IsPicture};
 ghost use Rattle.regress_explain.specs.Written.{Adds, span_of};
 
-use crate::lines::{Line, lines_of, spans_of};
 use crate::listing::{Listing, write_lines};
 use crate::markup::{Element, Markup, Tag, Written};
 use crate::matched::{Matched, write_text};
-use crate::outline::{Part, outline};
+use crate::outline::outline;
 use crate::source::write_pattern;
 use crate::style::write_style;
 use crate::summary::summary;
 use regress_labels::group_names;
+use regress_outline::{Line, Part, lines_of, spans_of};
 use regress_parse::SpannedRegex;
 use regress_railroad::svg_with_links;
 use regress_svg::Linked;

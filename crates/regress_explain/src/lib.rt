@@ -5,7 +5,6 @@ mod elements;
 mod gathering;
 mod html;
 mod lengths;
-mod lines;
 mod listing;
 mod markup;
 mod matched;

@@ -5,8 +5,8 @@ ghost use Rattle.regress_explain.specs.declared.markup.Element.TheVariants.{Smal
 ghost use Rattle.regress_explain.specs.Page.{AreLines, Contains, IsListTag, LeadsBack, ShowsExcerpt, ShowsPart, element_pieces, pieces_bytes, place};
 ghost use Rattle.regress_explain.specs.Written.{Adds, HasNoLead, link_pieces, span_of};
 
-use crate::lines::Line;
 use crate::markup::{Element, Markup, Tag, Written};
+use regress_outline::Line;
 use regress_parse::Span;
 use regress_railroad::excerpt;
 use std::alloc::{AllocError, Global};

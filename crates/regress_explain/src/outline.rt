@@ -2,41 +2,14 @@
 ghost use Rattle.std.specs.Prelude.{◌<◌, IfOk, length};
 
 use crate::gathering::finished;
-use regress_labels::{Character, group_names};
+use regress_labels::group_names;
+use regress_outline::{Kind, Part, Parts};
 use regress_parse::{Span, SpannedRegex};
 use regress_tree::ir::Node;
 use regress_tree::ir::held::body;
 use regress_words::{Source, is_atom_after, is_one_atom, literal, scanned, words};
 use std::alloc::{AllocError, Global};
 use std::{mem, slice};
-
-/// A part of a pattern: what a node of the tree is written as, characters one after the other, or a group with
-/// modifiers.
-#[derive(Drop)]
-pub(crate) struct Part {
-    pub(crate) span: Span,
-    /// What it matches.
-    pub(crate) words: String,
-    /// The parts inside, in the order of the pattern.
-    pub(crate) parts: Vec<Part>,
-    pub(crate) kind: Kind,
-}
-
-/// How a part is explained.
-#[derive(Clone, Copy)]
-pub(crate) enum Kind {
-    /// A character, which may become a part of a text. It has no words yet.
-    Character(Character),
-    /// In a line of its own, or at the end of the line of the part around it.
-    Short,
-    /// In a line of its own, and one for each part inside.
-    Whole,
-    /// In a line that includes what the only part inside matches.
-    Inline,
-}
-
-/// A list of parts in the order of the pattern.
-pub(crate) type Parts = Vec<Part>;
 
 /// The state of a walk over a tree.
 #[derive(Drop)]

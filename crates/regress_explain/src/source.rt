@@ -4,9 +4,9 @@ ghost use Rattle.regress_explain.specs.Page.{Contains, IsParagraph, ShowsSource}
 ghost use Rattle.regress_explain.specs.Written.{Adds};
 
 use crate::markup::{Element, Markup, Tag, Written};
-use crate::outline::Part;
 use regress_base::types::Flags;
 use regress_labels::flags_text;
+use regress_outline::Part;
 use regress_parse::Span;
 use regress_words::shown;
 use std::alloc::{AllocError, Global};

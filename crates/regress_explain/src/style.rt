@@ -1,7 +1,7 @@
 //! The style sheet of a page.
 
 use crate::markup::{Markup, Written};
-use crate::outline::Part;
+use regress_outline::Part;
 use regress_parse::Span;
 use std::alloc::{AllocError, Global};
 

@@ -1,9 +1,9 @@
 //! An explanation as lines of text.
 
-use crate::lines::{Line, lines_of};
 use crate::outline::outline;
 use crate::shown::written;
 use crate::summary::summary;
+use regress_outline::{Line, lines_of};
 use regress_parse::SpannedRegex;
 use std::alloc::{AllocError, Global};
 use std::fmt::Write;

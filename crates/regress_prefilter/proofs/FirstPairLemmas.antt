@@ -129,9 +129,6 @@ module _ (bytes : List ℕ) where
     pub begin-stay : (o : Bool) → AllBegin A B true o bytes stay
     begin-stay o = λ s. All-cons (λ t. BeginsWithTwo A B true o bytes s.position t.position) s [] (none refl refl) (All-nil _)
 
-    begin-maybe : (e o e' o' : Bool) (f : Matcher) → (o ≡ true → o' ≡ true) → AllBegin A B e o bytes f → AllBegin A B true o' bytes f
-    begin-maybe e o e' o' f on first = all_begin_more A B A B e o true o' bytes f (λ b h. h) (λ b h. h) (λ h. refl) on first
-
     -- a part may follow itself
     again : (e o : Bool) → (o ≡ true → IsIn A B) → Joins A B A B A B e o
     again e o shift = record {

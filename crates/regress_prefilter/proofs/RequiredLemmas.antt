@@ -184,9 +184,6 @@ pub bytes_required : (written : List ℕ) → AreRequired (bytes_of written) (le
 unfolding bytes_of
 bytes_required written = λ b member setting bytes. needs_a_byte b bytes written (and_parts (nat_lt b 256) (list_any (λ x. x == b) written) member).1
 
-pub none_required : (set : ℕ → Bool) (t : Tree) → ((b : ℕ) → set b ≡ false) → AreRequired set t
-none_required set t none = λ b member. let bad : ⊥ = cc (none b, member) in absurd bad
-
 -- a byte that is not lacking with the others of a set is in the set, and was not lacking before
 pub not_lacking : (before after set : ℕ → Bool) (b : ℕ) → after b ≡ (before b || (nat_lt b 256 && not (set b))) → nat_lt b 256 ≡ true →
     after b ≡ false → (before b ≡ false) × (set b ≡ true)

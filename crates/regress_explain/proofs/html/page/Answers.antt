@@ -1,6 +1,6 @@
 use Rattle.std.proofs.Common.{◌≡◌, ◌≢◌, ◌∙◌, ◌<◌, ℕ, List, [], All, ap, arith, length, map, subst, sym}
 use Rattle.std.proofs.lemmas.List.{length-map}
-use Rattle.regress_explain.specs.declared.lines.Line.{Line}
+use Rattle.regress_outline.specs.declared.lines.Line.{Line}
 use Rattle.regress_explain.specs.Page.{AreLines, Contains}
 use Rattle.regress_explain.specs.Written.{Adds, IsAnything, span_of}
 use Rattle.regress_explain.proofs.PageLemmas.{adds_all, whole_page}

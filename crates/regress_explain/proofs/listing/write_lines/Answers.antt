@@ -1,7 +1,7 @@
 use Rattle.std.proofs.Common.{◌≡◌, ◌∙◌, ℕ, ◌+◌, ◌<◌, List, [], ◌∷◌, ◌++◌, All, ap, arith, get_or, length, map, subst, sym, take}
 use Rattle.std.proofs.lemmas.List.{length-map, length-take-le, map-append, take_all, take_more}
 use Rattle.std.proofs.lemmas.Result.{on_ok_weaker}
-use Rattle.regress_explain.specs.declared.lines.Line.{Line}
+use Rattle.regress_outline.specs.declared.lines.Line.{Line}
 use Rattle.regress_explain.specs.Page.{AreLines, IsListTag}
 use Rattle.regress_explain.specs.Written.{Adds, span_of}
 use Rattle.regress_explain.proofs.PageLemmas.{adds_both, lines_then, one_line}

@@ -1,23 +1,26 @@
 //! The lines of an explanation.
 ghost use Rattle.std.specs.Prelude.{◌≡◌, ◌≤◌, ◌+◌, IfOk, OnOk, length};
 
-use crate::outline::{Kind, Part};
+use crate::parts::{Kind, Part};
 use regress_parse::Span;
 use std::alloc::{AllocError, Global};
 
 /// The line of a part.
 #[derive(Clone, Copy)]
-pub(crate) struct Line<'a> {
+pub struct Line<'a> {
     /// The span of the part.
-    pub(crate) span: Span,
+    pub span: Span,
     /// What the part matches.
-    pub(crate) words: &'a str,
+    pub words: &'a str,
     /// How many parts are around it.
-    pub(crate) depth: usize,
+    pub depth: usize,
 }
 
 /// Returns the lines of parts and of those inside, in the order of the pattern, outer ones first.
-pub(crate) fn lines_of(alloc: Global, parts: &[Part]) -> Result<Vec<Line<'_>>, AllocError>
+///
+/// # Errors
+/// Returns [`AllocError`] if an allocation fails.
+pub fn lines_of(alloc: Global, parts: &[Part]) -> Result<Vec<Line<'_>>, AllocError>
     ensures { IfOk result (λ lines. length parts.now ≤ length lines.items) }
 {
     let mut lines = Vec::new(alloc);
@@ -56,7 +59,10 @@ fn add_line<'a>(part: &'a Part, depth: usize, lines: &mut Vec<Line<'a>>) -> Resu
 }
 
 /// Returns the spans of lines.
-pub(crate) fn spans_of(alloc: Global, lines: &[Line<'_>]) -> Result<Vec<Span>, AllocError>
+///
+/// # Errors
+/// Returns [`AllocError`] if an allocation fails.
+pub fn spans_of(alloc: Global, lines: &[Line<'_>]) -> Result<Vec<Span>, AllocError>
     ensures { IfOk result (λ spans. length spans.items ≡ length lines.now) }
 {
     let mut spans = Vec::new(alloc);
