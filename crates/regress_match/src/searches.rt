@@ -279,13 +279,13 @@ impl Matcher {
         }
     }
 
-    /// Returns the number of steps of backtracking after which tables are made. It grows with the number of instructions,
-    /// as their time does.
+    /// Returns the number of steps of backtracking after which tables are made. It grows with the number of leaves, as the
+    /// number of rows that differ does.
     pub(crate) fn steps_before_tables(&self, text: &str) -> u64
         ensures { result ≤ 64 * (length text.now + 1) }
     {
         let bytes = text.len() as u64 + 1;
-        let each = LEAST_STEPS.max(self.code.instructions() as u64);
+        let each = LEAST_STEPS.max(self.code.program.leaves.len() as u64);
         let steps = bytes.saturating_mul(each).saturating_add(MORE_STEPS);
         steps.min(bytes.saturating_mul(MOST_STEPS))
     }
