@@ -63,6 +63,7 @@ impl Table {
     }
 
     /// Returns whether there is an outcome from a state, or false if it was not evaluated yet.
+    #[inline(always)]
     pub(crate) fn cell(&self, pc: usize, moved: bool, position: usize) -> bool
         requires pc { pc < self.now.width }
         requires position { position ≤ self.now.length }

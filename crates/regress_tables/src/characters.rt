@@ -17,6 +17,7 @@ use regress_program::leaf::bytes_ahead;
 ///
 /// # Preconditions
 /// The leaf matches one character, and the position is inside the text.
+#[inline(always)]
 pub(crate) fn characters_end(
     text: &str,
     rules: MatchContext<'_>,
