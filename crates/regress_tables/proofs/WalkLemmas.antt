@@ -1,6 +1,5 @@
 -- A walk goes on to the first outcome.
 use Rattle.std.proofs.Common.{inl, inr, ◌==◌, ◌||◌, reverse, replicate, ◌≡◌, ℕ, ◌+◌, ◌≤◌, ◌<◌, Bool, true, false, not, List, [], ◌∷◌, ◌++◌, flat_map, length, take, Option, Some, None, MatchOption, if◌then◌else◌, refl, sym, ap, ap₂, ◌∙◌, subst, append-nil, append_assoc, slice_get, arith}
-use Rattle.std.specs.Bool.{IsTrue}
 use Rattle.std.specs.Prelude.{slice_index_or}
 use Rattle.std.specs.Str.{IsCharBoundary}
 use Rattle.std.proofs.lemmas.Bool.{cases_eq}
