@@ -10,6 +10,7 @@ use Rattle.regress_leaves.specs.Subject.{subject}
 use Rattle.regress_code.specs.Code.{code_routines}
 use Rattle.regress_code.specs.NextBytes.{AreNextBytes}
 use Rattle.regress_code.specs.Possessive.{ArePossessive}
+use Rattle.regress_code.specs.Rows.{AreRows}
 use Rattle.regress_code.specs.Skips.{AreSkips}
 use Rattle.regress_program.specs.Views.{ops_in}
 use Rattle.regress_program.specs.declared.instruction.Instruction.{Instruction}
@@ -56,6 +57,7 @@ pub record IsInput (input : Input) : Type 0 where
   pub leading : Begins input.leading.now (instructions_in input)
   pub next_bytes : (outs : ℕ → Out) → Solve input outs → AreNextBytes input.next_bytes.now routine.direction input.text.now (outs input.index)
   pub skips : AreSkips input.skips.now input.next_bytes.now (instructions_in input)
+  pub rows : AreRows input.rows.now input.code.now.program.leaves.items (instructions_in input) input.rules.backwards
   pub possessive : ArePossessive input.possessive.now input.next_bytes.now input.code.now.program.leaves.items (instructions_in input)
 
 -- A run is at this instruction.

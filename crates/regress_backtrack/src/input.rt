@@ -10,11 +10,13 @@ ghost use Rattle.regress_program.specs.Program.{Out, matcher_of};
 ghost use Rattle.regress_backtrack.specs.Next.{IsInput, Solve, instructions_in};
 ghost use Rattle.regress_program.specs.declared.instruction.Instruction.TheVariants.{Leaf, Repeat, Split};
 ghost use Rattle.regress_code.specs.Possessive.{IsPossessive};
+ghost use Rattle.regress_code.specs.Rows.{IsRow};
 ghost use Rattle.regress_code.specs.Skips.{AreCounts};
 
 use regress_code::Code;
 use regress_code::analysis::Analysis;
 use regress_code::next_bytes::NextBytes;
+use regress_code::rows::Row;
 use regress_code::skips::Skip;
 use regress_leaves::rules::MatchContext;
 use regress_leaves::test::Test;
@@ -39,6 +41,8 @@ pub struct Input<'c, 'x> {
     pub next_bytes: &'c [NextBytes],
     /// The skips of the first instructions.
     pub skips: &'c [Skip],
+    /// The rows of choices between strings.
+    pub rows: &'c [Row],
     /// For each of the first instructions whether it is known to end an iteration of a possessive loop; empty if the
     /// next bytes do not hold.
     pub possessive: &'c [bool],
@@ -80,6 +84,7 @@ pub fn input_for<'c, 'x>(
         leading: routine.leading(),
         next_bytes: &[],
         skips: &[],
+        rows: &[],
         possessive: &[],
         first: routine.entry,
         room,
@@ -88,6 +93,7 @@ pub fn input_for<'c, 'x>(
         Some(analysis) => Input {
             next_bytes: &analysis.next_bytes,
             skips: &analysis.skips,
+            rows: &analysis.rows,
             possessive: &analysis.possessive,
             ..input
         },
@@ -356,9 +362,31 @@ pub fn counts_at<'c>(input: &Input<'c, '_>, pc: usize) -> &'c [u8]
     ensures { AreCounts input.now.next_bytes.now (instructions_in input.now) pc result.now }
 {
     if pc < input.skips.len() {
-        &input.skips[pc].counts
+        input.skips[pc].counts()
     } else {
         &[]
+    }
+}
+
+/// Returns the row of choices between strings that an instruction is in, or `None` if it is in none.
+///
+/// # Preconditions
+/// The input is one that `input_for` returns.
+#[inline(always)]
+pub(crate) fn row_at<'c>(input: &Input<'c, '_>, pc: usize) -> Option<&'c Row>
+    requires { IsInput input.now }
+    ensures { IfSome result (λ row. IsRow input.now.code.now.program.leaves.items (instructions_in input.now) input.now.rules.backwards row.now) }
+{
+    if pc >= input.skips.len() {
+        return None;
+    }
+    let Skip::Row(row) = input.skips[pc] else {
+        return None;
+    };
+    if row < input.rows.len() {
+        Some(&input.rows[row])
+    } else {
+        None
     }
 }
 

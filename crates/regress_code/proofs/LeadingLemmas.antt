@@ -1,5 +1,5 @@
 -- What is known of the first instructions is known of all.
-use Rattle.std.proofs.Common.{◌≡◌, ℕ, ◌-◌, ◌<◌, Bool, true, List, length, Option, Some, None, option_map, slice_get, refl, sym, ap, ◌∙◌, subst, arith}
+use Rattle.std.proofs.Common.{◌≡◌, ℕ, ◌+◌, ◌-◌, ◌<◌, Bool, true, List, length, Option, Some, None, option_and_then, option_map, slice_get, refl, sym, ap, ◌∙◌, subst, arith}
 use Rattle.std.proofs.lemmas.List.{length-map}
 use Rattle.std.proofs.lemmas.Option.{slice_get-map, slice_get_within}
 use Rattle.regress_tree.specs.Reading.{Direction}
@@ -10,9 +10,11 @@ use Rattle.regress_program.specs.Views.{op_in, ops_in}
 use Rattle.regress_program.specs.declared.instruction.Instruction.{Instruction}
 use Rattle.regress_code.specs.declared.next_bytes.Body.{Body}
 use Rattle.regress_code.specs.declared.next_bytes.NextBytes.{NextBytes}
+use Rattle.regress_code.specs.declared.rows.Row.{Row}
 use Rattle.regress_code.specs.declared.skips.Skip.{Skip}
 use Rattle.regress_code.specs.NextBytes.{AreNextBytesOf}
 use Rattle.regress_code.specs.Possessive.{ArePossessive}
+use Rattle.regress_code.specs.Rows.{AreRows, IsBegun, first_leaf, leaf_of, preferred}
 use Rattle.regress_code.specs.Skips.{AreSkips, is_skipped}
 
 module _ (first all : List Instruction) (begins : Begins first all) where
@@ -21,6 +23,29 @@ module _ (first all : List Instruction) (begins : Begins first all) where
       pc < length first
   is_first next_bytes b pc None read skipped = cc
   is_first next_bytes b pc (Some i) read skipped = slice_get_within first pc i read
+
+  -- a leaf with which a choice among them begins
+  same_leaf : (leaves : List Test) (string : List ℕ) (pc : ℕ) (o : Option Instruction) → slice_get first pc ≡ o → IsBegun string (leaf_of leaves o) →
+      o ≡ slice_get all pc
+  same_leaf leaves string pc None read begun = absurd begun
+  same_leaf leaves string pc (Some i) read begun = sym read ∙ sym (begins.same pc (slice_get_within first pc i read))
+
+  same_from : (leaves : List Test) (string : List ℕ) (o : Option ℕ) →
+      IsBegun string (option_and_then (λ k. leaf_of leaves (slice_get first k)) o) →
+      option_and_then (λ k. leaf_of leaves (slice_get first k)) o ≡ option_and_then (λ k. leaf_of leaves (slice_get all k)) o
+  same_from leaves string None begun = absurd begun
+  same_from leaves string (Some k) begun = ap (leaf_of leaves) (same_leaf leaves string k (slice_get first k) refl begun)
+
+  same_choice : (leaves : List Test) (string : List ℕ) (pc : ℕ) (o : Option Instruction) → slice_get first pc ≡ o →
+      IsBegun string (option_and_then (λ k. leaf_of leaves (slice_get first k)) (preferred pc o)) → o ≡ slice_get all pc
+  same_choice leaves string pc None read begun = absurd begun
+  same_choice leaves string pc (Some i) read begun = sym read ∙ sym (begins.same pc (slice_get_within first pc i read))
+
+  same_first_leaf : (leaves : List Test) (pc : ℕ) (string : List ℕ) → IsBegun string (first_leaf leaves first pc) →
+      first_leaf leaves first pc ≡ first_leaf leaves all pc
+  same_first_leaf leaves pc string begun =
+      same_from leaves string (preferred pc (slice_get first pc)) begun
+      ∙ ap (λ o. option_and_then (λ k. leaf_of leaves (slice_get all k)) (preferred pc o)) (same_choice leaves string pc (slice_get first pc) refl begun)
 
   -- the next bytes
   pub all_next_bytes : (folds : Bool) (bodies : List Body) (next_bytes : List NextBytes) (d : Direction) (leaves : List Test) →
@@ -40,6 +65,15 @@ module _ (first all : List Instruction) (begins : Begins first all) where
       let skipped = are pc p is b n counted j lt in
       subst (λ o. is_skipped next_bytes b (pc - j) o ≡ true)
       (sym (begins.same (pc - j) (is_first next_bytes b (pc - j) (slice_get first (pc - j)) refl skipped))) skipped
+
+  -- the rows
+  pub all_rows : (rows : List Row) (leaves : List Test) (backwards : Bool) → AreRows rows leaves first backwards → AreRows rows leaves all backwards
+  all_rows rows leaves backwards are = λ i row is.
+      let one = are i row is in
+      record {
+        forwards = one.forwards;
+        choices = λ k string at. subst (IsBegun string) (same_first_leaf leaves (row.lowest + k) string (one.choices k string at)) (one.choices k string at);
+      }
 
   -- the loops that are possessive
   pub all_possessive : (possessive : List Bool) (next_bytes : List NextBytes) (leaves : List Test) →

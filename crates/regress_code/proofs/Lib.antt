@@ -3,4 +3,5 @@ mod CandidateLemmas
 mod LeadingLemmas
 mod NextBytesLemmas
 mod ListLemmas
+mod RowLemmas
 mod SkipLemmas

@@ -2,4 +2,5 @@ pub mod Candidates
 pub mod Code
 pub mod NextBytes
 pub mod Possessive
+pub mod Rows
 pub mod Skips

@@ -1,5 +1,5 @@
 -- The choices that a run skips, by the byte next to its position.
-use Rattle.std.specs.Prelude.{◌≡◌, ℕ, ◌+◌, ◌-◌, ◌<◌, ◌==◌, ◌&&◌, Bool, true, false, not, List, length, slice_get, get_or, Option, Some, None}
+use Rattle.std.specs.Prelude.{◌≡◌, ℕ, ◌+◌, ◌-◌, ◌<◌, ◌==◌, ◌&&◌, Bool, true, false, not, List, [], length, slice_get, get_or, Option, Some, None}
 use Rattle.std.proofs.Props.{props}
 use Rattle.regress_base.specs.ByteBitmap.{contains}
 use Rattle.regress_base.specs.declared.bytesearch.bitmap.ByteBitmap.{ByteBitmap}
@@ -12,6 +12,7 @@ use Rattle.regress_program.specs.declared.instruction.Instruction.{Instruction}
 use Rattle.regress_program.specs.declared.instruction.Instruction.TheVariants as insts
 use Rattle.regress_program.specs.declared.instruction.Routine as declared
 use Rattle.regress_code.specs.declared.skips.Skip.{Skip}
+use Rattle.regress_code.specs.declared.skips.Skip.TheVariants as skips
 use Rattle.regress_code.specs.NextBytes.{next_to}
 
 -- There are next bytes, and they exclude the byte.
@@ -38,9 +39,15 @@ AreSkipped next_bytes instructions b pc count = (j : ℕ) → j < count → is_s
 abbrev pub AreCounts : List NextBytes → List Instruction → (pc : ℕ) → List ℕ → Type 0
 AreCounts next_bytes instructions pc counts = (b n : ℕ) → slice_get counts b ≡ Some n → AreSkipped next_bytes instructions b pc n
 
+-- the counts of a skip, none if it has none
+abbrev pub counts_in : Skip → List ℕ
+counts_in skips.Unknown = []
+counts_in (skips.Counts counts) = counts.items
+counts_in (skips.Row row) = []
+
 -- These are the skips of the instructions.
 abbrev pub AreSkips : List Skip → List NextBytes → List Instruction → Type 0
-AreSkips skips next_bytes instructions = (pc : ℕ) (p : Skip) → slice_get skips pc ≡ Some p → AreCounts next_bytes instructions pc p.counts.items
+AreSkips all next_bytes instructions = (pc : ℕ) (p : Skip) → slice_get all pc ≡ Some p → AreCounts next_bytes instructions pc (counts_in p)
 
 -- Each routine has its skips.
 abbrev pub HaveSkips : List declared.Routine → List Analysis → Type 0

@@ -7,10 +7,12 @@ ghost use Rattle.regress_program.specs.Views.{ops_in};
 ghost use Rattle.regress_tree.specs.Reading.{Direction, direction_if};
 ghost use Rattle.regress_code.specs.NextBytes.{AreNextBytes, AreNextBytesAt, AreNextBytesOf, HaveNextBytes};
 ghost use Rattle.regress_code.specs.Possessive.{ArePossessive, HavePossessive};
+ghost use Rattle.regress_code.specs.Rows.{AreRows, HaveRows};
 ghost use Rattle.regress_code.specs.Skips.{AreSkips, HaveSkips};
 
 use crate::next_bytes::{Body, NextBytes, next_bytes_at, next_bytes_of};
 use crate::possessive::possessive_of;
+use crate::rows::{Row, rows_of};
 use crate::skips::{Skip, skips_of};
 use regress_leaves::test::Test;
 use regress_program::Program;
@@ -24,6 +26,8 @@ pub struct Analysis {
     pub next_bytes: Vec<NextBytes>,
     /// The skips of the first instructions.
     pub skips: Vec<Skip>,
+    /// The rows of choices between strings.
+    pub rows: Vec<Row>,
     /// For each of the first instructions whether it ends an iteration of a possessive loop, as
     /// [`possessive_of`] returns it.
     pub possessive: Vec<bool>,
@@ -40,6 +44,7 @@ pub(crate) fn analyze(
 ) -> Result<Vec<Analysis>, AllocError>
     ensures next_bytes { IfOk result (λ analyses. HaveNextBytes folds (routines_of program.now) analyses.items) }
     ensures skips { IfOk result (λ analyses. HaveSkips program.now.routines.items analyses.items) }
+    ensures rows { IfOk result (λ analyses. HaveRows program.now.leaves.items program.now.routines.items analyses.items) }
     ensures possessive { IfOk result (λ analyses. HavePossessive program.now.leaves.items program.now.routines.items analyses.items) }
 {
     let mut analyses = Vec::with_capacity(alloc, program.routines.len())?;
@@ -77,6 +82,7 @@ fn analyze_routine(
 ) -> Result<Analysis, AllocError>
     ensures next_bytes { IfOk result (λ a. AreNextBytesOf folds bodies.now a.next_bytes.items (direction_if routine.now.backwards) (ops_in leaves.now (listed routine.now))) }
     ensures skips { IfOk result (λ a. AreSkips a.skips.items a.next_bytes.items (listed routine.now)) }
+    ensures rows { IfOk result (λ a. AreRows a.rows.items leaves.now (listed routine.now) routine.now.backwards) }
     ensures possessive { IfOk result (λ a. ArePossessive a.possessive.items a.next_bytes.items leaves.now (listed routine.now)) }
 {
     let instructions = routine.leading();
@@ -88,11 +94,13 @@ fn analyze_routine(
         routine.backwards,
         folds,
     )?;
-    let skips = skips_of(alloc, &next_bytes, instructions)?;
+    let rows = rows_of(alloc, leaves, instructions, routine.backwards)?;
+    let skips = skips_of(alloc, &next_bytes, &rows, instructions)?;
     let possessive = possessive_of(alloc, &next_bytes, leaves, instructions)?;
     Ok(Analysis {
         next_bytes,
         skips,
+        rows,
         possessive,
     })
 }

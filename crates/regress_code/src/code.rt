@@ -11,6 +11,7 @@ ghost use Rattle.regress_program.specs.declared.fault.CompileFault.TheVariants.{
 ghost use Rattle.regress_code.specs.Candidates.{BeginsAt, BeginsAt-prop};
 ghost use Rattle.regress_code.specs.NextBytes.{HaveNextBytes, HaveNextBytes-prop};
 ghost use Rattle.regress_code.specs.Possessive.{HavePossessive, HavePossessive-prop};
+ghost use Rattle.regress_code.specs.Rows.{HaveRows, HaveRows-prop};
 ghost use Rattle.regress_code.specs.Skips.{HaveSkips, HaveSkips-prop};
 
 use crate::analysis::{Analysis, analyze};
@@ -33,6 +34,7 @@ pub struct Code {
     ghost begins: { BeginsAt candidates (routines_of program) } by { BeginsAt-prop candidates (routines_of program) },
     ghost bounded: { HaveNextBytes folds (routines_of program) analyses.items } by { HaveNextBytes-prop folds (routines_of program) analyses.items },
     ghost counted: { HaveSkips program.routines.items analyses.items } by { HaveSkips-prop program.routines.items analyses.items },
+    ghost rowed: { HaveRows program.leaves.items program.routines.items analyses.items } by { HaveRows-prop program.leaves.items program.routines.items analyses.items },
     ghost excluded: { HavePossessive program.leaves.items program.routines.items analyses.items } by { HavePossessive-prop program.leaves.items program.routines.items analyses.items },
 }
 
@@ -42,7 +44,8 @@ impl Code {
     /// Compiles a pattern into a program of which at most `limit` instructions are stored, and analyzes it.
     ///
     /// # Complexity
-    /// That of [`Program::compile`], and linear in the size of the tree and the number of instructions.
+    /// That of [`Program::compile`], linear in the size of the tree and the number of instructions, and O(n log n)
+    /// comparisons of two strings for n alternatives that begin with strings.
     ///
     /// # Errors
     /// Those of [`Program::compile`].

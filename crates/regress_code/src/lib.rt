@@ -5,6 +5,7 @@ pub mod analysis;
 mod code;
 pub mod next_bytes;
 pub mod possessive;
+pub mod rows;
 pub mod skips;
 
 pub use code::Code;

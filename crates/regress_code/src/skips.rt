@@ -1,9 +1,10 @@
 //! How many choices in a row a run skips.
 ghost use Rattle.std.specs.Prelude.{◌≡◌, ◌≤◌, ◌<◌, ◌+◌, ◌-◌, ℕ, IfOk, IfSome, List, Some, false, get_or, slice_get};
 ghost use Rattle.regress_base.specs.ByteBitmap.{contains};
-ghost use Rattle.regress_code.specs.Skips.{AreCounts, AreSkips, IsPreferred};
+ghost use Rattle.regress_code.specs.Skips.{AreCounts, AreSkips, IsPreferred, counts_in};
 
 use crate::next_bytes::NextBytes;
+use crate::rows::Row;
 use regress_base::bytesearch::ByteBitmap;
 use regress_program::instruction::Instruction;
 use std::alloc::{AllocError, Global};
@@ -13,62 +14,96 @@ const TESTED: usize = 4;
 
 /// How many choices a run skips at once.
 #[derive(Drop)]
-pub struct Skip {
+pub enum Skip {
+    /// It is not known: the instruction is no choice, or is near the end of its row.
+    Unknown,
     /// For each byte next to the position, a number of choices: from the instruction on downwards, each of them is
-    /// between an alternative whose next bytes exclude the byte, and the instruction before it. It is empty for an
-    /// instruction that is no choice, or that is near the end of its row.
-    pub counts: Vec<u8>,
+    /// between an alternative whose next bytes exclude the byte, and the instruction before it.
+    Counts(Vec<u8>),
+    /// The choice is in the row with this index.
+    Row(usize),
 }
 
-/// Returns the skips of the instructions of a routine, by their next bytes.
+impl Skip {
+    ghost use Rattle.std.specs.Prelude.{◌≡◌};
+    ghost use Rattle.regress_code.specs.Skips.{counts_in};
+
+    /// Returns the counts, or none if there are none.
+    #[inline(always)]
+    pub fn counts(&self) -> &[u8]
+        ensures { result.now ≡ counts_in self.now }
+    {
+        match self {
+            Skip::Counts(counts) => counts,
+            _ => &[],
+        }
+    }
+}
+
+/// Returns the skips of the instructions of a routine, by their next bytes. The choices of the rows have no counts.
 ///
 /// # Errors
 /// Returns [`AllocError`] if an allocation fails.
 pub fn skips_of(
     alloc: Global,
     next_bytes: &[NextBytes],
+    rows: &[Row],
     instructions: &[Instruction],
 ) -> Result<Vec<Skip>, AllocError>
     ensures { IfOk result (λ skips. AreSkips skips.items next_bytes.now instructions.now) }
 {
     let mut skips = Vec::with_capacity(alloc, instructions.len())?;
-    let mut row = 0usize;
+    let mut choices = 0usize;
     for pc in 0..instructions.len() {
+        let row = row_with(rows, pc);
         let preferred = preferred_next_bytes(next_bytes, instructions[pc], pc);
-        row = if preferred.is_some() {
-            row.saturating_add(1)
+        choices = if row.is_none() && preferred.is_some() {
+            choices.saturating_add(1)
         } else {
             0
         };
-        let skip = skip_of(alloc, preferred, row, counts_before(&skips, pc))?;
+        let skip = skip_of(alloc, row, preferred, choices, counts_before(&skips, pc))?;
         skips.push(skip)?;
     }
     Ok(skips)
 }
 
-/// Returns the skip of an instruction, by the next bytes of its preferred alternative, the number of choices in
-/// its row up to it, and the counts of the instruction before it.
+/// Returns the index of the row that has the choice with the index `pc`, or `None` if there is none. The rows are in
+/// ascending order.
+fn row_with(rows: &[Row], pc: usize) -> Option<usize> {
+    let row = rows.partition_point(|row| row.lowest <= pc).checked_sub(1)?;
+    if rows[row].contains(pc) {
+        Some(row)
+    } else {
+        None
+    }
+}
+
+/// Returns the skip of an instruction, by the row that has it, the next bytes of its preferred alternative, the number of
+/// choices up to it that are in no row, and the counts of the instruction before it.
 ///
 /// # Errors
 /// Returns [`AllocError`] if an allocation fails.
 fn skip_of(
     alloc: Global,
+    row: Option<usize>,
     preferred: Option<ByteBitmap>,
-    row: usize,
+    choices: usize,
     before: &[u8],
 ) -> Result<Skip, AllocError>
     ensures { IfOk result (λ skip. (next_bytes : List NextBytes) (instructions : List Instruction) (pc : ℕ) →
         IfSome preferred (IsPreferred next_bytes pc (slice_get instructions pc)) →
-        AreCounts next_bytes instructions (pc - 1) before.now → AreCounts next_bytes instructions pc skip.counts.items) }
+        AreCounts next_bytes instructions (pc - 1) before.now → AreCounts next_bytes instructions pc (counts_in skip)) }
 {
+    if let Some(row) = row {
+        return Ok(Skip::Row(row));
+    }
     match preferred {
-        Some(set) if row > TESTED => {
+        Some(set) if choices > TESTED => {
             let counts = counts_of(alloc, &set, before)?;
-            Ok(Skip { counts })
+            Ok(Skip::Counts(counts))
         }
-        _ => Ok(Skip {
-            counts: Vec::new(alloc),
-        }),
+        _ => Ok(Skip::Unknown),
     }
 }
 
@@ -99,7 +134,7 @@ fn counts_before(skips: &[Skip], pc: usize) -> &[u8]
         AreCounts next_bytes instructions (pc - 1) result.now }
 {
     if pc > 0 && pc <= skips.len() {
-        &skips[pc - 1].counts
+        skips[pc - 1].counts()
     } else {
         &[]
     }

@@ -12,6 +12,7 @@ use Rattle.regress_code.specs.declared.analysis.Analysis.{Analysis}
 use Rattle.regress_code.specs.declared.next_bytes.Body.{Body}
 use Rattle.regress_code.specs.NextBytes.{AreNextBytes, AreNextBytesOf, Bounds, HaveNextBytes}
 use Rattle.regress_code.specs.Possessive.{ArePossessive, HavePossessive}
+use Rattle.regress_code.specs.Rows.{AreRows, HaveRows}
 use Rattle.regress_code.specs.Skips.{AreSkips, HaveSkips}
 use Rattle.regress_code.proofs.ListLemmas.{pushed}
 use Rattle.regress_code.proofs.NextBytesLemmas.{HaveBodies, entry_bounds, routine_bounds}
@@ -68,6 +69,13 @@ loop-routine-preserved c =
           (λ q is.
           subst (λ (x : declared.Routine). AreSkips one.skips.items one.next_bytes.items (listed x)) (same_Some r q (sym here ∙ is))
           c.in_ok-analysis.ensures.skips));
+      rows =
+          subst (HaveRows leaves routines) (sym c.in_ok-push-2.ensures.items)
+          (pushed (λ i (a : Analysis). (q : declared.Routine) → slice_get routines i ≡ Some q → AreRows a.rows.items leaves (listed q) q.backwards)
+          known one so_far.rows
+          (λ q is.
+          subst (λ (x : declared.Routine). AreRows one.rows.items leaves (listed x) x.backwards) (same_Some r q (sym here ∙ is))
+          (subst (λ xs. AreRows one.rows.items xs (listed r) r.backwards) c.deref.ensures.value c.in_ok-analysis.ensures.rows)));
       possessive =
           subst (HavePossessive leaves routines) (sym c.in_ok-push-2.ensures.items)
           (pushed

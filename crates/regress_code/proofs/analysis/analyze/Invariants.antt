@@ -3,6 +3,7 @@ use Rattle.std.proofs.Common.{◌≡◌, length}
 use Rattle.regress_program.specs.Search.{routines_of}
 use Rattle.regress_code.specs.NextBytes.{HaveNextBytes}
 use Rattle.regress_code.specs.Possessive.{HavePossessive}
+use Rattle.regress_code.specs.Rows.{HaveRows}
 use Rattle.regress_code.specs.Skips.{HaveSkips}
 use Rattle.regress_code.proofs.NextBytesLemmas.{HaveBodies}
 use Rattle.regress_code.proofs.analysis.analyze.Given as goal
@@ -14,5 +15,6 @@ invariant-loop-routine l = record {
   bodies : HaveBodies l.folds (routines_of l.program) l.bodies.items;
   next_bytes : HaveNextBytes l.folds (routines_of l.program) l.analyses.items;
   skips : HaveSkips l.program.routines.items l.analyses.items;
+  rows : HaveRows l.program.leaves.items l.program.routines.items l.analyses.items;
   possessive : HavePossessive l.program.leaves.items l.program.routines.items l.analyses.items;
 }

@@ -1,7 +1,7 @@
 use Rattle.std.proofs.Common.{IfSome, length, sym, ap, subst, arith}
 use Rattle.std.proofs.lemmas.List.{length_push}
 use Rattle.std.proofs.lemmas.Option.{slice_get-get_or}
-use Rattle.regress_code.specs.Skips.{AreCounts, AreSkips, IsPreferred}
+use Rattle.regress_code.specs.Skips.{AreCounts, AreSkips, IsPreferred, counts_in}
 use Rattle.regress_code.proofs.ListLemmas.{pushed}
 use Rattle.regress_code.proofs.skips.skips_of.Goals as goal
 
@@ -17,8 +17,8 @@ loop-pc-preserved c =
     record {
       count = omega (arith, ap length c.in_ok-push.ensures.items, length_push known skip, so_far.count);
       are = subst (λ ps. AreSkips ps next_bytes instructions) (sym c.in_ok-push.ensures.items)
-          (pushed (λ k p. AreCounts next_bytes instructions k p.counts.items) known skip so_far.are
-          (subst (λ k. AreCounts next_bytes instructions k skip.counts.items) (sym so_far.count)
+          (pushed (λ k p. AreCounts next_bytes instructions k (counts_in p)) known skip so_far.are
+          (subst (λ k. AreCounts next_bytes instructions k (counts_in skip)) (sym so_far.count)
           (c.in_ok-skip.ensures next_bytes instructions pc
           (subst (λ o. IfSome preferred (IsPreferred next_bytes pc o)) (sym (slice_get-get_or instructions pc _ c.loop-pc-test.true)) c.preferred_next_bytes-preferred.ensures)
           (c.counts_before.ensures next_bytes instructions (subst (λ ps. AreSkips ps next_bytes instructions) (sym c.deref.ensures.value) so_far.are)))));

@@ -1,0 +1,101 @@
+-- Leaves that begin with strings, and rows of choices between them.
+use Rattle.std.proofs.Common.{◌≡◌, ℕ, zero, suc, ◌+◌, ◌-◌, ◌≤◌, ◌<◌, ◌==◌, Bool, true, false, List, [], ◌∷◌, ◌++◌, All, drop, flat_map, get_or, length, map, IfOk, IfSome, Vec, Option, Some, None, slice_get, encode_utf8_all, encode_utf8, refl, sym, ap, ◌∙◌, subst, append-nil, append_assoc, arith, nat_eq}
+use mathlib.Core.Path.{fun_ext}
+use Rattle.std.specs.Char.{IsScalar}
+use Rattle.std.specs.Global.{Global}
+use Rattle.std.specs.Prelude.{Result, Ok, Err}
+use Rattle.std.specs.List.{starts_with}
+use Rattle.std.proofs.lemmas.List.{length-map, length_push, map-append}
+use Rattle.std.proofs.lemmas.List.Elements.{All-tail, All-head}
+use Rattle.regress_base.specs.Table.{denotes}
+use Rattle.regress_tree.specs.Matching.{steps}
+use Rattle.regress_tree.specs.Reading.{forwards, of_bytes}
+use Rattle.regress_tree.specs.References.{all_of, any_string}
+use Rattle.regress_tree.specs.Steps.{MatchState, Matcher, Setting, stay, these_bytes}
+use Rattle.regress_tree.specs.Tree.{Tree, byte_sequence, leaf, string_set}
+use Rattle.regress_tree.proofs.lemmas.ByteSequences.{these_bytes-none, these_bytes-append, these_bytes-one}
+use Rattle.regress_leaves.proofs.lemmas.Leaves.{any-cons, any-nil, bytes_forwards}
+use Rattle.regress_leaves.specs.declared.test.Test.{Test}
+use Rattle.regress_program.specs.declared.instruction.Instruction.{Instruction}
+use Rattle.regress_strings.specs.Contents.{contents}
+use Rattle.regress_strings.specs.Strings.{NoneStands, strings_of}
+use Rattle.regress_code.specs.declared.rows.Row.{Row}
+use Rattle.regress_code.specs.Rows.{AreChoices, BeginsWithString, IsBegun, IsPassed, first_leaf}
+use Rattle.regress_code.proofs.ListLemmas.{pushed}
+
+-- bytes
+pub bytes_begin : (string : List ℕ) → BeginsWithString string (leaf (byte_sequence string))
+bytes_begin string setting text s out = bytes_forwards text string s false out
+
+-- characters that are compared one by one match as their UTF-8
+characters-steps : (bytes string : List ℕ) → All IsScalar string → (s : MatchState) →
+    all_of forwards (of_bytes bytes) (λ c x. x == c) string s ≡ these_bytes forwards bytes (encode_utf8_all string) s
+characters-steps bytes [] scalars s = sym (these_bytes-none forwards bytes s)
+characters-steps bytes (c ∷ cs) scalars s =
+    ap (flat_map (all_of forwards (of_bytes bytes) (λ e x. x == e) cs)) (sym (these_bytes-one bytes c (All-head IsScalar c cs scalars) s))
+    ∙ ap (λ (f : Matcher). flat_map f (these_bytes forwards bytes (encode_utf8 c) s)) (fun_ext (characters-steps bytes cs (All-tail IsScalar c cs scalars)))
+    ∙ sym (these_bytes-append bytes (encode_utf8 c) (encode_utf8_all cs) s)
+
+-- one string that is compared as it is
+pub string_begins : (string : List ℕ) → All IsScalar string → BeginsWithString (encode_utf8_all string) (leaf (string_set (string ∷ []) false))
+string_begins string scalars setting text s out =
+    any-cons forwards (of_bytes text) (denotes setting.table false setting.flags.unicode) string [] s
+    ∙ ap (λ xs. xs ++ any_string forwards (of_bytes text) (denotes setting.table false setting.flags.unicode) [] s)
+    (characters-steps text string scalars s ∙ bytes_forwards text (encode_utf8_all string) s false out)
+    ∙ any-nil forwards (of_bytes text) (denotes setting.table false setting.flags.unicode) s
+
+-- ---- the strings of leaves
+
+pub sole : {X Y : Type 0} (f : X → Y) (xs : List X) (x : X) → length xs ≡ 1 → x ≡ get_or xs 0 x → map f xs ≡ f x ∷ []
+sole f [] x one is = let bad : ⊥ = omega (arith, one) in absurd bad
+sole f (y ∷ []) x one is = ap (λ z. f z ∷ []) (sym is)
+sole f (y ∷ z ∷ xs) x one is = let bad : ⊥ = omega (arith, one) in absurd bad
+
+pub encode-push : (cs : List ℕ) (c : ℕ) → encode_utf8_all (cs ++ c ∷ []) ≡ encode_utf8_all cs ++ encode_utf8 c
+encode-push [] c = append-nil (encode_utf8 c)
+encode-push (d ∷ cs) c = ap (λ bytes. encode_utf8 d ++ bytes) (encode-push cs c) ∙ sym (append_assoc (encode_utf8 d) (encode_utf8_all cs) (encode_utf8 c))
+
+-- what is encoded is the string of the leaf
+pub encoded_begins : {E : Type 0} (string : List ℕ) (t : Tree) → t ≡ leaf (string_set (string ∷ []) false) → (r : Result (Option (Vec ℕ Global)) E) →
+    IfOk r (λ found. IfSome found (λ bytes. All IsScalar string)) → IfOk r (λ found. IfSome found (λ bytes. bytes.items ≡ encode_utf8_all string)) →
+    IfOk r (λ found. IfSome found (λ bytes. BeginsWithString bytes.items t))
+encoded_begins string t is (Err e) scalars bytes = tt
+encoded_begins string t is (Ok None) scalars bytes = tt
+encoded_begins string t is (Ok (Some found)) scalars bytes =
+    subst (λ b. BeginsWithString b t) (sym bytes) (subst (BeginsWithString (encode_utf8_all string)) (sym is) (string_begins string scalars))
+
+-- ---- choices of a row that are passed
+
+found : {X : Type 0} (xs : List X) (k : ℕ) → k < length xs → (x : X) × (slice_get xs k ≡ Some x)
+found [] k lt = let bad : ⊥ = omega (arith, lt) in absurd bad
+found (x ∷ xs) zero lt = (x, refl)
+found (x ∷ xs) (suc k) lt = found xs k (omega (arith, lt))
+
+pub passed : (row : Row) (text : List ℕ) (position before low : ℕ) → NoneStands (strings_of row.strings) text position low before → (j : ℕ) →
+    row.lowest ≤ j → low ≤ j - row.lowest → j - row.lowest < before → j - row.lowest < length (strings_of row.strings) → IsPassed row text position j
+passed row text position before low none j from lower upper within =
+    let string = found (strings_of row.strings) (j - row.lowest) within in
+    record { from = from; string = string.0; is = string.1; fails = none (j - row.lowest) string.0 lower upper string.1 }
+
+-- ---- strings that are collected
+
+pub more_strings : (leaves : List Test) (instructions : List Instruction) (pc : ℕ) (strings new : List (Vec ℕ Global)) (string : Vec ℕ Global) →
+    new ≡ strings ++ string ∷ [] → length strings ≤ pc → AreChoices leaves instructions (pc - length strings) (contents strings) →
+    IsBegun string.items (first_leaf leaves instructions pc) →
+    (length new ≤ pc + 1) × AreChoices leaves instructions ((pc + 1) - length new) (contents new)
+more_strings leaves instructions pc strings new string is le are begun =
+    let count : length new ≡ length strings + 1 = ap length is ∙ length_push strings string in
+    let all : contents new ≡ contents strings ++ string.items ∷ [] = ap contents is ∙ map-append (λ (v : Vec ℕ Global). v.items) strings (string ∷ []) in
+    let same : length (contents strings) ≡ length strings = length-map strings (λ (v : Vec ℕ Global). v.items) in
+    (
+      omega (arith, count, le),
+      subst (AreChoices leaves instructions ((pc + 1) - length new)) (sym all)
+          (pushed (λ k s. IsBegun s (first_leaf leaves instructions (((pc + 1) - length new) + k))) (contents strings) string.items
+          (λ k s at. subst (λ j. IsBegun s (first_leaf leaves instructions j)) (omega (arith, count)) (are k s at))
+          (subst (λ j. IsBegun string.items (first_leaf leaves instructions j)) (omega (arith, count, same, le)) begun)),
+    )
+
+pub no_strings : (leaves : List Test) (instructions : List Instruction) (lowest : ℕ) (strings : List (Vec ℕ Global)) → strings ≡ [] →
+    AreChoices leaves instructions lowest (contents strings)
+no_strings leaves instructions lowest [] is = λ k string at. let bad : ⊥ = cc in absurd bad
+no_strings leaves instructions lowest (x ∷ xs) is = let bad : ⊥ = cc in absurd bad

@@ -1,0 +1,75 @@
+-- Rows of choices between alternatives that begin with strings.
+use Rattle.std.specs.Prelude.{◌≡◌, ℕ, ◌+◌, ◌-◌, ◌≤◌, ◌==◌, Bool, false, List, [], length, slice_get, Option, Some, None, option_and_then, if◌then◌else◌}
+use Rattle.std.proofs.Props.{props}
+use Rattle.regress_tree.specs.Matching.{steps}
+use Rattle.regress_tree.specs.Reading.{forwards}
+use Rattle.regress_tree.specs.Steps.{MatchState, Setting}
+use Rattle.regress_tree.specs.Tree.{Tree, tree}
+use Rattle.regress_strings.specs.Strings.{stands, strings_of}
+use Rattle.regress_leaves.specs.declared.test.Test.{Test}
+use Rattle.regress_program.specs.Listed.{listed}
+use Rattle.regress_program.specs.declared.instruction.Instruction.{Instruction}
+use Rattle.regress_program.specs.declared.instruction.Instruction.TheVariants as insts
+use Rattle.regress_program.specs.declared.instruction.Routine as declared
+use Rattle.regress_code.specs.declared.analysis.Analysis.{Analysis}
+use Rattle.regress_code.specs.declared.rows.Row.{Row}
+
+-- In the forward direction the tree has no outcome at a position where the string does not stand.
+abbrev pub BeginsWithString : (string : List ℕ) → Tree → Type 0
+BeginsWithString string t = (setting : Setting) (text : List ℕ) (s : MatchState) → stands text s.position string ≡ false →
+    steps setting text forwards t s ≡ []
+
+-- the preferred alternative of a choice with the index `pc`, if the other one is the instruction before the choice
+abbrev pub preferred : (pc : ℕ) → Option Instruction → Option ℕ
+preferred pc (Some (insts.Split first second)) = if second + 1 == pc then Some first else None
+preferred pc i = None
+
+-- the leaf that an instruction matches
+abbrev pub leaf_of : List Test → Option Instruction → Option Test
+leaf_of leaves (Some (insts.Leaf leaf next)) = slice_get leaves leaf
+leaf_of leaves i = None
+
+-- the leaf with which the preferred alternative of such a choice begins
+abbrev pub first_leaf : List Test → List Instruction → (pc : ℕ) → Option Test
+first_leaf leaves instructions pc =
+    option_and_then (λ first. leaf_of leaves (slice_get instructions first)) (preferred pc (slice_get instructions pc))
+
+-- There is such a leaf, and it begins with the string.
+abbrev pub IsBegun : (string : List ℕ) → Option Test → Type 0
+IsBegun string None = ⊥
+IsBegun string (Some test) = BeginsWithString string (tree test.node)
+
+-- From the index `lowest` on there is a choice for each string, whose preferred alternative begins with a leaf that begins
+-- with the string, and whose other one is the instruction before it.
+abbrev pub AreChoices : List Test → List Instruction → (lowest : ℕ) → List (List ℕ) → Type 0
+AreChoices leaves instructions lowest strings = (k : ℕ) (string : List ℕ) → slice_get strings k ≡ Some string →
+    IsBegun string (first_leaf leaves instructions (lowest + k))
+
+-- The instructions match forwards, and the row has such choices.
+pub record IsRow (leaves : List Test) (instructions : List Instruction) (backwards : Bool) (row : Row) : Type 0 where
+  pub forwards : backwards ≡ false
+  pub choices : AreChoices leaves instructions row.lowest (strings_of row.strings)
+
+-- These are rows of the instructions.
+abbrev pub AreRows : List Row → List Test → List Instruction → (backwards : Bool) → Type 0
+AreRows rows leaves instructions backwards = (i : ℕ) (row : Row) → slice_get rows i ≡ Some row → IsRow leaves instructions backwards row
+
+-- The instruction with the index `pc` is a choice of the row, and its string does not stand in the text at the position.
+pub record IsPassed (row : Row) (text : List ℕ) (position pc : ℕ) : Type 0 where
+  pub from : row.lowest ≤ pc
+  pub string : List ℕ
+  pub is : slice_get (strings_of row.strings) (pc - row.lowest) ≡ Some string
+  pub fails : stands text position string ≡ false
+
+-- Each routine has its rows.
+abbrev pub HaveRows : List Test → List declared.Routine → List Analysis → Type 0
+HaveRows leaves routines analyses = (i : ℕ) (a : Analysis) → slice_get analyses i ≡ Some a → (r : declared.Routine) → slice_get routines i ≡ Some r →
+    AreRows a.rows.items leaves (listed r) r.backwards
+
+IsBegun-prop : (string : List ℕ) (o : Option Test) → IsProp (IsBegun string o)
+IsBegun-prop string None = hlevel props
+IsBegun-prop string (Some test) = hlevel props
+
+-- The property has at most one proof.
+pub HaveRows-prop : (leaves : List Test) (routines : List declared.Routine) (analyses : List Analysis) → IsProp (HaveRows leaves routines analyses)
+HaveRows-prop leaves routines analyses = hlevel (props, IsBegun-prop)
