@@ -7,6 +7,7 @@ pub mod PossessiveLemmas
 pub mod SkipLemmas
 pub mod StepLemmas
 pub mod RunLemmas
+pub mod RowLemmas
 pub mod SearchLemmas
 pub mod SweepLemmas
 pub mod LeadLemmas

@@ -1,5 +1,5 @@
 //! Alternatives, and the iterations of loops.
-ghost use Rattle.std.specs.Prelude.{◌≡◌, ◌≤◌, ◌<◌, ◌+◌, ◌++◌, ◌∷◌, ℕ, All, IfErr, IfOk, IfSome, false, flat_map, length, slice_get, Some, true};
+ghost use Rattle.std.specs.Prelude.{◌≡◌, ◌≤◌, ◌<◌, ◌+◌, ◌++◌, ◌∷◌, ℕ, All, IfErr, IfOk, IfSome, false, flat_map, length, true};
 ghost use Rattle.regress_program.specs.Cost.{Cost};
 ghost use Rattle.regress_program.specs.Program.{Out, either};
 ghost use Rattle.regress_backtrack.specs.Costs.{HasCost, cost_ahead, points_cost};
@@ -10,7 +10,6 @@ ghost use Rattle.regress_backtrack.specs.Next.{Fails, Inside, IsInput, Leads, So
 ghost use Rattle.regress_code.specs.Skips.{AreSkipped, IsBeside};
 ghost use Rattle.regress_tree.specs.Reading.{direction_if};
 ghost use Rattle.regress_backtrack.specs.declared.step.Next.TheVariants.{OutOfSteps};
-ghost use Rattle.regress_program.specs.declared.instruction.Instruction.TheVariants.{Split};
 
 use crate::input::{Input, choice_at, counts_at, next_bytes_at, row_at};
 use crate::machine::{Machine, Place};
@@ -28,71 +27,6 @@ pub struct Looping {
     pub body: usize,
     /// What follows the loop.
     pub next: usize,
-}
-
-/// Goes on at the first alternative of the choice `here`, and at the second one after a failure. Choices between strings
-/// that are in a row are left out up to the next one whose string stands here.
-///
-/// # Preconditions
-/// The choice is inside the routine, and the position is inside the text.
-///
-/// # Errors
-/// Returns [`MemoryFault`] if an allocation fails, or if the stack would need more room than the input allows.
-#[inline(always)]
-pub fn choose(
-    input: &Input<'_, '_>,
-    here: Place,
-    first: Place,
-    second: Place,
-    machine: &mut Machine,
-) -> Result<Next, MemoryFault>
-    requires input { IsInput input.now }
-    requires pc { here.pc < length (instructions_in input.now) }
-    requires position { here.position ≤ length input.now.text.now }
-    requires choice { slice_get (instructions_in input.now) here.pc ≡ Some (Split first.pc second.pc) }
-    requires goes_on { (first ≡ record here { pc = first.pc }) × (second ≡ record here { pc = second.pc }) }
-    requires first { Inside input.now (at first (groups_of machine.old)) }
-    requires second { Inside input.now (at second (groups_of machine.old)) }
-    ensures leads { IfOk result (λ next. (outs : ℕ → Out) → Solve input.now outs → (let out = outs input.now.index in
-        Leads ((out (at first (groups_of machine.old)) ++ out (at second (groups_of machine.old))) ++ flat_map out (points machine.old))
-        out machine.new next)) }
-    ensures inside { IfOk result (λ next. All (Inside input.now) (points machine.old) → All (Inside input.now) (ahead machine.new next)) }
-    ensures rewound { IfOk result (λ _. rewound machine.new ≡ rewound machine.old) }
-    ensures costs { IfOk result (λ next. (outs : ℕ → Out) (costs : ℕ → Cost) → HasCost input.now outs costs → (let cost = costs input.now.index in
-        cost_ahead cost machine.new next ≤ (cost (at first (groups_of machine.old)) + cost (at second (groups_of machine.old)))
-        + points_cost cost machine.old)) }
-    ensures goes { IfOk result (λ next. next ≡ OutOfSteps → ⊥) }
-    ensures grows { IfOk result (λ _. entry_count machine.new ≤ entry_count machine.old + 1) }
-    ensures within { AreWithin input.now.room machine.old → AreWithin input.now.room machine.new }
-    ensures too_much { IfErr result (λ fault. fault ≡ TooMuchMemory → input.now.room ≤ entry_count machine.old) }
-{
-    if !input.rows.is_empty() {
-        if let Some(other) = next_in_row(input, here) {
-            return Ok(on(input, Place { pc: other, ..here }));
-        }
-    }
-    fork(input, first, second, machine)
-}
-
-/// Returns the next choice below a choice in a row of choices between strings whose string stands here, or the instruction
-/// below the row, if there is none. Returns `None` if the choice is in no row, or if its own string stands here.
-///
-/// # Preconditions
-/// The place is inside the routine and the text.
-#[inline(never)]
-fn next_in_row(input: &Input<'_, '_>, place: Place) -> Option<usize>
-    requires input { IsInput input.now }
-    requires pc { place.pc < length (instructions_in input.now) }
-    requires position { place.position ≤ length input.now.text.now }
-    ensures earlier { IfSome result (λ other. other < place.pc) }
-    ensures same { IfSome result (λ other. (outs : ℕ → Out) (g : Groups) → Solve input.now outs →
-        outs input.now.index (at (record place { pc = other }) g) ≡ outs input.now.index (at place g)) }
-    ensures costs { IfSome result (λ other. (outs : ℕ → Out) (costs : ℕ → Cost) (g : Groups) → HasCost input.now outs costs →
-        costs input.now.index (at (record place { pc = other }) g) < costs input.now.index (at place g)) }
-{
-    let row = row_at(input, place.pc)?;
-    let next = row.next_choice(input.text.as_bytes(), place.position, place.pc);
-    if next < place.pc { Some(next) } else { None }
 }
 
 /// Goes on at the first place, and at the second one after a failure. A place that is known to fail is left out.
@@ -214,6 +148,50 @@ fn on(input: &Input<'_, '_>, place: Place) -> Next
     }
 }
 
+/// Returns the next instruction from a place downwards that has the same outcomes: in a row of choices between strings the
+/// next choice whose string stands at the position, or the instruction below the row, if there is none.
+///
+/// # Preconditions
+/// The place is inside the routine and the text.
+#[inline(always)]
+pub fn next_choice(input: &Input<'_, '_>, place: Place) -> usize
+    requires input { IsInput input.now }
+    requires pc { place.pc < length (instructions_in input.now) }
+    requires position { place.position ≤ length input.now.text.now }
+    ensures within { result ≤ place.pc }
+    ensures same { (outs : ℕ → Out) (g : Groups) → Solve input.now outs →
+        outs input.now.index (at (record place { pc = result }) g) ≡ outs input.now.index (at place g) }
+    ensures costs { (outs : ℕ → Out) (costs : ℕ → Cost) (g : Groups) → HasCost input.now outs costs →
+        costs input.now.index (at (record place { pc = result }) g) ≤ costs input.now.index (at place g) }
+{
+    if input.rows.is_empty() {
+        place.pc
+    } else {
+        next_in_row(input, place)
+    }
+}
+
+/// Returns the same as [`next_choice`], for a routine with rows.
+///
+/// # Preconditions
+/// The place is inside the routine and the text.
+#[inline(never)]
+fn next_in_row(input: &Input<'_, '_>, place: Place) -> usize
+    requires input { IsInput input.now }
+    requires pc { place.pc < length (instructions_in input.now) }
+    requires position { place.position ≤ length input.now.text.now }
+    ensures within { result ≤ place.pc }
+    ensures same { (outs : ℕ → Out) (g : Groups) → Solve input.now outs →
+        outs input.now.index (at (record place { pc = result }) g) ≡ outs input.now.index (at place g) }
+    ensures costs { (outs : ℕ → Out) (costs : ℕ → Cost) (g : Groups) → HasCost input.now outs costs →
+        costs input.now.index (at (record place { pc = result }) g) ≤ costs input.now.index (at place g) }
+{
+    match row_at(input, place.pc) {
+        Some(row) => row.next_choice(input.text.as_bytes(), place.position, place.pc),
+        None => place.pc,
+    }
+}
+
 /// Skips the choices at a place whose preferred alternatives are known to fail.
 ///
 /// # Preconditions
@@ -237,8 +215,8 @@ pub fn skip(input: &Input<'_, '_>, place: Place) -> Place
 }
 
 /// Returns an instruction before a choice that has the same outcomes as the choice, since the preferred alternatives up
-/// to it are known to fail by the byte next to the position. There is none for a choice in a row of choices between strings:
-/// [`choose`] finds the next one.
+/// to it are known to fail by the byte next to the position. For a choice in a row of choices between strings there is none:
+/// [`next_choice`] finds the next one.
 ///
 /// # Preconditions
 /// The place is inside the routine and the text.

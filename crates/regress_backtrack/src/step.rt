@@ -21,7 +21,7 @@ ghost use Rattle.regress_program.specs.Views.{characters_of, op_in, part_of};
 ghost use Rattle.regress_backtrack.specs.Next.{CanStep, Inside, IsInput, Leads, Solve, ahead, is_look};
 ghost use Rattle.regress_backtrack.specs.declared.step.Next.TheVariants.{Back, On, OutOfSteps};
 
-use crate::alternatives::{Looping, choose, iterate};
+use crate::alternatives::{Looping, fork, iterate};
 use crate::boundary::boundary_end;
 use crate::input::{Input, test_at};
 use crate::machine::{Machine, Place};
@@ -97,7 +97,7 @@ pub fn step(
             Ok(match_characters(input, leaf, count, next, here, remaining))
         }
         Instruction::Split { first, second } => {
-            choose(input, here, goto(first, here), goto(second, here), machine)
+            fork(input, goto(first, here), goto(second, here), machine)
         }
         Instruction::BeginLoop { greedy, body, next } => {
             iterate(
