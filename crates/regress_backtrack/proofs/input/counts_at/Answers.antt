@@ -1,5 +1,5 @@
-use Rattle.std.proofs.Common.{refl, sym, subst}
-use Rattle.std.proofs.lemmas.Option.{slice_get_read}
+use Rattle.std.proofs.Common.{sym, subst}
+use Rattle.std.proofs.lemmas.Option.{slice_get-get_or}
 use Rattle.regress_code.specs.Skips.{AreCounts}
 use Rattle.regress_backtrack.specs.Next.{instructions_in}
 use Rattle.regress_backtrack.proofs.input.counts_at.Goals as goal
@@ -8,4 +8,4 @@ pub returns-then-pc-input : goal.returns-then-pc-input
 returns-then-pc-input c =
     let input = c.args.input.now in
     subst (AreCounts input.next_bytes.now (instructions_in input) c.args.pc) (sym c.counts.ensures)
-    (c.requires.skips c.args.pc _ (slice_get_read input.skips.now _ c.args.pc _ refl c.if-pc-input.true c.index.ensures))
+    (c.requires.skips c.args.pc _ (slice_get-get_or input.skips.now c.args.pc _ c.if-pc-input.true))

@@ -13,7 +13,7 @@ use Rattle.regress_program.specs.Views.{op_in}
 use Rattle.regress_backtrack.specs.Machine.{Groups, at, changes_of, groups_of, points, rewound}
 use Rattle.regress_backtrack.specs.declared.run.Response.TheVariants as responses
 use Rattle.regress_backtrack.specs.Memory.{IsStackWithin, entry_count}
-use Rattle.regress_backtrack.specs.Next.{Inside}
+use Rattle.regress_backtrack.specs.Next.{Inside, Leads}
 use Rattle.regress_backtrack.specs.Run.{IsResponseOf}
 use Rattle.regress_backtrack.proofs.CostLemmas.{costed}
 use Rattle.regress_backtrack.proofs.MachineLemmas.{left-lookaround, rewound-none}
@@ -23,8 +23,47 @@ use Rattle.regress_backtrack.proofs.run.+run.Goals as goal
 
 -- ---- one instruction
 
-pub advance-look-requires : goal.advance-look-requires
-advance-look-requires t c =
+-- ---- in a row of choices
+
+pub advance-returns-clause-leads : goal.advance-returns-clause-leads
+advance-returns-clause-leads t c =
+    let input = c.args.input.now in
+    let m = c.args.machine.now in
+    ok_map c.advance_at.result _ _
+    (λ next leads. λ outs solve.
+    subst (λ states. Leads (states ++ flat_map (outs input.index) (points m)) (outs input.index) c.advance_at.new.machine next)
+    (c.next_choice-next.ensures.same outs (groups_of m) solve) (leads outs solve))
+    c.advance_at.ensures.leads
+
+pub advance-returns-clause-costs : goal.advance-returns-clause-costs
+advance-returns-clause-costs t c =
+    ok_map c.advance_at.result _ _
+    (λ next less. λ outs costs has.
+    let taken = less outs costs has in
+    let most = c.next_choice-next.ensures.costs outs costs (groups_of c.args.machine.now) has in
+    omega (arith, taken, most))
+    c.advance_at.ensures.costs
+
+pub advance-returns-clause-grows : goal.advance-returns-clause-grows
+advance-returns-clause-grows t c =
+    ok_map c.advance_at.result _ _
+    (λ next grows. λ outs costs has.
+    let grown = grows outs costs has in
+    let most = c.next_choice-next.ensures.costs outs costs (groups_of c.args.machine.now) has in
+    omega (arith, grown, most))
+    c.advance_at.ensures.grows
+
+pub advance-returns-clause-too_much : goal.advance-returns-clause-too_much
+advance-returns-clause-too_much t c =
+    err_map c.advance_at.result _ _
+    (λ fault much. λ is. λ outs costs has.
+    let full = much is outs costs has in
+    let most = c.next_choice-next.ensures.costs outs costs (groups_of c.args.machine.now) has in
+    omega (arith, full, most))
+    c.advance_at.ensures.too_much
+
+pub advance_at-look-requires : goal.advance_at-look-requires
+advance_at-look-requires t c =
     let input = c.args.input.now in
     let i = c.instruction_at-instruction.result in
     let read = c.instruction_at-instruction.ensures in
@@ -34,8 +73,8 @@ advance-look-requires t c =
       (c.requires.program, (c.requires.input, (fits.0, c.requires.inside))),
     )
 
-pub advance-step-requires : goal.advance-step-requires
-advance-step-requires t c =
+pub advance_at-step-requires : goal.advance_at-step-requires
+advance_at-step-requires t c =
     let input = c.args.input.now in
     let i = c.instruction_at-instruction.result in
     let read = c.instruction_at-instruction.ensures in
@@ -45,8 +84,8 @@ advance-step-requires t c =
       no_look = not_look input.code.now.program.leaves.items i c.in_default.not-Look;
     }
 
-pub advance-returns-in-Look-clause-leads : goal.advance-returns-in-Look-clause-leads
-advance-returns-in-Look-clause-leads t c =
+pub advance_at-returns-in-Look-clause-leads : goal.advance_at-returns-in-Look-clause-leads
+advance_at-returns-in-Look-clause-leads t c =
     let input = c.args.input.now in
     let u = subject input.rules input.text.now in
     let m = c.args.machine.now in
@@ -61,8 +100,8 @@ advance-returns-in-Look-clause-leads t c =
     (outs input.index) o (at c.args.here (groups_of m))) next) (sym (ap (op_in input.code.now.program.leaves.items) c.in-Look.is)) (leads outs (outs input.index) solution)))
     c.look.ensures.leads
 
-pub advance-returns-in-Look-clause-inside : goal.advance-returns-in-Look-clause-inside
-advance-returns-in-Look-clause-inside t c =
+pub advance_at-returns-in-Look-clause-inside : goal.advance_at-returns-in-Look-clause-inside
+advance_at-returns-in-Look-clause-inside t c =
     let input = c.args.input.now in
     let i = c.instruction_at-instruction.result in
     let read = c.instruction_at-instruction.ensures in
@@ -70,8 +109,8 @@ advance-returns-in-Look-clause-inside t c =
     let fits = look_fits input i c.args.here c.in-Look.negate c.in-Look.routine c.in-Look.next c.in-Look.is can in
     ok_map c.look.result _ _ (λ next inside. inside fits.1) c.look.ensures.inside
 
-pub advance-returns-in_default : goal.advance-returns-in_default
-advance-returns-in_default t c =
+pub advance_at-returns-in_default : goal.advance_at-returns-in_default
+advance_at-returns-in_default t c =
     let input = c.args.input.now in
     let u = subject input.rules input.text.now in
     let m = c.args.machine.now in
@@ -353,8 +392,8 @@ run-returns-clause-undo t c = c.loop-remaining.invariant.undo
 
 -- ---- the cost
 
-pub advance-returns-in-Look-clause-costs : goal.advance-returns-in-Look-clause-costs
-advance-returns-in-Look-clause-costs t c =
+pub advance_at-returns-in-Look-clause-costs : goal.advance_at-returns-in-Look-clause-costs
+advance_at-returns-in-Look-clause-costs t c =
     let input = c.args.input.now in
     let m = c.args.machine.now in
     let p = c.args.here in
@@ -431,8 +470,8 @@ run-returns-clause-costs t c = λ outs costs has.
 
 -- ---- the entries
 
-pub advance-returns-in-Look-clause-grows : goal.advance-returns-in-Look-clause-grows
-advance-returns-in-Look-clause-grows t c =
+pub advance_at-returns-in-Look-clause-grows : goal.advance_at-returns-in-Look-clause-grows
+advance_at-returns-in-Look-clause-grows t c =
     let input = c.args.input.now in
     let m = c.args.machine.now in
     let p = c.args.here in
@@ -446,8 +485,8 @@ advance-returns-in-Look-clause-grows t c =
     omega (arith, here, is, all))
     c.look.ensures.grows
 
-pub advance-returns-in-Look-clause-too_much : goal.advance-returns-in-Look-clause-too_much
-advance-returns-in-Look-clause-too_much t c =
+pub advance_at-returns-in-Look-clause-too_much : goal.advance_at-returns-in-Look-clause-too_much
+advance_at-returns-in-Look-clause-too_much t c =
     let input = c.args.input.now in
     let m = c.args.machine.now in
     let p = c.args.here in

@@ -13,13 +13,16 @@ use Rattle.regress_backtrack.specs.Next.{Inside}
 use Rattle.regress_backtrack.proofs.run.+run.Given as goal
 
 abbrev pub decreases-run : goal.decreases-run
-decreases-run l = 3 * l.input.now.index + 2
+decreases-run l = 4 * l.input.now.index + 3
 
 abbrev pub decreases-advance : goal.decreases-advance
-decreases-advance l = 3 * l.input.now.index + 1
+decreases-advance l = 4 * l.input.now.index + 2
+
+abbrev pub decreases-advance_at : goal.decreases-advance_at
+decreases-advance_at l = 4 * l.input.now.index + 1
 
 abbrev pub decreases-look : goal.decreases-look
-decreases-look l = 3 * l.looking.routine + 3
+decreases-look l = 4 * l.looking.routine + 4
 
 abbrev pub invariant-run-loop-remaining : goal.invariant-run-loop-remaining
 invariant-run-loop-remaining l = record {
