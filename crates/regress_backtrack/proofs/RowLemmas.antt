@@ -8,7 +8,7 @@ use Rattle.regress_program.specs.Program.{Out, goto, reach}
 use Rattle.regress_program.specs.Views.{leaf_tree}
 use Rattle.regress_program.specs.declared.instruction.Instruction.{Instruction}
 use Rattle.regress_program.specs.declared.instruction.Instruction.TheVariants as insts
-use Rattle.regress_strings.specs.Strings.{stands, strings_of}
+use Rattle.regress_strings.specs.Strings.{occurs_at, strings_of}
 use Rattle.regress_tree.specs.Matching.{steps}
 use Rattle.regress_tree.specs.Reading.{direction_if}
 use Rattle.regress_tree.specs.Steps.{MatchState}
@@ -110,7 +110,7 @@ module _ (input : Input) (is : IsInput input) (p : Place) (row : Row)
   abbrev leaves : List Test
   leaves = input.code.now.program.leaves.items
 
-  -- the choice with the index `pc`, whose string does not stand there
+  -- the choice with the index `pc`, whose string does not occur there
   choice_at : (pc : ℕ) → (passed : IsPassed row input.text.now p.position pc) → Choice leaves (instructions_in input) pc passed.string
   choice_at pc passed =
       let number : row.lowest + (pc - row.lowest) ≡ pc = omega (arith, passed.from) in
@@ -122,7 +122,7 @@ module _ (input : Input) (is : IsInput input) (p : Place) (row : Row)
     outs_from pc = outs input.index (at (record p { pc = pc }) g)
 
     -- its preferred alternative has no outcome
-    first_fails : (pc : ℕ) (string : List ℕ) (choice : Choice leaves (instructions_in input) pc string) → stands input.text.now p.position string ≡ false →
+    first_fails : (pc : ℕ) (string : List ℕ) (choice : Choice leaves (instructions_in input) pc string) → occurs_at input.text.now p.position string ≡ false →
         outs_from choice.first ≡ []
     first_fails pc string choice out =
         let u = subject input.rules input.text.now in

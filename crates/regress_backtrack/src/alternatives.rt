@@ -149,7 +149,7 @@ fn on(input: &Input<'_, '_>, place: Place) -> Next
 }
 
 /// Returns the next instruction from a place downwards that has the same outcomes: in a row of choices between strings the
-/// next choice whose string stands at the position, or the instruction below the row, if there is none.
+/// next choice whose string occurs at the position, or the instruction below the row, if there is none.
 ///
 /// # Preconditions
 /// The place is inside the routine and the text.

@@ -18,7 +18,7 @@ use Rattle.regress_leaves.proofs.lemmas.Leaves.{any-cons, any-nil, bytes_forward
 use Rattle.regress_leaves.specs.declared.test.Test.{Test}
 use Rattle.regress_program.specs.declared.instruction.Instruction.{Instruction}
 use Rattle.regress_strings.specs.Contents.{contents}
-use Rattle.regress_strings.specs.Strings.{NoneStands, strings_of}
+use Rattle.regress_strings.specs.Strings.{NoneOccurs, strings_of}
 use Rattle.regress_code.specs.declared.rows.Row.{Row}
 use Rattle.regress_code.specs.Rows.{AreChoices, BeginsWithString, IsBegun, IsPassed, first_leaf}
 use Rattle.regress_code.proofs.ListLemmas.{pushed}
@@ -71,7 +71,7 @@ found [] k lt = let bad : ⊥ = omega (arith, lt) in absurd bad
 found (x ∷ xs) zero lt = (x, refl)
 found (x ∷ xs) (suc k) lt = found xs k (omega (arith, lt))
 
-pub passed : (row : Row) (text : List ℕ) (position before low : ℕ) → NoneStands (strings_of row.strings) text position low before → (j : ℕ) →
+pub passed : (row : Row) (text : List ℕ) (position before low : ℕ) → NoneOccurs (strings_of row.strings) text position low before → (j : ℕ) →
     row.lowest ≤ j → low ≤ j - row.lowest → j - row.lowest < before → j - row.lowest < length (strings_of row.strings) → IsPassed row text position j
 passed row text position before low none j from lower upper within =
     let string = found (strings_of row.strings) (j - row.lowest) within in

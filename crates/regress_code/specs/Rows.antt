@@ -5,7 +5,7 @@ use Rattle.regress_tree.specs.Matching.{steps}
 use Rattle.regress_tree.specs.Reading.{forwards}
 use Rattle.regress_tree.specs.Steps.{MatchState, Setting}
 use Rattle.regress_tree.specs.Tree.{Tree, tree}
-use Rattle.regress_strings.specs.Strings.{stands, strings_of}
+use Rattle.regress_strings.specs.Strings.{occurs_at, strings_of}
 use Rattle.regress_leaves.specs.declared.test.Test.{Test}
 use Rattle.regress_program.specs.Listed.{listed}
 use Rattle.regress_program.specs.declared.instruction.Instruction.{Instruction}
@@ -14,9 +14,9 @@ use Rattle.regress_program.specs.declared.instruction.Routine as declared
 use Rattle.regress_code.specs.declared.analysis.Analysis.{Analysis}
 use Rattle.regress_code.specs.declared.rows.Row.{Row}
 
--- In the forward direction the tree has no outcome at a position where the string does not stand.
+-- In the forward direction the tree has no outcome at a position where the string does not occur.
 abbrev pub BeginsWithString : (string : List ℕ) → Tree → Type 0
-BeginsWithString string t = (setting : Setting) (text : List ℕ) (s : MatchState) → stands text s.position string ≡ false →
+BeginsWithString string t = (setting : Setting) (text : List ℕ) (s : MatchState) → occurs_at text s.position string ≡ false →
     steps setting text forwards t s ≡ []
 
 -- the preferred alternative of a choice with the index `pc`, if the other one is the instruction before the choice
@@ -54,12 +54,12 @@ pub record IsRow (leaves : List Test) (instructions : List Instruction) (backwar
 abbrev pub AreRows : List Row → List Test → List Instruction → (backwards : Bool) → Type 0
 AreRows rows leaves instructions backwards = (i : ℕ) (row : Row) → slice_get rows i ≡ Some row → IsRow leaves instructions backwards row
 
--- The instruction with the index `pc` is a choice of the row, and its string does not stand in the text at the position.
+-- The instruction with the index `pc` is a choice of the row, and its string does not occur in the text at the position.
 pub record IsPassed (row : Row) (text : List ℕ) (position pc : ℕ) : Type 0 where
   pub from : row.lowest ≤ pc
   pub string : List ℕ
   pub is : slice_get (strings_of row.strings) (pc - row.lowest) ≡ Some string
-  pub fails : stands text position string ≡ false
+  pub fails : occurs_at text position string ≡ false
 
 -- Each routine has its rows.
 abbrev pub HaveRows : List Test → List declared.Routine → List Analysis → Type 0

@@ -1,4 +1,4 @@
-//! Rows of choices between strings, among which a run finds the next one that stands at its position.
+//! Rows of choices between strings, among which a run finds the next one that occurs at its position.
 ghost use Rattle.std.specs.Prelude.{◌≡◌, ◌≤◌, ◌-◌, All, IfOk, IfSome, List, Some, encode_utf8_all, false, length};
 ghost use Rattle.std.specs.Char.{IsScalar};
 ghost use Rattle.regress_strings.specs.Contents.{contents};
@@ -33,7 +33,7 @@ impl Row {
         pc >= self.lowest && pc - self.lowest < self.strings.len()
     }
 
-    /// Returns the next choice of the row, from the instruction with the index `pc` downwards, whose string stands in the
+    /// Returns the next choice of the row, from the instruction with the index `pc` downwards, whose string occurs in the
     /// text at a position; or the instruction below the row, if there is none. If `pc` is no choice of the row, it is `pc`.
     ///
     /// # Preconditions
