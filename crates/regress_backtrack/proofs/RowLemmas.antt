@@ -8,7 +8,7 @@ use Rattle.regress_program.specs.Program.{Out, goto, reach}
 use Rattle.regress_program.specs.Views.{leaf_tree}
 use Rattle.regress_program.specs.declared.instruction.Instruction.{Instruction}
 use Rattle.regress_program.specs.declared.instruction.Instruction.TheVariants as insts
-use Rattle.regress_strings.specs.Strings.{occurs_at, strings_of}
+use Rattle.regress_strings.specs.Strings.{occurs_at}
 use Rattle.regress_tree.specs.Matching.{steps}
 use Rattle.regress_tree.specs.Reading.{direction_if}
 use Rattle.regress_tree.specs.Steps.{MatchState}

@@ -1,17 +1,15 @@
 -- Leaves that begin with strings, and rows of choices between them.
-use Rattle.std.proofs.Common.{◌≡◌, ℕ, zero, suc, ◌+◌, ◌-◌, ◌≤◌, ◌<◌, ◌==◌, Bool, true, false, List, [], ◌∷◌, ◌++◌, All, drop, flat_map, get_or, length, map, IfOk, IfSome, Vec, Option, Some, None, slice_get, encode_utf8_all, encode_utf8, refl, sym, ap, ◌∙◌, subst, append-nil, append_assoc, arith, nat_eq}
+use Rattle.std.proofs.Common.{◌≡◌, ℕ, zero, suc, ◌+◌, ◌-◌, ◌≤◌, ◌<◌, ◌==◌, false, List, [], ◌∷◌, ◌++◌, All, flat_map, get_or, length, map, IfOk, IfSome, Vec, Option, Some, None, slice_get, encode_utf8_all, encode_utf8, refl, sym, ap, ◌∙◌, subst, append-nil, append_assoc, arith}
 use mathlib.Core.Path.{fun_ext}
 use Rattle.std.specs.Char.{IsScalar}
 use Rattle.std.specs.Global.{Global}
 use Rattle.std.specs.Prelude.{Result, Ok, Err}
-use Rattle.std.specs.List.{starts_with}
 use Rattle.std.proofs.lemmas.List.{length-map, length_push, map-append}
 use Rattle.std.proofs.lemmas.List.Elements.{All-tail, All-head}
 use Rattle.regress_base.specs.Table.{denotes}
-use Rattle.regress_tree.specs.Matching.{steps}
 use Rattle.regress_tree.specs.Reading.{forwards, of_bytes}
 use Rattle.regress_tree.specs.References.{all_of, any_string}
-use Rattle.regress_tree.specs.Steps.{MatchState, Matcher, Setting, stay, these_bytes}
+use Rattle.regress_tree.specs.Steps.{MatchState, Matcher, these_bytes}
 use Rattle.regress_tree.specs.Tree.{Tree, byte_sequence, leaf, string_set}
 use Rattle.regress_tree.proofs.lemmas.ByteSequences.{these_bytes-none, these_bytes-append, these_bytes-one}
 use Rattle.regress_leaves.proofs.lemmas.Leaves.{any-cons, any-nil, bytes_forwards}
@@ -86,8 +84,7 @@ pub more_strings : (leaves : List Test) (instructions : List Instruction) (pc : 
 more_strings leaves instructions pc strings new string is le are begun =
     let count : length new ≡ length strings + 1 = ap length is ∙ length_push strings string in
     let all : contents new ≡ contents strings ++ string.items ∷ [] = ap contents is ∙ map-append (λ (v : Vec ℕ Global). v.items) strings (string ∷ []) in
-    let same : length (contents strings) ≡ length strings = length-map strings (λ (v : Vec ℕ Global). v.items) in
-    (
+    let same : length (contents strings) ≡ length strings = length-map strings (λ (v : Vec ℕ Global). v.items) in (
       omega (arith, count, le),
       subst (AreChoices leaves instructions ((pc + 1) - length new)) (sym all)
           (pushed (λ k s. IsBegun s (first_leaf leaves instructions (((pc + 1) - length new) + k))) (contents strings) string.items

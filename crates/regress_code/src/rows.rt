@@ -147,11 +147,7 @@ fn string_of_choice(
 
 /// Returns the leaf with which the preferred alternative of a choice begins, if the instruction with the index `pc` is a
 /// choice between it and the instruction before.
-fn first_leaf<'l>(
-    leaves: &'l [Test],
-    instructions: &[Instruction],
-    pc: usize,
-) -> Option<&'l Test>
+fn first_leaf<'l>(leaves: &'l [Test], instructions: &[Instruction], pc: usize) -> Option<&'l Test>
     ensures { IfSome result (λ test. first_leaf leaves.now instructions.now pc ≡ Some test.now) }
 {
     let Instruction::Split { first, second } = *instructions.get(pc)? else {

@@ -1,4 +1,4 @@
-use Rattle.std.proofs.Common.{◌≡◌, ◌≤◌, ◌<◌, ℕ, sym, subst}
+use Rattle.std.proofs.Common.{subst}
 use Rattle.regress_code.specs.Rows.{IsPassed}
 use Rattle.regress_backtrack.proofs.RowLemmas.{passed_cost, same_passed}
 use Rattle.regress_backtrack.proofs.alternatives.next_in_row.Goals as goal

@@ -1,4 +1,4 @@
-use Rattle.std.proofs.Common.{◌≡◌, ◌+◌, ◌++◌, ◌∷◌, [], All, encode_utf8_all, take, sym, ap, ap₂, ◌∙◌, subst}
+use Rattle.std.proofs.Common.{◌++◌, All, encode_utf8_all, take, sym, ap, ap₂, ◌∙◌, subst}
 use Rattle.std.proofs.lemmas.List.{take_more}
 use Rattle.std.proofs.lemmas.List.Elements.{All-push}
 use Rattle.std.specs.Char.{IsScalar, encode_utf8}

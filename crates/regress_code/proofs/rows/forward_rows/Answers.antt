@@ -1,4 +1,4 @@
-use Rattle.std.proofs.Common.{◌≡◌, ◌≤◌, ◌-◌, IfSome, [], false, length, sym, ap, ◌∙◌, subst, arith}
+use Rattle.std.proofs.Common.{◌≡◌, ◌-◌, IfSome, [], false, length, sym, ap, ◌∙◌, subst, arith}
 use Rattle.regress_strings.specs.Contents.{contents}
 use Rattle.regress_code.specs.Rows.{AreChoices, AreRows, IsBegun, first_leaf}
 use Rattle.regress_code.proofs.RowLemmas.{more_strings, no_strings}
@@ -11,23 +11,24 @@ loop-pc-preserved c =
     let instructions = c.args.instructions.now in
     let so_far = c.loop-pc.invariant in
     elim c.match-branch-2.branch [
-    in-Some+in_ok-push-in-Some w ↦
-        let more = more_strings leaves instructions c.loop-pc.pc c.loop-pc.strings.items c.match-branch-2.strings.items w.in-Some.string
-        (ap (λ v. v.items) w.strings-is ∙ w.in_ok-push-in-Some.ensures.items) so_far.few so_far.begun
-        (subst (λ o. IfSome o (λ string. IsBegun string.items (first_leaf leaves instructions c.loop-pc.pc))) w.in-Some.is c.in_ok-string.ensures) in
-        record {
-          rows = subst (λ r. AreRows r.items leaves instructions false) (sym w.rows-is) so_far.rows;
-          few = more.0;
-          begun = more.1;
-        }
-    | in-None+in_ok-push_row-in-None w ↦
-        let none : c.match-branch-2.strings.items ≡ [] = ap (λ v. v.items) w.strings-is ∙ w.new-strings-in-None.ensures.items in
-        let count = ap length none in
-        record {
-          rows = subst (λ r. AreRows r.items leaves instructions false) (sym w.rows-is) (w.in_ok-push_row-in-None.ensures leaves instructions so_far.rows so_far.begun);
-          few = omega (arith, count);
-          begun = no_strings leaves instructions _ c.match-branch-2.strings.items none;
-        } ]
+      | in-Some+in_ok-push-in-Some w ↦
+          let more = more_strings leaves instructions c.loop-pc.pc c.loop-pc.strings.items c.match-branch-2.strings.items w.in-Some.string
+          (ap (λ v. v.items) w.strings-is ∙ w.in_ok-push-in-Some.ensures.items) so_far.few so_far.begun
+          (subst (λ o. IfSome o (λ string. IsBegun string.items (first_leaf leaves instructions c.loop-pc.pc))) w.in-Some.is c.in_ok-string.ensures) in
+          record {
+            rows = subst (λ r. AreRows r.items leaves instructions false) (sym w.rows-is) so_far.rows;
+            few = more.0;
+            begun = more.1;
+          }
+      | in-None+in_ok-push_row-in-None w ↦
+          let none : c.match-branch-2.strings.items ≡ [] = ap (λ v. v.items) w.strings-is ∙ w.new-strings-in-None.ensures.items in
+          let count = ap length none in
+          record {
+            rows = subst (λ r. AreRows r.items leaves instructions false) (sym w.rows-is) (w.in_ok-push_row-in-None.ensures leaves instructions so_far.rows so_far.begun);
+            few = omega (arith, count);
+            begun = no_strings leaves instructions _ c.match-branch-2.strings.items none;
+          }
+    ]
 
 pub returns : goal.returns
 returns c =

@@ -1,4 +1,4 @@
-use Rattle.std.proofs.Common.{rules, ◌≡◌, ◌-◌, false, length, Some, slice_get, refl, sym, ap, ◌∙◌, subst, arith}
+use Rattle.std.proofs.Common.{rules, ◌≡◌, ◌-◌, false, length, refl, sym, subst}
 use Rattle.regress_strings.specs.Contents.{contents}
 use Rattle.regress_code.specs.declared.rows.Row.{Row}
 use Rattle.regress_code.specs.Rows.{AreChoices, AreRows, IsRow}

@@ -1,10 +1,9 @@
-use Rattle.std.proofs.Common.{rules, ◌≡◌, ◌⊎◌, [], ◌∷◌, All, IfOk, IfSome, false, map, encode_utf8_all, sym, ap, ◌∙◌, subst, arith}
+use Rattle.std.proofs.Common.{rules, ◌≡◌, [], ◌∷◌, false, map, sym, ap, ◌∙◌, subst, arith}
 use Rattle.std.specs.Box.{boxed_slice_items}
-use Rattle.std.specs.Char.{IsScalar}
 use Rattle.regress_tree.specs.Tree.{leaf, string_set, byte_sequence, tree}
 use Rattle.regress_tree.specs.declared.ir.node.Node.{the_lemmas}
 use Rattle.regress_code.specs.Rows.{BeginsWithString}
-use Rattle.regress_code.proofs.RowLemmas.{bytes_begin, encoded_begins, sole, string_begins}
+use Rattle.regress_code.proofs.RowLemmas.{bytes_begin, encoded_begins, sole}
 use Rattle.regress_code.proofs.rows.string_of.Goals as goal
 
 pub returns-in_ok-from_slice-in-ByteSequence : goal.returns-in_ok-from_slice-in-ByteSequence
