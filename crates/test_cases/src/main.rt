@@ -13,7 +13,6 @@
 //! above, except 5, a line on standard error says so.
 #![tactic(auto)]
 
-mod alphabets;
 mod generated;
 mod instructions;
 mod linear;

@@ -1,6 +1,5 @@
 //! The result of a test case.
 
-use crate::alphabets::report_alphabet;
 use crate::generated::parts_of_large;
 use crate::instructions::report_limits;
 use crate::matching::match_difference;
@@ -85,7 +84,6 @@ fn make(call: &mut Call, name: &str, tables: &Arc<Tables>) {
         return;
     }
     match name {
-        "alphabet" => report_alphabet(call),
         "out_of_memory" => want(call),
         "mutate" => parse_all_torn(call, tables),
         "errors" => errors(call),

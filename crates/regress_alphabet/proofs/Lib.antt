@@ -1,3 +1,0 @@
-pub mod PieceLemmas
-pub mod ProductLemmas
-pub mod SetLemmas

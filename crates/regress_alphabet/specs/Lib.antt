@@ -1,3 +1,0 @@
-pub mod Alphabet
-pub mod Partition
-pub mod Pieces
