@@ -18,8 +18,8 @@ use regress_front::parse::{
 };
 use regress_front::types::Flags;
 use regress_front::unicode::{
-    FoldRange, Tables, add_icase_code_points, add_uppercase_code_points, expand_code_point, fold,
-    unfold_char, uppercase,
+    FoldRange, Tables, add_icase_code_points, add_uppercase_code_points, are_caseless,
+    expand_code_point, fold, fold_keeps_caseless, unfold_char, uppercase, uppercase_keeps_caseless,
 };
 use regress_front::util::code_points;
 use regress_properties::general_category;
@@ -160,6 +160,20 @@ fn the_example_of_the_whole_table_holds(rt: HostRuntime) -> Result<(), Fail> {
         Some(greek) => assert!(rt; greek.contains(0x3B1)),
         None => assert!(rt; false, "Unicode has this script"),
     }
+    Ok(())
+}
+
+#[test]
+fn characters_without_case_have_no_other_case(rt: HostRuntime) -> Result<(), Fail> {
+    let alloc = rt.alloc();
+    let small = Tables::small(alloc)?;
+    assert!(rt; fold_keeps_caseless(&small));
+    assert!(rt; uppercase_keeps_caseless(&small));
+    let whole = unicode_tables(alloc)?;
+    assert!(rt; fold_keeps_caseless(&whole));
+    assert!(rt; uppercase_keeps_caseless(&whole));
+    assert!(rt; are_caseless(&[0x31, 0xFE0F, 0x20E3]));
+    assert!(rt; !are_caseless(&[0x24C2, 0xFE0F]));
     Ok(())
 }
 
