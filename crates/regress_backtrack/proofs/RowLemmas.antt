@@ -1,4 +1,4 @@
--- Choices of a row whose strings do not stand at a position.
+-- Choices of a row whose strings do not occur at a position.
 use Rattle.std.proofs.Common.{◌≡◌, ℕ, zero, suc, ◌+◌, ◌-◌, ◌≤◌, ◌<◌, ◌==◌, Bool, true, false, List, [], ◌++◌, flat_map, length, Option, Some, None, option_and_then, slice_get, if◌then◌else◌, refl, sym, ap, ◌∙◌, subst, arith}
 use Rattle.std.proofs.lemmas.Option.{slice_get_within}
 use Rattle.regress_leaves.specs.Subject.{subject}
