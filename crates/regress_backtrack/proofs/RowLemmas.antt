@@ -14,6 +14,7 @@ use Rattle.regress_tree.specs.Reading.{direction_if}
 use Rattle.regress_tree.specs.Steps.{MatchState}
 use Rattle.regress_tree.specs.Tree.{tree}
 use Rattle.regress_code.specs.declared.rows.Row.{Row}
+use Rattle.regress_code.specs.NextBytes.{FoldsIf}
 use Rattle.regress_code.specs.Rows.{BeginsWithString, IsBegun, IsPassed, IsRow, first_leaf, leaf_of, preferred}
 use Rattle.regress_backtrack.specs.Costs.{HasCost}
 use Rattle.regress_backtrack.specs.declared.input.Input.{Input}
@@ -24,7 +25,7 @@ use Rattle.regress_backtrack.proofs.CostLemmas.{costed}
 use Rattle.regress_backtrack.proofs.RunLemmas.{solved}
 
 -- a choice between an alternative that begins with a string, and the instruction before the choice, with what it names
-record Choice (leaves : List Test) (instructions : List Instruction) (pc : ℕ) (string : List ℕ) : Type 0 where
+record Choice (folds : Bool) (leaves : List Test) (instructions : List Instruction) (pc : ℕ) (string : List ℕ) : Type 0 where
   first : ℕ
   leaf : ℕ
   next : ℕ
@@ -33,7 +34,7 @@ record Choice (leaves : List Test) (instructions : List Instruction) (pc : ℕ) 
   is : slice_get instructions pc ≡ Some (insts.Split first (pc - 1))
   is_first : slice_get instructions first ≡ Some (insts.Leaf leaf next)
   is_test : slice_get leaves leaf ≡ Some test
-  begins : BeginsWithString string (tree test.node)
+  begins : BeginsWithString folds string (tree test.node)
 
 same_number : (a b : ℕ) → (a == b) ≡ true → a ≡ b
 same_number a b is = grind arith
@@ -78,18 +79,19 @@ leaf_is leaves test (Some (insts.BeginGroup next)) is = let bad : ⊥ = cc in ab
 leaf_is leaves test (Some (insts.EndGroup id next)) is = let bad : ⊥ = cc in absurd bad
 leaf_is leaves test (Some (insts.Look negate routine next)) is = let bad : ⊥ = cc in absurd bad
 
-begun_is : (string : List ℕ) (o : Option Test) → IsBegun string o → (test : Test) × ((o ≡ Some test) × BeginsWithString string (tree test.node))
-begun_is string None begun = absurd begun
-begun_is string (Some test) begun = (test, (refl, begun))
+begun_is : (folds : Bool) (string : List ℕ) (o : Option Test) → IsBegun folds string o →
+    (test : Test) × ((o ≡ Some test) × BeginsWithString folds string (tree test.node))
+begun_is folds string None begun = absurd begun
+begun_is folds string (Some test) begun = (test, (refl, begun))
 
 then_is : {X Y : Type 0} (f : X → Option Y) (y : Y) (o : Option X) → option_and_then f o ≡ Some y → (x : X) × ((o ≡ Some x) × (f x ≡ Some y))
 then_is f y None is = let bad : ⊥ = cc in absurd bad
 then_is f y (Some x) is = (x, (refl, is))
 
-choice_by : (leaves : List Test) (instructions : List Instruction) (pc : ℕ) (string : List ℕ) → IsBegun string (first_leaf leaves instructions pc) →
-    Choice leaves instructions pc string
-choice_by leaves instructions pc string begun =
-    let test = begun_is string (first_leaf leaves instructions pc) begun in
+choice_by : (folds : Bool) (leaves : List Test) (instructions : List Instruction) (pc : ℕ) (string : List ℕ) → IsBegun folds string (first_leaf leaves instructions pc) →
+    Choice folds leaves instructions pc string
+choice_by folds leaves instructions pc string begun =
+    let test = begun_is folds string (first_leaf leaves instructions pc) begun in
     let first = then_is (λ k. leaf_of leaves (slice_get instructions k)) test.0 (preferred pc (slice_get instructions pc)) test.1.0 in
     let split = preferred_is pc first.0 (slice_get instructions pc) first.1.0 in
     let leaf = leaf_is leaves test.0 (slice_get instructions first.0) first.1.1 in
@@ -106,23 +108,24 @@ choice_by leaves instructions pc string begun =
     }
 
 module _ (input : Input) (is : IsInput input) (p : Place) (row : Row)
-    (in_row : IsRow input.code.now.program.leaves.items (instructions_in input) input.rules.backwards row) (le : p.position ≤ length input.text.now) (g : Groups) where
+    (in_row : IsRow input.code.now.folds input.code.now.program.leaves.items (instructions_in input) input.rules.backwards row)
+    (folded : FoldsIf input.code.now.folds (subject input.rules input.text.now).setting) (le : p.position ≤ length input.text.now) (g : Groups) where
   abbrev leaves : List Test
   leaves = input.code.now.program.leaves.items
 
   -- the choice with the index `pc`, whose string does not occur there
-  choice_at : (pc : ℕ) → (passed : IsPassed row input.text.now p.position pc) → Choice leaves (instructions_in input) pc passed.string
+  choice_at : (pc : ℕ) → (passed : IsPassed row input.text.now p.position pc) → Choice input.code.now.folds leaves (instructions_in input) pc passed.string
   choice_at pc passed =
       let number : row.lowest + (pc - row.lowest) ≡ pc = omega (arith, passed.from) in
-      choice_by leaves (instructions_in input) pc passed.string
-      (subst (λ k. IsBegun passed.string (first_leaf leaves (instructions_in input) k)) number (in_row.choices (pc - row.lowest) passed.string passed.is))
+      choice_by input.code.now.folds leaves (instructions_in input) pc passed.string
+      (subst (λ k. IsBegun input.code.now.folds passed.string (first_leaf leaves (instructions_in input) k)) number (in_row.choices (pc - row.lowest) passed.string passed.is))
 
   module _ (outs : ℕ → Out) (solve : Solve input outs) where
     abbrev outs_from : ℕ → List MatchState
     outs_from pc = outs input.index (at (record p { pc = pc }) g)
 
     -- its preferred alternative has no outcome
-    first_fails : (pc : ℕ) (string : List ℕ) (choice : Choice leaves (instructions_in input) pc string) → occurs_at input.text.now p.position string ≡ false →
+    first_fails : (pc : ℕ) (string : List ℕ) (choice : Choice input.code.now.folds leaves (instructions_in input) pc string) → occurs_at input.text.now p.position string ≡ false →
         outs_from choice.first ≡ []
     first_fails pc string choice out =
         let u = subject input.rules input.text.now in
@@ -133,7 +136,7 @@ module _ (input : Input) (is : IsInput input) (p : Place) (row : Row)
         solved input is here i (slice_get_within (instructions_in input) choice.first i choice.is_first) choice.is_first u.setting u.bytes outs u.direction g solve is.direction le
         ∙ ap (λ o. rest (steps u.setting u.bytes u.direction (leaf_tree o) a.state)) choice.is_test
         ∙ ap (λ b. rest (steps u.setting u.bytes (direction_if b) (tree choice.test.node) a.state)) in_row.forwards
-        ∙ ap rest (choice.begins u.setting u.bytes a.state out)
+        ∙ ap rest (choice.begins u.setting folded u.bytes a.state out)
 
     one_passed : (pc : ℕ) → IsPassed row input.text.now p.position pc → outs_from (pc - 1) ≡ outs_from pc
     one_passed pc passed =

@@ -8,7 +8,7 @@ use Rattle.regress_program.specs.Program.{At, IsSolution, Op, look, Out, Routine
 use Rattle.regress_program.specs.Shape.{Fits}
 use Rattle.regress_leaves.specs.Subject.{subject}
 use Rattle.regress_code.specs.Code.{code_routines}
-use Rattle.regress_code.specs.NextBytes.{AreNextBytes}
+use Rattle.regress_code.specs.NextBytes.{AreNextBytes, FoldsIf}
 use Rattle.regress_code.specs.Possessive.{ArePossessive}
 use Rattle.regress_code.specs.Rows.{AreRows}
 use Rattle.regress_code.specs.Skips.{AreSkips}
@@ -57,7 +57,8 @@ pub record IsInput (input : Input) : Type 0 where
   pub leading : Begins input.leading.now (instructions_in input)
   pub next_bytes : (outs : ℕ → Out) → Solve input outs → AreNextBytes input.next_bytes.now routine.direction input.text.now (outs input.index)
   pub skips : AreSkips input.skips.now input.next_bytes.now (instructions_in input)
-  pub rows : AreRows input.rows.now input.code.now.program.leaves.items (instructions_in input) input.rules.backwards
+  pub rows : AreRows input.code.now.folds input.rows.now input.code.now.program.leaves.items (instructions_in input) input.rules.backwards
+  pub folds : 0 < length input.rows.now → FoldsIf input.code.now.folds (subject input.rules input.text.now).setting
   pub possessive : ArePossessive input.possessive.now input.next_bytes.now input.code.now.program.leaves.items (instructions_in input)
 
 -- A run is at this instruction.

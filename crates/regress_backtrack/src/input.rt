@@ -375,7 +375,8 @@ pub fn counts_at<'c>(input: &Input<'c, '_>, pc: usize) -> &'c [u8]
 #[inline(always)]
 pub(crate) fn row_at<'c>(input: &Input<'c, '_>, pc: usize) -> Option<&'c Row>
     requires { IsInput input.now }
-    ensures { IfSome result (λ row. IsRow input.now.code.now.program.leaves.items (instructions_in input.now) input.now.rules.backwards row.now) }
+    ensures row { IfSome result (λ row. IsRow input.now.code.now.folds input.now.code.now.program.leaves.items (instructions_in input.now) input.now.rules.backwards row.now) }
+    ensures folds { IfSome result (λ row. FoldsIf input.now.code.now.folds (subject input.now.rules input.now.text.now).setting) }
 {
     if pc >= input.skips.len() {
         return None;

@@ -25,27 +25,27 @@ module _ (first all : List Instruction) (begins : Begins first all) where
   is_first next_bytes b pc (Some i) read skipped = slice_get_within first pc i read
 
   -- a leaf with which a choice among them begins
-  same_leaf : (leaves : List Test) (string : List ℕ) (pc : ℕ) (o : Option Instruction) → slice_get first pc ≡ o → IsBegun string (leaf_of leaves o) →
+  same_leaf : (folds : Bool) (leaves : List Test) (string : List ℕ) (pc : ℕ) (o : Option Instruction) → slice_get first pc ≡ o → IsBegun folds string (leaf_of leaves o) →
       o ≡ slice_get all pc
-  same_leaf leaves string pc None read begun = absurd begun
-  same_leaf leaves string pc (Some i) read begun = sym read ∙ sym (begins.same pc (slice_get_within first pc i read))
+  same_leaf folds leaves string pc None read begun = absurd begun
+  same_leaf folds leaves string pc (Some i) read begun = sym read ∙ sym (begins.same pc (slice_get_within first pc i read))
 
-  same_from : (leaves : List Test) (string : List ℕ) (o : Option ℕ) →
-      IsBegun string (option_and_then (λ k. leaf_of leaves (slice_get first k)) o) →
+  same_from : (folds : Bool) (leaves : List Test) (string : List ℕ) (o : Option ℕ) →
+      IsBegun folds string (option_and_then (λ k. leaf_of leaves (slice_get first k)) o) →
       option_and_then (λ k. leaf_of leaves (slice_get first k)) o ≡ option_and_then (λ k. leaf_of leaves (slice_get all k)) o
-  same_from leaves string None begun = absurd begun
-  same_from leaves string (Some k) begun = ap (leaf_of leaves) (same_leaf leaves string k (slice_get first k) refl begun)
+  same_from folds leaves string None begun = absurd begun
+  same_from folds leaves string (Some k) begun = ap (leaf_of leaves) (same_leaf folds leaves string k (slice_get first k) refl begun)
 
-  same_choice : (leaves : List Test) (string : List ℕ) (pc : ℕ) (o : Option Instruction) → slice_get first pc ≡ o →
-      IsBegun string (option_and_then (λ k. leaf_of leaves (slice_get first k)) (preferred pc o)) → o ≡ slice_get all pc
-  same_choice leaves string pc None read begun = absurd begun
-  same_choice leaves string pc (Some i) read begun = sym read ∙ sym (begins.same pc (slice_get_within first pc i read))
+  same_choice : (folds : Bool) (leaves : List Test) (string : List ℕ) (pc : ℕ) (o : Option Instruction) → slice_get first pc ≡ o →
+      IsBegun folds string (option_and_then (λ k. leaf_of leaves (slice_get first k)) (preferred pc o)) → o ≡ slice_get all pc
+  same_choice folds leaves string pc None read begun = absurd begun
+  same_choice folds leaves string pc (Some i) read begun = sym read ∙ sym (begins.same pc (slice_get_within first pc i read))
 
-  same_first_leaf : (leaves : List Test) (pc : ℕ) (string : List ℕ) → IsBegun string (first_leaf leaves first pc) →
+  same_first_leaf : (folds : Bool) (leaves : List Test) (pc : ℕ) (string : List ℕ) → IsBegun folds string (first_leaf leaves first pc) →
       first_leaf leaves first pc ≡ first_leaf leaves all pc
-  same_first_leaf leaves pc string begun =
-      same_from leaves string (preferred pc (slice_get first pc)) begun
-      ∙ ap (λ o. option_and_then (λ k. leaf_of leaves (slice_get all k)) (preferred pc o)) (same_choice leaves string pc (slice_get first pc) refl begun)
+  same_first_leaf folds leaves pc string begun =
+      same_from folds leaves string (preferred pc (slice_get first pc)) begun
+      ∙ ap (λ o. option_and_then (λ k. leaf_of leaves (slice_get all k)) (preferred pc o)) (same_choice folds leaves string pc (slice_get first pc) refl begun)
 
   -- the next bytes
   pub all_next_bytes : (folds : Bool) (bodies : List Body) (next_bytes : List NextBytes) (d : Direction) (leaves : List Test) →
@@ -67,12 +67,12 @@ module _ (first all : List Instruction) (begins : Begins first all) where
       (sym (begins.same (pc - j) (is_first next_bytes b (pc - j) (slice_get first (pc - j)) refl skipped))) skipped
 
   -- the rows
-  pub all_rows : (rows : List Row) (leaves : List Test) (backwards : Bool) → AreRows rows leaves first backwards → AreRows rows leaves all backwards
-  all_rows rows leaves backwards are = λ i row is.
+  pub all_rows : (folds : Bool) (rows : List Row) (leaves : List Test) (backwards : Bool) → AreRows folds rows leaves first backwards → AreRows folds rows leaves all backwards
+  all_rows folds rows leaves backwards are = λ i row is.
       let one = are i row is in
       record {
         forwards = one.forwards;
-        choices = λ k string at. subst (IsBegun string) (same_first_leaf leaves (row.lowest + k) string (one.choices k string at)) (one.choices k string at);
+        choices = λ k string at. subst (IsBegun folds string) (same_first_leaf folds leaves (row.lowest + k) string (one.choices k string at)) (one.choices k string at);
       }
 
   -- the loops that are possessive

@@ -43,7 +43,7 @@ abbrev pub AreBodies : List Body → (text : List ℕ) → (body_of : ℕ → Ma
 AreBodies bodies text body_of = (i : ℕ) (body : Body) → slice_get bodies i ≡ Some body →
     (s : MatchState) → Bounds body.next_byte (direction_if body.backwards) text s.position (body_of i s)
 
--- With `folds`, canonical forms of ASCII characters are those of ASCII.
+-- With `folds`, canonical forms of ASCII characters are those of ASCII, and characters without case have theirs alone.
 abbrev pub FoldsIf : (folds : Bool) → Setting → Type 0
 FoldsIf folds setting = folds ≡ true → HasAsciiCase setting
 

@@ -13,11 +13,12 @@ use Rattle.regress_program.specs.declared.instruction.Instruction.TheVariants as
 use Rattle.regress_program.specs.declared.instruction.Routine as declared
 use Rattle.regress_code.specs.declared.analysis.Analysis.{Analysis}
 use Rattle.regress_code.specs.declared.rows.Row.{Row}
+use Rattle.regress_code.specs.NextBytes.{FoldsIf}
 
 -- In the forward direction the tree has no outcome at a position where the string does not occur.
-abbrev pub BeginsWithString : (string : List ℕ) → Tree → Type 0
-BeginsWithString string t = (setting : Setting) (text : List ℕ) (s : MatchState) → occurs_at text s.position string ≡ false →
-    steps setting text forwards t s ≡ []
+abbrev pub BeginsWithString : (folds : Bool) → (string : List ℕ) → Tree → Type 0
+BeginsWithString folds string t = (setting : Setting) → FoldsIf folds setting → (text : List ℕ) (s : MatchState) →
+    occurs_at text s.position string ≡ false → steps setting text forwards t s ≡ []
 
 -- the preferred alternative of a choice with the index `pc`, if the other one is the instruction before the choice
 abbrev pub preferred : (pc : ℕ) → Option Instruction → Option ℕ
@@ -35,24 +36,24 @@ first_leaf leaves instructions pc =
     option_and_then (λ first. leaf_of leaves (slice_get instructions first)) (preferred pc (slice_get instructions pc))
 
 -- There is such a leaf, and it begins with the string.
-abbrev pub IsBegun : (string : List ℕ) → Option Test → Type 0
-IsBegun string None = ⊥
-IsBegun string (Some test) = BeginsWithString string (tree test.node)
+abbrev pub IsBegun : (folds : Bool) → (string : List ℕ) → Option Test → Type 0
+IsBegun folds string None = ⊥
+IsBegun folds string (Some test) = BeginsWithString folds string (tree test.node)
 
 -- From the index `lowest` on there is a choice for each string, whose preferred alternative begins with a leaf that begins
 -- with the string, and whose other one is the instruction before it.
-abbrev pub AreChoices : List Test → List Instruction → (lowest : ℕ) → List (List ℕ) → Type 0
-AreChoices leaves instructions lowest strings = (k : ℕ) (string : List ℕ) → slice_get strings k ≡ Some string →
-    IsBegun string (first_leaf leaves instructions (lowest + k))
+abbrev pub AreChoices : (folds : Bool) → List Test → List Instruction → (lowest : ℕ) → List (List ℕ) → Type 0
+AreChoices folds leaves instructions lowest strings = (k : ℕ) (string : List ℕ) → slice_get strings k ≡ Some string →
+    IsBegun folds string (first_leaf leaves instructions (lowest + k))
 
 -- The instructions match forwards, and the row has such choices.
-pub record IsRow (leaves : List Test) (instructions : List Instruction) (backwards : Bool) (row : Row) : Type 0 where
+pub record IsRow (folds : Bool) (leaves : List Test) (instructions : List Instruction) (backwards : Bool) (row : Row) : Type 0 where
   pub forwards : backwards ≡ false
-  pub choices : AreChoices leaves instructions row.lowest (strings_of row.strings)
+  pub choices : AreChoices folds leaves instructions row.lowest (strings_of row.strings)
 
 -- These are rows of the instructions.
-abbrev pub AreRows : List Row → List Test → List Instruction → (backwards : Bool) → Type 0
-AreRows rows leaves instructions backwards = (i : ℕ) (row : Row) → slice_get rows i ≡ Some row → IsRow leaves instructions backwards row
+abbrev pub AreRows : (folds : Bool) → List Row → List Test → List Instruction → (backwards : Bool) → Type 0
+AreRows folds rows leaves instructions backwards = (i : ℕ) (row : Row) → slice_get rows i ≡ Some row → IsRow folds leaves instructions backwards row
 
 -- The instruction with the index `pc` is a choice of the row, and its string does not occur in the text at the position.
 pub record IsPassed (row : Row) (text : List ℕ) (position pc : ℕ) : Type 0 where
@@ -62,14 +63,14 @@ pub record IsPassed (row : Row) (text : List ℕ) (position pc : ℕ) : Type 0 w
   pub fails : occurs_at text position string ≡ false
 
 -- Each routine has its rows.
-abbrev pub HaveRows : List Test → List declared.Routine → List Analysis → Type 0
-HaveRows leaves routines analyses = (i : ℕ) (a : Analysis) → slice_get analyses i ≡ Some a → (r : declared.Routine) → slice_get routines i ≡ Some r →
-    AreRows a.rows.items leaves (listed r) r.backwards
+abbrev pub HaveRows : (folds : Bool) → List Test → List declared.Routine → List Analysis → Type 0
+HaveRows folds leaves routines analyses = (i : ℕ) (a : Analysis) → slice_get analyses i ≡ Some a → (r : declared.Routine) → slice_get routines i ≡ Some r →
+    AreRows folds a.rows.items leaves (listed r) r.backwards
 
-IsBegun-prop : (string : List ℕ) (o : Option Test) → IsProp (IsBegun string o)
-IsBegun-prop string None = hlevel props
-IsBegun-prop string (Some test) = hlevel props
+IsBegun-prop : (folds : Bool) (string : List ℕ) (o : Option Test) → IsProp (IsBegun folds string o)
+IsBegun-prop folds string None = hlevel props
+IsBegun-prop folds string (Some test) = hlevel props
 
 -- The property has at most one proof.
-pub HaveRows-prop : (leaves : List Test) (routines : List declared.Routine) (analyses : List Analysis) → IsProp (HaveRows leaves routines analyses)
-HaveRows-prop leaves routines analyses = hlevel (props, IsBegun-prop)
+pub HaveRows-prop : (folds : Bool) (leaves : List Test) (routines : List declared.Routine) (analyses : List Analysis) → IsProp (HaveRows folds leaves routines analyses)
+HaveRows-prop folds leaves routines analyses = hlevel (props, IsBegun-prop)

@@ -44,7 +44,7 @@ pub(crate) fn analyze(
 ) -> Result<Vec<Analysis>, AllocError>
     ensures next_bytes { IfOk result (λ analyses. HaveNextBytes folds (routines_of program.now) analyses.items) }
     ensures skips { IfOk result (λ analyses. HaveSkips program.now.routines.items analyses.items) }
-    ensures rows { IfOk result (λ analyses. HaveRows program.now.leaves.items program.now.routines.items analyses.items) }
+    ensures rows { IfOk result (λ analyses. HaveRows folds program.now.leaves.items program.now.routines.items analyses.items) }
     ensures possessive { IfOk result (λ analyses. HavePossessive program.now.leaves.items program.now.routines.items analyses.items) }
 {
     let mut analyses = Vec::with_capacity(alloc, program.routines.len())?;
@@ -82,7 +82,7 @@ fn analyze_routine(
 ) -> Result<Analysis, AllocError>
     ensures next_bytes { IfOk result (λ a. AreNextBytesOf folds bodies.now a.next_bytes.items (direction_if routine.now.backwards) (ops_in leaves.now (listed routine.now))) }
     ensures skips { IfOk result (λ a. AreSkips a.skips.items a.next_bytes.items (listed routine.now)) }
-    ensures rows { IfOk result (λ a. AreRows a.rows.items leaves.now (listed routine.now) routine.now.backwards) }
+    ensures rows { IfOk result (λ a. AreRows folds a.rows.items leaves.now (listed routine.now) routine.now.backwards) }
     ensures possessive { IfOk result (λ a. ArePossessive a.possessive.items a.next_bytes.items leaves.now (listed routine.now)) }
 {
     let instructions = routine.leading();
@@ -94,7 +94,7 @@ fn analyze_routine(
         routine.backwards,
         folds,
     )?;
-    let rows = rows_of(alloc, leaves, instructions, routine.backwards)?;
+    let rows = rows_of(alloc, leaves, instructions, routine.backwards, folds)?;
     let skips = skips_of(alloc, &next_bytes, &rows, instructions)?;
     let possessive = possessive_of(alloc, &next_bytes, leaves, instructions)?;
     Ok(Analysis {

@@ -29,12 +29,13 @@ pub struct Code {
     pub analyses: Vec<Analysis>,
     /// Where matches can begin.
     pub candidates: Candidates,
-    /// Whether the next bytes hold only where canonical forms of ASCII characters are those of ASCII.
+    /// Whether the next bytes and the rows hold only where canonical forms of ASCII characters are those of ASCII, and
+    /// characters without case have theirs alone.
     pub folds: bool,
     ghost begins: { BeginsAt candidates (routines_of program) } by { BeginsAt-prop candidates (routines_of program) },
     ghost bounded: { HaveNextBytes folds (routines_of program) analyses.items } by { HaveNextBytes-prop folds (routines_of program) analyses.items },
     ghost counted: { HaveSkips program.routines.items analyses.items } by { HaveSkips-prop program.routines.items analyses.items },
-    ghost rowed: { HaveRows program.leaves.items program.routines.items analyses.items } by { HaveRows-prop program.leaves.items program.routines.items analyses.items },
+    ghost rowed: { HaveRows folds program.leaves.items program.routines.items analyses.items } by { HaveRows-prop folds program.leaves.items program.routines.items analyses.items },
     ghost excluded: { HavePossessive program.leaves.items program.routines.items analyses.items } by { HavePossessive-prop program.leaves.items program.routines.items analyses.items },
 }
 

@@ -1,5 +1,5 @@
 //! Rows of choices between strings, among which a run finds the next one that occurs at its position.
-ghost use Rattle.std.specs.Prelude.{◌≡◌, ◌≤◌, ◌-◌, All, IfOk, IfSome, List, Some, encode_utf8_all, false, length};
+ghost use Rattle.std.specs.Prelude.{◌≡◌, ◌≤◌, ◌-◌, All, Bool, IfOk, IfSome, List, Some, encode_utf8_all, false, length};
 ghost use Rattle.std.specs.Char.{IsScalar};
 ghost use Rattle.regress_strings.specs.Contents.{contents};
 ghost use Rattle.regress_tree.specs.Tree.{tree};
@@ -9,6 +9,7 @@ use regress_leaves::test::Test;
 use regress_program::instruction::Instruction;
 use regress_strings::Strings;
 use regress_tree::ir::Node;
+use regress_unicode::are_caseless;
 use std::alloc::{AllocError, Global};
 
 /// The least number of choices of a row.
@@ -53,7 +54,8 @@ impl Row {
     }
 }
 
-/// Returns the rows of a routine, each as long as possible. A routine that matches backwards has none.
+/// Returns the rows of a routine, each as long as possible. A routine that matches backwards has none. With `folds` they hold
+/// where a character without case has its canonical form alone.
 ///
 /// # Complexity
 /// O(n log n) comparisons of two strings for n choices.
@@ -65,13 +67,14 @@ pub fn rows_of(
     leaves: &[Test],
     instructions: &[Instruction],
     backwards: bool,
+    folds: bool,
 ) -> Result<Vec<Row>, AllocError>
-    ensures { IfOk result (λ rows. AreRows rows.items leaves.now instructions.now backwards) }
+    ensures { IfOk result (λ rows. AreRows folds rows.items leaves.now instructions.now backwards) }
 {
     if backwards {
         return Ok(Vec::new(alloc));
     }
-    forward_rows(alloc, leaves, instructions)
+    forward_rows(alloc, leaves, instructions, folds)
 }
 
 /// Returns the rows of a routine that matches forwards.
@@ -82,13 +85,14 @@ fn forward_rows(
     alloc: Global,
     leaves: &[Test],
     instructions: &[Instruction],
+    folds: bool,
 ) -> Result<Vec<Row>, AllocError>
-    ensures { IfOk result (λ rows. AreRows rows.items leaves.now instructions.now false) }
+    ensures { IfOk result (λ rows. AreRows folds rows.items leaves.now instructions.now false) }
 {
     let mut rows = Vec::new(alloc);
     let mut strings = Vec::new(alloc);
     for pc in 0..instructions.len() {
-        match string_of_choice(alloc, leaves, instructions, pc)? {
+        match string_of_choice(alloc, leaves, instructions, pc, folds)? {
             Some(string) => strings.push(string)?,
             None => {
                 push_row(alloc, &mut rows, pc, strings)?;
@@ -114,8 +118,8 @@ fn push_row(
     strings: Vec<Vec<u8>>,
 ) -> Result<(), AllocError>
     requires { length strings.items ≤ end }
-    ensures { (leaves : List Test) (instructions : List Instruction) → AreRows rows.old.items leaves instructions false →
-        AreChoices leaves instructions (end - length strings.items) (contents strings.items) → AreRows rows.new.items leaves instructions false }
+    ensures { (folds : Bool) (leaves : List Test) (instructions : List Instruction) → AreRows folds rows.old.items leaves instructions false →
+        AreChoices folds leaves instructions (end - length strings.items) (contents strings.items) → AreRows folds rows.new.items leaves instructions false }
 {
     if strings.len() < LEAST {
         return Ok(());
@@ -136,11 +140,12 @@ fn string_of_choice(
     leaves: &[Test],
     instructions: &[Instruction],
     pc: usize,
+    folds: bool,
 ) -> Result<Option<Vec<u8>>, AllocError>
-    ensures { IfOk result (λ found. IfSome found (λ string. IsBegun string.items (first_leaf leaves.now instructions.now pc))) }
+    ensures { IfOk result (λ found. IfSome found (λ string. IsBegun folds string.items (first_leaf leaves.now instructions.now pc))) }
 {
     match first_leaf(leaves, instructions, pc) {
-        Some(test) => string_of(alloc, &test.node),
+        Some(test) => string_of(alloc, &test.node, folds),
         None => Ok(None),
     }
 }
@@ -163,12 +168,12 @@ fn first_leaf<'l>(leaves: &'l [Test], instructions: &[Instruction], pc: usize) -
 }
 
 /// Returns a string with which each match of a leaf begins in the forward direction, if the leaf is one string that is
-/// compared as it is.
+/// compared as it is, or, with `folds`, one string of characters without case.
 ///
 /// # Errors
 /// Returns [`AllocError`] if an allocation fails.
-fn string_of(alloc: Global, node: &Node) -> Result<Option<Vec<u8>>, AllocError>
-    ensures { IfOk result (λ found. IfSome found (λ string. BeginsWithString string.items (tree node.now))) }
+fn string_of(alloc: Global, node: &Node, folds: bool) -> Result<Option<Vec<u8>>, AllocError>
+    ensures { IfOk result (λ found. IfSome found (λ string. BeginsWithString folds string.items (tree node.now))) }
 {
     match node {
         Node::ByteSequence(bytes) => Ok(Some(Vec::from_slice(alloc, bytes)?)),
@@ -176,6 +181,12 @@ fn string_of(alloc: Global, node: &Node) -> Result<Option<Vec<u8>>, AllocError>
             alternatives,
             icase: false,
         } if alternatives.len() == 1 => encoded(alloc, &alternatives[0]),
+        Node::StringSet {
+            alternatives,
+            icase: true,
+        } if folds && alternatives.len() == 1 && are_caseless(&alternatives[0]) => {
+            encoded(alloc, &alternatives[0])
+        }
         _ => Ok(None),
     }
 }

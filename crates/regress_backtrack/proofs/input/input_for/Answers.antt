@@ -41,7 +41,8 @@ returns-in-Some-clause-input c =
           (code.bounded setting c.in-Some.ensures.folds c.args.text.now outs solve i a known (routine_in leaves r) in_program);
       skips = subst (λ ps. AreSkips ps c.deref.result.now (listed r)) (sym c.deref-in-Some.ensures.value)
           (subst (λ fs. AreSkips a.skips.items fs (listed r)) (sym c.deref.ensures.value) (code.counted i a known r here));
-      rows = subst (λ rs. AreRows rs leaves (listed r) r.backwards) (sym c.deref-in-Some-2.ensures.value) (code.rowed i a known r here);
+      rows = subst (λ rs. AreRows code.folds rs leaves (listed r) r.backwards) (sym c.deref-in-Some-2.ensures.value) (code.rowed i a known r here);
+      folds = λ any. c.in-Some.ensures.folds;
       possessive = subst (λ ps. ArePossessive ps c.deref.result.now leaves (listed r)) (sym c.deref-in-Some-3.ensures.value)
           (subst (λ fs. ArePossessive a.possessive.items fs leaves (listed r)) (sym c.deref.ensures.value) (code.excluded i a known r here));
     }
@@ -65,5 +66,6 @@ returns-in-None-clause-input c =
       next_bytes = λ outs solve pc next_byte is. let bad : ⊥ = cc in absurd bad;
       skips = λ pc p is. let bad : ⊥ = cc in absurd bad;
       rows = λ i row is. let bad : ⊥ = cc in absurd bad;
+      folds = λ any. let bad : ⊥ = omega (arith, any) in absurd bad;
       possessive = λ pc is. let bad : ⊥ = cc in absurd bad;
     }

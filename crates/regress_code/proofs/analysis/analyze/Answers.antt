@@ -70,12 +70,12 @@ loop-routine-preserved c =
           subst (λ (x : declared.Routine). AreSkips one.skips.items one.next_bytes.items (listed x)) (same_Some r q (sym here ∙ is))
           c.in_ok-analysis.ensures.skips));
       rows =
-          subst (HaveRows leaves routines) (sym c.in_ok-push-2.ensures.items)
-          (pushed (λ i (a : Analysis). (q : declared.Routine) → slice_get routines i ≡ Some q → AreRows a.rows.items leaves (listed q) q.backwards)
+          subst (HaveRows c.args.folds leaves routines) (sym c.in_ok-push-2.ensures.items)
+          (pushed (λ i (a : Analysis). (q : declared.Routine) → slice_get routines i ≡ Some q → AreRows c.args.folds a.rows.items leaves (listed q) q.backwards)
           known one so_far.rows
           (λ q is.
-          subst (λ (x : declared.Routine). AreRows one.rows.items leaves (listed x) x.backwards) (same_Some r q (sym here ∙ is))
-          (subst (λ xs. AreRows one.rows.items xs (listed r) r.backwards) c.deref.ensures.value c.in_ok-analysis.ensures.rows)));
+          subst (λ (x : declared.Routine). AreRows c.args.folds one.rows.items leaves (listed x) x.backwards) (same_Some r q (sym here ∙ is))
+          (subst (λ xs. AreRows c.args.folds one.rows.items xs (listed r) r.backwards) c.deref.ensures.value c.in_ok-analysis.ensures.rows)));
       possessive =
           subst (HavePossessive leaves routines) (sym c.in_ok-push-2.ensures.items)
           (pushed

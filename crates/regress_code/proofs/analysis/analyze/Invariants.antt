@@ -15,6 +15,6 @@ invariant-loop-routine l = record {
   bodies : HaveBodies l.folds (routines_of l.program) l.bodies.items;
   next_bytes : HaveNextBytes l.folds (routines_of l.program) l.analyses.items;
   skips : HaveSkips l.program.routines.items l.analyses.items;
-  rows : HaveRows l.program.leaves.items l.program.routines.items l.analyses.items;
+  rows : HaveRows l.folds l.program.leaves.items l.program.routines.items l.analyses.items;
   possessive : HavePossessive l.program.leaves.items l.program.routines.items l.analyses.items;
 }

@@ -21,7 +21,7 @@ returns-clause-skips c =
 pub returns-clause-rows : goal.returns-clause-rows
 returns-clause-rows c =
     let routine = c.args.routine.now in
-    all_rows c.leading-instructions.result.now (listed routine) c.leading-instructions.ensures c.in_ok-rows.rows.items c.args.leaves.now routine.backwards
+    all_rows c.leading-instructions.result.now (listed routine) c.leading-instructions.ensures c.args.folds c.in_ok-rows.rows.items c.args.leaves.now routine.backwards
     c.in_ok-rows.ensures
 
 pub returns-clause-possessive : goal.returns-clause-possessive

@@ -6,7 +6,7 @@ use Rattle.regress_code.proofs.rows.forward_rows.Given as goal
 
 abbrev pub invariant-loop-pc : goal.invariant-loop-pc
 invariant-loop-pc l = record {
-  rows : AreRows l.rows.items l.leaves l.instructions false;
+  rows : AreRows l.folds l.rows.items l.leaves l.instructions false;
   few : length l.strings.items ≤ l.pc;
-  begun : AreChoices l.leaves l.instructions (l.pc - length l.strings.items) (contents l.strings.items);
+  begun : AreChoices l.folds l.leaves l.instructions (l.pc - length l.strings.items) (contents l.strings.items);
 }
