@@ -20,7 +20,7 @@ matcher_is_send =
       (
         search (sendable, crosses, core.crosses, maps.crosses) depth 40 fits 20000,
         (
-          search sendable,
+          search sendable depth 40,
           (
             search (sendable, crosses, core.crosses, maps.crosses, send-Node) depth 40 fits 20000,
             (
