@@ -1,6 +1,6 @@
 -- Choices of a row whose strings do not occur at a position.
-use Rattle.std.proofs.Common.{◌≡◌, ℕ, zero, suc, ◌+◌, ◌-◌, ◌≤◌, ◌<◌, ◌==◌, Bool, true, false, List, [], ◌++◌, flat_map, length, Option, Some, None, option_and_then, slice_get, if◌then◌else◌, refl, sym, ap, ◌∙◌, subst, arith}
-use Rattle.std.proofs.lemmas.Option.{slice_get_within}
+use Rattle.std.proofs.Common.{◌≡◌, ℕ, zero, suc, ◌+◌, ◌-◌, ◌≤◌, ◌<◌, Bool, false, List, [], ◌++◌, flat_map, length, Option, Some, None, slice_get, refl, sym, ap, ◌∙◌, subst, arith}
+use Rattle.std.proofs.lemmas.Option.{option_and_then_some, slice_get_within}
 use Rattle.regress_leaves.specs.Subject.{subject}
 use Rattle.regress_leaves.specs.declared.test.Test.{Test}
 use Rattle.regress_program.specs.Cost.{Cost}
@@ -14,8 +14,10 @@ use Rattle.regress_tree.specs.Reading.{direction_if}
 use Rattle.regress_tree.specs.Steps.{MatchState}
 use Rattle.regress_tree.specs.Tree.{tree}
 use Rattle.regress_code.specs.declared.rows.Row.{Row}
+use Rattle.regress_code.specs.Choices.{preferred}
 use Rattle.regress_code.specs.NextBytes.{FoldsIf}
-use Rattle.regress_code.specs.Rows.{BeginsWithString, IsBegun, IsPassed, IsRow, first_leaf, leaf_of, preferred}
+use Rattle.regress_code.specs.Rows.{BeginsWithString, IsBegun, IsPassed, IsRow, first_leaf, leaf_of}
+use Rattle.regress_code.proofs.lemmas.Choices.{preferred_is}
 use Rattle.regress_backtrack.specs.Costs.{HasCost}
 use Rattle.regress_backtrack.specs.declared.input.Input.{Input}
 use Rattle.regress_backtrack.specs.declared.machine.Place.{Place}
@@ -35,33 +37,6 @@ record Choice (folds : Bool) (leaves : List Test) (instructions : List Instructi
   is_first : slice_get instructions first ≡ Some (insts.Leaf leaf next)
   is_test : slice_get leaves leaf ≡ Some test
   begins : BeginsWithString folds string (tree test.node)
-
-same_number : (a b : ℕ) → (a == b) ≡ true → a ≡ b
-same_number a b is = grind arith
-
-split_is : (pc first second k : ℕ) (b : Bool) → (second + 1 == pc) ≡ b → (if b then Some first else None) ≡ Some k →
-    (0 < pc) × (Some (insts.Split first second) ≡ Some (insts.Split k (pc - 1)))
-split_is pc first second k true same is =
-    let number = same_number (second + 1) pc same in
-    let before : second ≡ pc - 1 = omega (arith, number) in
-    let one : first ≡ k = cc in
-    (omega (arith, number), ap (λ s. Some (insts.Split first s)) before ∙ ap (λ f. Some (insts.Split f (pc - 1))) one)
-split_is pc first second k false same is = let bad : ⊥ = cc in absurd bad
-
-preferred_is : (pc k : ℕ) (o : Option Instruction) → preferred pc o ≡ Some k → (0 < pc) × (o ≡ Some (insts.Split k (pc - 1)))
-preferred_is pc k (Some (insts.Split first second)) is = split_is pc first second k (second + 1 == pc) refl is
-preferred_is pc k None is = let bad : ⊥ = cc in absurd bad
-preferred_is pc k (Some insts.Accept) is = let bad : ⊥ = cc in absurd bad
-preferred_is pc k (Some insts.Fail) is = let bad : ⊥ = cc in absurd bad
-preferred_is pc k (Some (insts.Leaf leaf next)) is = let bad : ⊥ = cc in absurd bad
-preferred_is pc k (Some (insts.Characters leaf count next)) is = let bad : ⊥ = cc in absurd bad
-preferred_is pc k (Some (insts.BeginLoop greedy body next)) is = let bad : ⊥ = cc in absurd bad
-preferred_is pc k (Some (insts.Repeat greedy body next)) is = let bad : ⊥ = cc in absurd bad
-preferred_is pc k (Some (insts.EndLoop next)) is = let bad : ⊥ = cc in absurd bad
-preferred_is pc k (Some (insts.Unset start end next)) is = let bad : ⊥ = cc in absurd bad
-preferred_is pc k (Some (insts.BeginGroup next)) is = let bad : ⊥ = cc in absurd bad
-preferred_is pc k (Some (insts.EndGroup id next)) is = let bad : ⊥ = cc in absurd bad
-preferred_is pc k (Some (insts.Look negate routine next)) is = let bad : ⊥ = cc in absurd bad
 
 leaf_is : (leaves : List Test) (test : Test) (o : Option Instruction) → leaf_of leaves o ≡ Some test →
     (leaf : ℕ) × ((next : ℕ) × ((o ≡ Some (insts.Leaf leaf next)) × (slice_get leaves leaf ≡ Some test)))
@@ -84,19 +59,16 @@ begun_is : (folds : Bool) (string : List ℕ) (o : Option Test) → IsBegun fold
 begun_is folds string None begun = absurd begun
 begun_is folds string (Some test) begun = (test, (refl, begun))
 
-then_is : {X Y : Type 0} (f : X → Option Y) (y : Y) (o : Option X) → option_and_then f o ≡ Some y → (x : X) × ((o ≡ Some x) × (f x ≡ Some y))
-then_is f y None is = let bad : ⊥ = cc in absurd bad
-then_is f y (Some x) is = (x, (refl, is))
-
 choice_by : (folds : Bool) (leaves : List Test) (instructions : List Instruction) (pc : ℕ) (string : List ℕ) → IsBegun folds string (first_leaf leaves instructions pc) →
     Choice folds leaves instructions pc string
 choice_by folds leaves instructions pc string begun =
     let test = begun_is folds string (first_leaf leaves instructions pc) begun in
-    let first = then_is (λ k. leaf_of leaves (slice_get instructions k)) test.0 (preferred pc (slice_get instructions pc)) test.1.0 in
-    let split = preferred_is pc first.0 (slice_get instructions pc) first.1.0 in
-    let leaf = leaf_is leaves test.0 (slice_get instructions first.0) first.1.1 in
+    option_and_then_some (λ k. leaf_of leaves (slice_get instructions k)) (preferred pc (slice_get instructions pc)) test.0 test.1.0
+    (λ first preferred_first first_is.
+    let split = preferred_is pc first (slice_get instructions pc) preferred_first in
+    let leaf = leaf_is leaves test.0 (slice_get instructions first) first_is in
     record {
-      first = first.0;
+      first = first;
       leaf = leaf.0;
       next = leaf.1.0;
       test = test.0;
@@ -105,7 +77,7 @@ choice_by folds leaves instructions pc string begun =
       is_first = leaf.1.1.0;
       is_test = leaf.1.1.1;
       begins = test.1.1;
-    }
+    })
 
 module _ (input : Input) (is : IsInput input) (p : Place) (row : Row)
     (in_row : IsRow input.code.now.folds input.code.now.program.leaves.items (instructions_in input) input.rules.backwards row)

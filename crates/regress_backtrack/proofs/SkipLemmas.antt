@@ -1,6 +1,6 @@
 -- Choices that are skipped.
-use Rattle.std.proofs.Common.{◌≡◌, ℕ, zero, suc, ◌+◌, ◌-◌, ◌≤◌, ◌<◌, ◌==◌, ◌&&◌, Bool, true, false, not, List, ◌++◌, length, get_or, slice_get, Option, Some, None, refl, sym, ap, ◌∙◌, subst, arith}
-use Rattle.std.proofs.lemmas.Option.{slice_get_within}
+use Rattle.std.proofs.Common.{◌≡◌, ℕ, zero, suc, ◌-◌, ◌≤◌, ◌<◌, Bool, true, false, not, List, ◌++◌, length, get_or, slice_get, Option, Some, None, option_and_then, refl, sym, ap, ◌∙◌, subst, arith}
+use Rattle.std.proofs.lemmas.Option.{option_and_then_some, slice_get_within}
 use Rattle.regress_base.specs.ByteBitmap.{contains}
 use Rattle.regress_base.specs.declared.bytesearch.bitmap.ByteBitmap.{ByteBitmap}
 use Rattle.regress_leaves.specs.Subject.{subject}
@@ -15,10 +15,12 @@ use Rattle.regress_backtrack.specs.declared.input.Input.{Input}
 use Rattle.regress_program.specs.declared.instruction.Instruction.{Instruction}
 use Rattle.regress_program.specs.declared.instruction.Instruction.TheVariants as insts
 use Rattle.regress_backtrack.specs.declared.machine.Place.{Place}
+use Rattle.regress_code.specs.Choices.{preferred}
 use Rattle.regress_code.specs.NextBytes.{IsOutside, next_to}
 use Rattle.regress_backtrack.specs.Machine.{Groups, at}
 use Rattle.regress_backtrack.specs.Next.{IsInput, Solve, instructions_in}
 use Rattle.regress_code.specs.Skips.{AreSkipped, IsBeside, is_excluded, is_skipped}
+use Rattle.regress_code.proofs.lemmas.Choices.{preferred_is}
 use Rattle.regress_backtrack.proofs.CostLemmas.{second_cost}
 use Rattle.regress_backtrack.proofs.RunLemmas.{solved}
 
@@ -31,58 +33,31 @@ record Skipped (next_bytes : List NextBytes) (instructions : List Instruction) (
   next_byte : slice_get next_bytes first ≡ Some (kinds.Bytes set)
   out : contains set b ≡ false
 
-both_left : (a b : Bool) → (a && b) ≡ true → a ≡ true
-both_left true b is = refl
-both_left false b is = let bad : ⊥ = cc in absurd bad
-
-both_right : (a b : Bool) → (a && b) ≡ true → b ≡ true
-both_right true b is = is
-both_right false b is = let bad : ⊥ = cc in absurd bad
-
 not_true : (b : Bool) → not b ≡ true → b ≡ false
 not_true true is = let bad : ⊥ = cc in absurd bad
 not_true false is = refl
-
-same_number : (a b : ℕ) → (a == b) ≡ true → a ≡ b
-same_number a b is = grind arith
 
 pub excluded_set : (o : Option NextBytes) (b : ℕ) → is_excluded o b ≡ true → (set : ByteBitmap) × (o ≡ Some (kinds.Bytes set)) × (contains set b ≡ false)
 excluded_set None b is = let bad : ⊥ = cc in absurd bad
 excluded_set (Some kinds.Any) b is = let bad : ⊥ = cc in absurd bad
 excluded_set (Some (kinds.Bytes set)) b is = (set, refl, not_true _ is)
 
-skipped_by : (next_bytes : List NextBytes) (instructions : List Instruction) (b pc : ℕ) (o : Option Instruction) → slice_get instructions pc ≡ o →
-    is_skipped next_bytes b pc o ≡ true → Skipped next_bytes instructions b pc
-skipped_by next_bytes instructions b pc (Some (insts.Split first second)) here is =
-    let number : second + 1 ≡ pc = same_number (second + 1) pc (both_left (second + 1 == pc) _ is) in
-    let found : (set : ByteBitmap) × (slice_get next_bytes first ≡ Some (kinds.Bytes set)) × (contains set b ≡ false) =
-    excluded_set (slice_get next_bytes first) b (both_right (second + 1 == pc) _ is) in
-    record {
-      first = first;
-      set = found.0;
-      after = omega (arith, number);
-      is = here ∙ ap (λ k. Some (insts.Split first k)) (omega (arith, number));
-      next_byte = found.1;
-      out = found.2;
-    }
-skipped_by next_bytes instructions b pc None here is = let bad : ⊥ = cc in absurd bad
-skipped_by next_bytes instructions b pc (Some insts.Accept) here is = let bad : ⊥ = cc in absurd bad
-skipped_by next_bytes instructions b pc (Some insts.Fail) here is = let bad : ⊥ = cc in absurd bad
-skipped_by next_bytes instructions b pc (Some (insts.Leaf leaf next)) here is = let bad : ⊥ = cc in absurd bad
-skipped_by next_bytes instructions b pc (Some (insts.Characters leaf count next)) here is = let bad : ⊥ = cc in absurd bad
-skipped_by next_bytes instructions b pc (Some (insts.BeginLoop greedy body next)) here is = let bad : ⊥ = cc in absurd bad
-skipped_by next_bytes instructions b pc (Some (insts.Repeat greedy body next)) here is = let bad : ⊥ = cc in absurd bad
-skipped_by next_bytes instructions b pc (Some (insts.EndLoop next)) here is = let bad : ⊥ = cc in absurd bad
-skipped_by next_bytes instructions b pc (Some (insts.Unset start end next)) here is = let bad : ⊥ = cc in absurd bad
-skipped_by next_bytes instructions b pc (Some (insts.BeginGroup next)) here is = let bad : ⊥ = cc in absurd bad
-skipped_by next_bytes instructions b pc (Some (insts.EndGroup id next)) here is = let bad : ⊥ = cc in absurd bad
-skipped_by next_bytes instructions b pc (Some (insts.Look negate routine next)) here is = let bad : ⊥ = cc in absurd bad
+skipped_by : (next_bytes : List NextBytes) (instructions : List Instruction) (b pc : ℕ) → is_skipped next_bytes b pc (slice_get instructions pc) ≡ true →
+    Skipped next_bytes instructions b pc
+skipped_by next_bytes instructions b pc is =
+    let choice = preferred pc (slice_get instructions pc) in
+    let found : (set : ByteBitmap) × (option_and_then (slice_get next_bytes) choice ≡ Some (kinds.Bytes set)) × (contains set b ≡ false) =
+    excluded_set (option_and_then (slice_get next_bytes) choice) b is in
+    option_and_then_some (slice_get next_bytes) choice (kinds.Bytes found.0) found.1
+    (λ first preferred_first next_byte.
+    let split = preferred_is pc first (slice_get instructions pc) preferred_first in
+    record { first = first; set = found.0; after = split.0; is = split.1; next_byte = next_byte; out = found.2 })
 
 -- there are as many instructions as are skipped
 pub skipped_within : (next_bytes : List NextBytes) (instructions : List Instruction) (b pc count : ℕ) → AreSkipped next_bytes instructions b pc count → count ≤ pc
 skipped_within next_bytes instructions b pc zero all = omega arith
 skipped_within next_bytes instructions b pc (suc n) all =
-    let last = skipped_by next_bytes instructions b (pc - n) (slice_get instructions (pc - n)) refl (all n (omega arith)) in
+    let last = skipped_by next_bytes instructions b (pc - n) (all n (omega arith)) in
     let after : 0 < pc - n = last.after in
     omega (arith, after)
 
@@ -120,7 +95,7 @@ module _ (input : Input) (is : IsInput input) (p : Place) (b : ℕ)
   pub all_skipped : (pc count : ℕ) → AreSkipped input.next_bytes.now (instructions_in input) b pc count → outs_from (pc - count) ≡ outs_from pc
   all_skipped pc zero all = ap outs_from (omega arith)
   all_skipped pc (suc n) all =
-      let last = skipped_by input.next_bytes.now (instructions_in input) b (pc - n) (slice_get (instructions_in input) (pc - n)) refl (all n (omega arith)) in
+      let last = skipped_by input.next_bytes.now (instructions_in input) b (pc - n) (all n (omega arith)) in
       let number : pc - suc n ≡ (pc - n) - 1 = omega arith in
       ap outs_from number ∙ one_skipped (pc - n) last ∙ all_skipped pc n (λ j lt. all j (omega (arith, lt)))
 
@@ -133,7 +108,7 @@ skipped_cost input is p b outs costs has g le pc zero all =
     let here = ap (λ k. costs input.index (at (record p { pc = k }) g)) same in
     omega (arith, here)
 skipped_cost input is p b outs costs has g le pc (suc n) all =
-    let last = skipped_by input.next_bytes.now (instructions_in input) b (pc - n) (slice_get (instructions_in input) (pc - n)) refl (all n (omega arith)) in
+    let last = skipped_by input.next_bytes.now (instructions_in input) b (pc - n) (all n (omega arith)) in
     let i = insts.Split last.first ((pc - n) - 1) in
     let one = second_cost input is outs costs has g (record p { pc = pc - n }) last.first ((pc - n) - 1)
     (slice_get_within (instructions_in input) (pc - n) i last.is) last.is le in

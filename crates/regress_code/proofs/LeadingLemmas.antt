@@ -12,9 +12,10 @@ use Rattle.regress_code.specs.declared.next_bytes.Body.{Body}
 use Rattle.regress_code.specs.declared.next_bytes.NextBytes.{NextBytes}
 use Rattle.regress_code.specs.declared.rows.Row.{Row}
 use Rattle.regress_code.specs.declared.skips.Skip.{Skip}
+use Rattle.regress_code.specs.Choices.{preferred}
 use Rattle.regress_code.specs.NextBytes.{AreNextBytesOf}
 use Rattle.regress_code.specs.Possessive.{ArePossessive}
-use Rattle.regress_code.specs.Rows.{AreRows, IsBegun, first_leaf, leaf_of, preferred}
+use Rattle.regress_code.specs.Rows.{AreRows, IsBegun, first_leaf, leaf_of}
 use Rattle.regress_code.specs.Skips.{AreSkips, is_skipped}
 
 module _ (first all : List Instruction) (begins : Begins first all) where

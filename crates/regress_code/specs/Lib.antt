@@ -1,4 +1,5 @@
 pub mod Candidates
+pub mod Choices
 pub mod Code
 pub mod NextBytes
 pub mod Possessive

@@ -1,5 +1,5 @@
 -- Rows of choices between alternatives that begin with strings.
-use Rattle.std.specs.Prelude.{◌≡◌, ℕ, ◌+◌, ◌-◌, ◌≤◌, ◌==◌, Bool, false, List, [], slice_get, Option, Some, None, option_and_then, if◌then◌else◌}
+use Rattle.std.specs.Prelude.{◌≡◌, ℕ, ◌+◌, ◌-◌, ◌≤◌, ◌<◌, Bool, false, List, [], length, slice_get, Option, Some, None, option_and_then}
 use Rattle.std.proofs.Props.{props}
 use Rattle.regress_tree.specs.Matching.{steps}
 use Rattle.regress_tree.specs.Reading.{forwards}
@@ -13,17 +13,13 @@ use Rattle.regress_program.specs.declared.instruction.Instruction.TheVariants as
 use Rattle.regress_program.specs.declared.instruction.Routine as declared
 use Rattle.regress_code.specs.declared.analysis.Analysis.{Analysis}
 use Rattle.regress_code.specs.declared.rows.Row.{Row}
+use Rattle.regress_code.specs.Choices.{preferred}
 use Rattle.regress_code.specs.NextBytes.{FoldsIf}
 
 -- In the forward direction the tree has no outcome at a position where the string does not occur.
 abbrev pub BeginsWithString : (folds : Bool) → (string : List ℕ) → Tree → Type 0
 BeginsWithString folds string t = (setting : Setting) → FoldsIf folds setting → (text : List ℕ) (s : MatchState) →
     occurs_at text s.position string ≡ false → steps setting text forwards t s ≡ []
-
--- the preferred alternative of a choice with the index `pc`, if the other one is the instruction before the choice
-abbrev pub preferred : (pc : ℕ) → Option Instruction → Option ℕ
-preferred pc (Some (insts.Split first second)) = if second + 1 == pc then Some first else None
-preferred pc i = None
 
 -- the leaf that an instruction matches
 abbrev pub leaf_of : List Test → Option Instruction → Option Test

@@ -1,5 +1,5 @@
 -- The choices that a run skips, by the byte next to its position.
-use Rattle.std.specs.Prelude.{◌≡◌, ℕ, ◌+◌, ◌-◌, ◌<◌, ◌==◌, ◌&&◌, Bool, true, false, not, List, [], length, slice_get, get_or, Option, Some, None}
+use Rattle.std.specs.Prelude.{◌≡◌, ℕ, ◌-◌, ◌<◌, Bool, true, false, not, List, [], length, slice_get, get_or, Option, Some, None, option_and_then}
 use Rattle.std.proofs.Props.{props}
 use Rattle.regress_base.specs.ByteBitmap.{contains}
 use Rattle.regress_base.specs.declared.bytesearch.bitmap.ByteBitmap.{ByteBitmap}
@@ -9,10 +9,10 @@ use Rattle.regress_code.specs.declared.next_bytes.NextBytes.{NextBytes}
 use Rattle.regress_code.specs.declared.next_bytes.NextBytes.TheVariants as kinds
 use Rattle.regress_program.specs.Listed.{listed}
 use Rattle.regress_program.specs.declared.instruction.Instruction.{Instruction}
-use Rattle.regress_program.specs.declared.instruction.Instruction.TheVariants as insts
 use Rattle.regress_program.specs.declared.instruction.Routine as declared
 use Rattle.regress_code.specs.declared.skips.Skip.{Skip}
 use Rattle.regress_code.specs.declared.skips.Skip.TheVariants as skips
+use Rattle.regress_code.specs.Choices.{preferred}
 use Rattle.regress_code.specs.NextBytes.{next_to}
 
 -- There are next bytes, and they exclude the byte.
@@ -21,11 +21,10 @@ is_excluded (Some (kinds.Bytes set)) b = not (contains set b)
 is_excluded (Some kinds.Any) b = false
 is_excluded None b = false
 
--- The instruction with the index `pc` is a choice whose preferred alternative excludes the byte, and whose other one is
--- the instruction before it.
+-- The instruction with the index `pc` is a choice between an alternative whose next bytes exclude the byte, and the
+-- instruction before it.
 abbrev pub is_skipped : List NextBytes → (b pc : ℕ) → Option Instruction → Bool
-is_skipped next_bytes b pc (Some (insts.Split first second)) = (second + 1 == pc) && is_excluded (slice_get next_bytes first) b
-is_skipped next_bytes b pc i = false
+is_skipped next_bytes b pc i = is_excluded (option_and_then (slice_get next_bytes) (preferred pc i)) b
 
 -- This holds of each byte outside the set.
 abbrev pub IsPreferred : List NextBytes → (pc : ℕ) → Option Instruction → ByteBitmap → Type 0

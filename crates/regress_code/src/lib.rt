@@ -2,6 +2,7 @@
 #![tactic(auto)]
 
 pub mod analysis;
+mod choices;
 mod code;
 pub mod next_bytes;
 pub mod possessive;

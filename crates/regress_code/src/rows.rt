@@ -5,6 +5,7 @@ ghost use Rattle.regress_strings.specs.Contents.{contents};
 ghost use Rattle.regress_tree.specs.Tree.{tree};
 ghost use Rattle.regress_code.specs.Rows.{AreChoices, AreRows, BeginsWithString, IsBegun, first_leaf};
 
+use crate::choices::preferred_at;
 use regress_leaves::test::Test;
 use regress_program::instruction::Instruction;
 use regress_strings::Strings;
@@ -155,16 +156,11 @@ fn string_of_choice(
 fn first_leaf<'l>(leaves: &'l [Test], instructions: &[Instruction], pc: usize) -> Option<&'l Test>
     ensures { IfSome result (λ test. first_leaf leaves.now instructions.now pc ≡ Some test.now) }
 {
-    let Instruction::Split { first, second } = *instructions.get(pc)? else {
-        return None;
-    };
-    if second >= pc || pc - second != 1 {
-        return None;
+    let first = preferred_at(instructions, pc)?;
+    match *instructions.get(first)? {
+        Instruction::Leaf { leaf, .. } => leaves.get(leaf),
+        _ => None,
     }
-    let Instruction::Leaf { leaf, .. } = *instructions.get(first)? else {
-        return None;
-    };
-    leaves.get(leaf)
 }
 
 /// Returns a string with which each match of a leaf begins in the forward direction, if the leaf is one string that is

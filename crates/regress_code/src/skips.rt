@@ -4,6 +4,7 @@ ghost use Rattle.regress_base.specs.ByteBitmap.{contains};
 ghost use Rattle.regress_code.specs.Skips.{AreCounts, AreSkips, IsPreferred, counts_in};
 
 use crate::next_bytes::NextBytes;
+use crate::choices::preferred_at;
 use crate::rows::Row;
 use regress_base::bytesearch::ByteBitmap;
 use regress_program::instruction::Instruction;
@@ -56,7 +57,7 @@ pub fn skips_of(
     let mut choices = 0usize;
     for pc in 0..instructions.len() {
         let row = row_with(rows, pc);
-        let preferred = preferred_next_bytes(next_bytes, instructions[pc], pc);
+        let preferred = preferred_next_bytes(next_bytes, instructions, pc);
         choices = if row.is_none() && preferred.is_some() {
             choices.saturating_add(1)
         } else {
@@ -107,22 +108,17 @@ fn skip_of(
     }
 }
 
-/// Returns the next bytes of the preferred alternative, if the instruction with the index `pc` is a choice
-/// between it and the instruction before.
+/// Returns the next bytes of the preferred alternative, if they are known, and the instruction with the index `pc` is a
+/// choice between it and the instruction before.
 fn preferred_next_bytes(
     next_bytes: &[NextBytes],
-    instruction: Instruction,
+    instructions: &[Instruction],
     pc: usize,
 ) -> Option<ByteBitmap>
-    ensures { IfSome result (IsPreferred next_bytes.now pc (Some instruction)) }
+    ensures { IfSome result (IsPreferred next_bytes.now pc (slice_get instructions.now pc)) }
 {
-    let Instruction::Split { first, second } = instruction else {
-        return None;
-    };
-    if second >= pc || pc - second != 1 || first >= next_bytes.len() {
-        return None;
-    }
-    match next_bytes[first] {
+    let first = preferred_at(instructions, pc)?;
+    match *next_bytes.get(first)? {
         NextBytes::Bytes(set) => Some(set),
         NextBytes::Any => None,
     }

@@ -1,7 +1,6 @@
-use Rattle.std.proofs.Common.{IfSome, length, sym, ap, subst, arith}
+use Rattle.std.proofs.Common.{length, sym, ap, subst, arith}
 use Rattle.std.proofs.lemmas.List.{length_push}
-use Rattle.std.proofs.lemmas.Option.{slice_get-get_or}
-use Rattle.regress_code.specs.Skips.{AreCounts, AreSkips, IsPreferred, counts_in}
+use Rattle.regress_code.specs.Skips.{AreCounts, AreSkips, counts_in}
 use Rattle.regress_code.proofs.ListLemmas.{pushed}
 use Rattle.regress_code.proofs.skips.skips_of.Goals as goal
 
@@ -13,13 +12,11 @@ loop-pc-preserved c =
     let pc = c.loop-pc.pc in
     let skip = c.in_ok-skip.skip in
     let so_far = c.loop-pc.invariant in
-    let preferred = c.preferred_next_bytes-preferred.result in
     record {
       count = omega (arith, ap length c.in_ok-push.ensures.items, length_push known skip, so_far.count);
       are = subst (λ ps. AreSkips ps next_bytes instructions) (sym c.in_ok-push.ensures.items)
           (pushed (λ k p. AreCounts next_bytes instructions k (counts_in p)) known skip so_far.are
           (subst (λ k. AreCounts next_bytes instructions k (counts_in skip)) (sym so_far.count)
-          (c.in_ok-skip.ensures next_bytes instructions pc
-          (subst (λ o. IfSome preferred (IsPreferred next_bytes pc o)) (sym (slice_get-get_or instructions pc _ c.loop-pc-test.true)) c.preferred_next_bytes-preferred.ensures)
+          (c.in_ok-skip.ensures next_bytes instructions pc c.preferred_next_bytes-preferred.ensures
           (c.counts_before.ensures next_bytes instructions (subst (λ ps. AreSkips ps next_bytes instructions) (sym c.deref.ensures.value) so_far.are)))));
     }
