@@ -1,5 +1,5 @@
 -- Leaves that begin with strings, and rows of choices between them.
-use Rattle.std.proofs.Common.{◌≡◌, ℕ, zero, suc, ◌+◌, ◌-◌, ◌≤◌, ◌<◌, ◌==◌, Bool, true, false, List, [], ◌∷◌, ◌++◌, All, flat_map, get_or, length, map, IfOk, IfSome, Vec, Option, Some, None, slice_get, encode_utf8_all, encode_utf8, refl, sym, ap, ◌∙◌, subst, append-nil, append_assoc, arith}
+use Rattle.std.proofs.Common.{◌≡◌, ℕ, ◌+◌, ◌-◌, ◌≤◌, ◌<◌, ◌==◌, Bool, true, false, List, [], ◌∷◌, ◌++◌, All, flat_map, get_or, length, map, IfOk, IfSome, Vec, Option, Some, None, encode_utf8_all, encode_utf8, refl, sym, ap, ◌∙◌, subst, append-nil, append_assoc, arith}
 use mathlib.Core.Path.{fun_ext}
 use Rattle.std.specs.Char.{IsScalar}
 use Rattle.std.specs.List.{list_all}
@@ -7,6 +7,7 @@ use Rattle.std.specs.Global.{Global}
 use Rattle.std.specs.Prelude.{Result, Ok, Err}
 use Rattle.std.proofs.lemmas.List.{length-map, length_push, map-append}
 use Rattle.std.proofs.lemmas.List.Elements.{All-tail, All-head}
+use Rattle.std.proofs.lemmas.Option.{slice_get-get_or}
 use Rattle.regress_base.specs.Table.{denotes}
 use Rattle.regress_tree.specs.Reading.{forwards, of_bytes}
 use Rattle.regress_tree.specs.References.{all_of, any_string}
@@ -73,16 +74,14 @@ encoded_begins folds string t begins (Ok (Some found)) scalars bytes = subst (λ
 
 -- ---- choices of a row that are passed
 
-found : {X : Type 0} (xs : List X) (k : ℕ) → k < length xs → (x : X) × (slice_get xs k ≡ Some x)
-found [] k lt = let bad : ⊥ = omega (arith, lt) in absurd bad
-found (x ∷ xs) zero lt = (x, refl)
-found (x ∷ xs) (suc k) lt = found xs k (omega (arith, lt))
-
-pub passed : (row : Row) (text : List ℕ) (position before low : ℕ) → NoneOccurs (strings_of row.strings) text position low before → (j : ℕ) →
-    row.lowest ≤ j → low ≤ j - row.lowest → j - row.lowest < before → j - row.lowest < length (strings_of row.strings) → IsPassed row text position j
-passed row text position before low none j from lower upper within =
-    let string = found (strings_of row.strings) (j - row.lowest) within in
-    record { from = from; string = string.0; is = string.1; fails = none (j - row.lowest) string.0 lower upper string.1 }
+pub passed : (row : Row) (text : List ℕ) (position before low : ℕ) → NoneOccurs (strings_of row.strings) text position low before → (pc : ℕ) →
+    IsChoiceOf row pc → (j : ℕ) → row.lowest ≤ j → low ≤ j - row.lowest → j ≤ pc → j - row.lowest < before → IsPassed row text position j
+passed row text position before low none pc inside j from lower below upper =
+    let k = j - row.lowest in
+    let within : k < length (strings_of row.strings) = omega (arith, inside.1, below, from) in
+    let strings = strings_of row.strings in
+    let is = slice_get-get_or strings k [] within in
+    record { from = from; string = get_or strings k []; is = is; fails = none k (get_or strings k []) lower upper is }
 
 -- ---- strings that are collected
 

@@ -51,6 +51,10 @@ pub record IsRow (folds : Bool) (leaves : List Test) (instructions : List Instru
 abbrev pub AreRows : (folds : Bool) → List Row → List Test → List Instruction → (backwards : Bool) → Type 0
 AreRows folds rows leaves instructions backwards = (i : ℕ) (row : Row) → slice_get rows i ≡ Some row → IsRow folds leaves instructions backwards row
 
+-- The instruction with the index `pc` is a choice of the row.
+abbrev pub IsChoiceOf : Row → (pc : ℕ) → Type 0
+IsChoiceOf row pc = (row.lowest ≤ pc) × (pc < row.lowest + length (strings_of row.strings))
+
 -- The instruction with the index `pc` is a choice of the row, and its string does not occur in the text at the position.
 pub record IsPassed (row : Row) (text : List ℕ) (position pc : ℕ) : Type 0 where
   pub from : row.lowest ≤ pc

@@ -27,11 +27,13 @@ pub struct Row {
 }
 
 impl Row {
-    ghost use Rattle.std.specs.Prelude.{ℕ, ◌≤◌, ◌<◌, length};
-    ghost use Rattle.regress_code.specs.Rows.{IsPassed};
+    ghost use Rattle.std.specs.Prelude.{ℕ, ◌↔◌, ◌≤◌, ◌<◌, IsTrue, length};
+    ghost use Rattle.regress_code.specs.Rows.{IsChoiceOf, IsPassed};
 
     /// Returns whether the instruction with the index `pc` is a choice of the row.
-    pub(crate) fn contains(&self, pc: usize) -> bool {
+    pub(crate) fn contains(&self, pc: usize) -> bool
+        ensures { IsTrue result ↔ IsChoiceOf self.now pc }
+    {
         pc >= self.lowest && pc - self.lowest < self.strings.len()
     }
 
@@ -45,7 +47,7 @@ impl Row {
         ensures within { result ≤ pc }
         ensures passed { (j : ℕ) → result < j → j ≤ pc → IsPassed self.now text.now position j }
     {
-        if pc < self.lowest || pc - self.lowest >= self.strings.len() {
+        if !self.contains(pc) {
             return pc;
         }
         match self.strings.last_at(text, position, pc - self.lowest + 1) {

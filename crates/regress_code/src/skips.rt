@@ -1,10 +1,11 @@
 //! How many choices in a row a run skips.
-ghost use Rattle.std.specs.Prelude.{◌≡◌, ◌≤◌, ◌<◌, ◌+◌, ◌-◌, ℕ, IfOk, IfSome, List, Some, false, get_or, slice_get};
+ghost use Rattle.std.specs.Prelude.{◌≡◌, ◌≤◌, ◌<◌, ◌+◌, ◌-◌, ℕ, IfOk, IfSome, IsSomeAnd, List, Some, false, get_or, slice_get};
 ghost use Rattle.regress_base.specs.ByteBitmap.{contains};
+ghost use Rattle.regress_code.specs.Rows.{IsChoiceOf};
 ghost use Rattle.regress_code.specs.Skips.{AreCounts, AreSkips, IsPreferred, counts_in};
 
-use crate::next_bytes::NextBytes;
 use crate::choices::preferred_at;
+use crate::next_bytes::NextBytes;
 use crate::rows::Row;
 use regress_base::bytesearch::ByteBitmap;
 use regress_program::instruction::Instruction;
@@ -71,7 +72,9 @@ pub fn skips_of(
 
 /// Returns the index of the row that has the choice with the index `pc`, or `None` if there is none. The rows are in
 /// ascending order.
-fn row_with(rows: &[Row], pc: usize) -> Option<usize> {
+fn row_with(rows: &[Row], pc: usize) -> Option<usize>
+    ensures { IfSome result (λ i. IsSomeAnd (slice_get rows.now i) (λ row. IsChoiceOf row pc)) }
+{
     let row = rows.partition_point(|row| row.lowest <= pc).checked_sub(1)?;
     if rows[row].contains(pc) {
         Some(row)
