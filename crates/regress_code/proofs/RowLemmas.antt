@@ -22,7 +22,7 @@ use Rattle.regress_unicode.specs.Caseless.{is_caseless}
 use Rattle.regress_strings.specs.Contents.{contents}
 use Rattle.regress_strings.specs.Strings.{NoneOccurs, strings_of}
 use Rattle.regress_code.specs.declared.rows.Row.{Row}
-use Rattle.regress_code.specs.Rows.{AreChoices, BeginsWithString, IsBegun, IsPassed, first_leaf}
+use Rattle.regress_code.specs.Rows.{AreChoices, BeginsWithString, IsBegun, IsChoiceOf, IsPassed, first_leaf}
 use Rattle.regress_code.proofs.ListLemmas.{pushed}
 
 -- bytes
@@ -39,7 +39,7 @@ characters-steps bytes (c ∷ cs) scalars s =
     ∙ sym (these_bytes-append bytes (encode_utf8 c) (encode_utf8_all cs) s)
 
 -- one string that is compared as it is
-pub string_begins : (folds : Bool) (string : List ℕ) → All IsScalar string → BeginsWithString folds (encode_utf8_all string) (leaf (string_set (string ∷ []) false))
+string_begins : (folds : Bool) (string : List ℕ) → All IsScalar string → BeginsWithString folds (encode_utf8_all string) (leaf (string_set (string ∷ []) false))
 string_begins folds string scalars setting folded text s out =
     any-cons forwards (of_bytes text) (denotes setting.table false setting.flags.unicode) string [] s
     ∙ ap (λ xs. xs ++ any_string forwards (of_bytes text) (denotes setting.table false setting.flags.unicode) [] s)
@@ -47,10 +47,16 @@ string_begins folds string scalars setting folded text s out =
     ∙ any-nil forwards (of_bytes text) (denotes setting.table false setting.flags.unicode) s
 
 -- one string of characters without case
-pub caseless_begins : (folds : Bool) → folds ≡ true → (string : List ℕ) → list_all is_caseless string ≡ true → All IsScalar string →
+caseless_begins : (folds : Bool) → folds ≡ true → (string : List ℕ) → list_all is_caseless string ≡ true → All IsScalar string →
     BeginsWithString folds (encode_utf8_all string) (leaf (string_set (string ∷ []) true))
 caseless_begins folds is string caseless scalars setting folded text s out =
     caseless_steps setting (folded is) string caseless text forwards s ∙ string_begins folds string scalars setting folded text s out
+
+-- one string that is compared as it is, or one of characters without case
+pub exact_begins : (folds icase : Bool) (string : List ℕ) → (icase ≡ true → (folds ≡ true) × (list_all is_caseless string ≡ true)) → All IsScalar string →
+    BeginsWithString folds (encode_utf8_all string) (leaf (string_set (string ∷ []) icase))
+exact_begins folds false string exact scalars = string_begins folds string scalars
+exact_begins folds true string exact scalars = caseless_begins folds (exact refl).0 string (exact refl).1 scalars
 
 -- ---- the strings of leaves
 

@@ -177,14 +177,11 @@ fn string_of(alloc: Global, node: &Node, folds: bool) -> Result<Option<Vec<u8>>,
         Node::ByteSequence(bytes) => Ok(Some(Vec::from_slice(alloc, bytes)?)),
         Node::StringSet {
             alternatives,
-            icase: false,
-        } if alternatives.len() == 1 => encoded(alloc, &alternatives[0]),
-        Node::StringSet {
-            alternatives,
-            icase: true,
-        } if folds && alternatives.len() == 1 && are_caseless(&alternatives[0]) => {
-            encoded(alloc, &alternatives[0])
-        }
+            icase,
+        } => match alternatives.as_slice() {
+            [string] if !*icase || folds && are_caseless(string) => encoded(alloc, string),
+            _ => Ok(None),
+        },
         _ => Ok(None),
     }
 }
