@@ -44,12 +44,14 @@ fn is_possessive(
     requires { pc < length instructions.now }
     ensures { result ≡ true → IsPossessive next_bytes.now leaves.now instructions.now pc }
 {
-    let Instruction::Repeat { greedy, body, next } = instructions[pc] else {
+    let Instruction::Repeat {
+        greedy: true,
+        body,
+        next,
+    } = instructions[pc]
+    else {
         return false;
     };
-    if !greedy {
-        return false;
-    }
     match character_at(leaves, instructions, body, pc) {
         Some(set) => excludes_ascii(next_bytes, next, &set),
         None => false,
@@ -66,17 +68,13 @@ fn character_at(
 ) -> Option<ByteBitmap>
     ensures { IfSome result (IsCharacter leaves.now instructions.now pc next) }
 {
-    if pc >= instructions.len() {
-        return None;
-    }
-    let Instruction::Leaf { leaf, next: after } = instructions[pc] else {
+    let Instruction::Leaf { leaf, next: after } = *instructions.get(pc)? else {
         return None;
     };
-    if after != next || leaf >= leaves.len() {
+    if after != next {
         return None;
     }
-    let test = &leaves[leaf];
-    match test.start {
+    match leaves.get(leaf)?.start {
         Start::Ascii(set) => Some(set),
         _ => None,
     }
@@ -86,12 +84,9 @@ fn character_at(
 fn excludes_ascii(next_bytes: &[NextBytes], pc: usize, set: &ByteBitmap) -> bool
     ensures { result ≡ true → ExcludesAscii next_bytes.now pc set.now }
 {
-    if pc >= next_bytes.len() {
-        return false;
-    }
-    match &next_bytes[pc] {
-        NextBytes::Bytes(bytes) => !has_common_ascii(set, bytes),
-        NextBytes::Any => false,
+    match next_bytes.get(pc) {
+        Some(NextBytes::Bytes(bytes)) => !has_common_ascii(set, bytes),
+        _ => false,
     }
 }
 
