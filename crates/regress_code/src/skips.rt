@@ -1,5 +1,5 @@
-//! How many choices in a row a run skips.
-ghost use Rattle.std.specs.Prelude.{◌≡◌, ◌≤◌, ◌<◌, ◌+◌, ◌-◌, ℕ, IfOk, IfSome, IsSomeAnd, List, Some, false, get_or, slice_get};
+//! How many consecutive choices a run skips.
+ghost use Rattle.std.specs.Prelude.{◌≡◌, ◌≤◌, ◌<◌, ◌+◌, ◌-◌, ℕ, IfOk, IfSome, IsSomeAnd, List, Some, false, get_or, length, slice_get};
 ghost use Rattle.regress_base.specs.ByteBitmap.{contains};
 ghost use Rattle.regress_code.specs.Rows.{IsChoiceOf};
 ghost use Rattle.regress_code.specs.Skips.{AreCounts, AreSkips, IsPreferred, counts_in};
@@ -11,13 +11,13 @@ use regress_base::bytesearch::ByteBitmap;
 use regress_program::instruction::Instruction;
 use std::alloc::{AllocError, Global};
 
-/// The number of choices at the end of a row that are tested one by one.
+/// The number of consecutive choices, those tried last, that are tested one by one.
 const TESTED: usize = 4;
 
 /// How many choices a run skips at once.
 #[derive(Drop)]
 pub enum Skip {
-    /// It is not known: the instruction is no choice, or is near the end of its row.
+    /// It is not known: the instruction is no choice, or one of the last of consecutive choices.
     Unknown,
     /// For each byte next to the position, a number of choices: from the instruction on downwards, each of them is
     /// between an alternative whose next bytes exclude the byte, and the instruction before it.
@@ -64,7 +64,7 @@ pub fn skips_of(
         } else {
             0
         };
-        let skip = skip_of(alloc, row, preferred, choices, counts_before(&skips, pc))?;
+        let skip = skip_of(alloc, row, preferred, choices, last_counts(&skips))?;
         skips.push(skip)?;
     }
     Ok(skips)
@@ -127,15 +127,14 @@ fn preferred_next_bytes(
     }
 }
 
-/// Returns the counts of the instruction before this one, or none if there is none.
-fn counts_before(skips: &[Skip], pc: usize) -> &[u8]
+/// Returns the counts of the last of the instructions that have these skips, or none if there is none.
+fn last_counts(skips: &[Skip]) -> &[u8]
     ensures { (next_bytes : List NextBytes) (instructions : List Instruction) → AreSkips skips.now next_bytes instructions →
-        AreCounts next_bytes instructions (pc - 1) result.now }
+        AreCounts next_bytes instructions (length skips.now - 1) result.now }
 {
-    if pc > 0 && pc <= skips.len() {
-        skips[pc - 1].counts()
-    } else {
-        &[]
+    match skips.last() {
+        Some(skip) => skip.counts(),
+        None => &[],
     }
 }
 

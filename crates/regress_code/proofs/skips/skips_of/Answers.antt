@@ -1,4 +1,4 @@
-use Rattle.std.proofs.Common.{length, sym, ap, subst, arith}
+use Rattle.std.proofs.Common.{◌-◌, length, sym, ap, ◌∙◌, subst, arith}
 use Rattle.std.proofs.lemmas.List.{length_push}
 use Rattle.regress_code.specs.Skips.{AreCounts, AreSkips, counts_in}
 use Rattle.regress_code.proofs.ListLemmas.{pushed}
@@ -18,5 +18,6 @@ loop-pc-preserved c =
           (pushed (λ k p. AreCounts next_bytes instructions k (counts_in p)) known skip so_far.are
           (subst (λ k. AreCounts next_bytes instructions k (counts_in skip)) (sym so_far.count)
           (c.in_ok-skip.ensures next_bytes instructions pc c.preferred_next_bytes-preferred.ensures
-          (c.counts_before.ensures next_bytes instructions (subst (λ ps. AreSkips ps next_bytes instructions) (sym c.deref.ensures.value) so_far.are)))));
+          (subst (λ k. AreCounts next_bytes instructions (k - 1) c.last_counts.result.now) (ap length c.deref.ensures.value ∙ so_far.count)
+          (c.last_counts.ensures next_bytes instructions (subst (λ ps. AreSkips ps next_bytes instructions) (sym c.deref.ensures.value) so_far.are))))));
     }
