@@ -43,18 +43,18 @@ pub struct Body {
 /// Returns [`AllocError`] if an allocation fails.
 pub fn next_bytes_of(
     alloc: Global,
-    tests: &[Test],
+    leaves: &[Test],
     bodies: &[Body],
     instructions: &[Instruction],
     backwards: bool,
     folds: bool,
 ) -> Result<Vec<NextBytes>, AllocError>
-    ensures { IfOk result (λ next_bytes. AreNextBytesOf folds bodies.now next_bytes.items (direction_if backwards) (ops_in tests.now instructions.now)) }
+    ensures { IfOk result (λ next_bytes. AreNextBytesOf folds bodies.now next_bytes.items (direction_if backwards) (ops_in leaves.now instructions.now)) }
 {
     let mut next_bytes = Vec::with_capacity(alloc, instructions.len())?;
     for instruction in instructions {
         let next_byte = instruction_next_bytes(
-            tests,
+            leaves,
             bodies,
             &next_bytes,
             *instruction,
@@ -69,7 +69,7 @@ pub fn next_bytes_of(
 /// Returns the next bytes of an instruction, by those of the instructions before it that are known, and of the bodies of
 /// lookarounds.
 pub fn instruction_next_bytes(
-    tests: &[Test],
+    leaves: &[Test],
     bodies: &[Body],
     known: &[NextBytes],
     instruction: Instruction,
@@ -80,21 +80,21 @@ pub fn instruction_next_bytes(
         (text : List ℕ) (body_of : ℕ → Matcher) (out : Out) (a : At) → AreBodies bodies.now text body_of →
         AreNextBytes known.now (direction_if backwards) text out →
         Bounds result (direction_if backwards) text a.state.position
-        (outcomes_by setting text (direction_if backwards) body_of out (op_in tests.now instruction) a) }
+        (outcomes_by setting text (direction_if backwards) body_of out (op_in leaves.now instruction) a) }
 {
     match instruction {
         Instruction::Accept | Instruction::Repeat { .. } => NextBytes::Any,
         Instruction::Fail => NextBytes::Bytes(ByteBitmap::default()),
         Instruction::Leaf { leaf, next } => {
-            if leaf < tests.len() {
-                leaf_next_bytes(&tests[leaf], next_bytes_at(known, next), backwards, folds)
+            if leaf < leaves.len() {
+                leaf_next_bytes(&leaves[leaf], next_bytes_at(known, next), backwards, folds)
             } else {
                 NextBytes::Any
             }
         }
         Instruction::Characters { leaf, count, .. } => {
-            if count > 0 && leaf < tests.len() {
-                leaf_next_bytes(&tests[leaf], NextBytes::Any, backwards, folds)
+            if count > 0 && leaf < leaves.len() {
+                leaf_next_bytes(&leaves[leaf], NextBytes::Any, backwards, folds)
             } else {
                 NextBytes::Any
             }

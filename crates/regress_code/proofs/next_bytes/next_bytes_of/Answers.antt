@@ -10,7 +10,7 @@ use Rattle.regress_code.proofs.next_bytes.next_bytes_of.Goals as goal
 pub loop-instruction-preserved : goal.loop-instruction-preserved
 loop-instruction-preserved c =
     let d = direction_if c.args.backwards in
-    let tests = c.args.tests.now in
+    let leaves = c.args.leaves.now in
     let xs = c.args.instructions.now in
     let i = c.loop-instruction.instruction-index in
     let known = c.loop-instruction.next_bytes.items in
@@ -22,7 +22,7 @@ loop-instruction-preserved c =
           subst (λ fs. AreNextBytes fs d text out) (sym c.in_ok-push.ensures.items)
           (pushed (λ pc f. AreNextBytesAt f d text out pc) known next_byte (so_far.are setting folds text body_of out bodies solves)
           (subst (AreNextBytesAt next_byte d text out) (sym so_far.count)
-          (instruction_bounds tests xs i _ (slice_get-get_or xs i _ c.loop-instruction-test.true) setting text d body_of out solves next_byte
+          (instruction_bounds leaves xs i _ (slice_get-get_or xs i _ c.loop-instruction-test.true) setting text d body_of out solves next_byte
           (λ a. c.instruction_next_bytes-next_byte.ensures setting folds text body_of out a bodies
           (subst (λ fs. AreNextBytes fs d text out) (sym c.deref.ensures.value) (so_far.are setting folds text body_of out bodies solves))))));
     }

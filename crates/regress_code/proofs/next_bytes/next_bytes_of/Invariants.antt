@@ -8,5 +8,5 @@ use Rattle.regress_code.proofs.next_bytes.next_bytes_of.Given as goal
 abbrev pub invariant-loop-instruction : goal.invariant-loop-instruction
 invariant-loop-instruction l = record {
   count : length l.next_bytes.items ≡ l.instruction-index;
-  are : AreNextBytesOf l.folds l.bodies l.next_bytes.items (direction_if l.backwards) (ops_in l.tests l.instructions);
+  are : AreNextBytesOf l.folds l.bodies l.next_bytes.items (direction_if l.backwards) (ops_in l.leaves l.instructions);
 }
