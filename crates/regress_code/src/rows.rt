@@ -1,5 +1,5 @@
 //! Rows of choices between strings, among which a run finds the next one that occurs at its position.
-ghost use Rattle.std.specs.Prelude.{◌≡◌, ◌≤◌, ◌-◌, All, Bool, IfOk, IfSome, List, Some, encode_utf8_all, false, length};
+ghost use Rattle.std.specs.Prelude.{◌≡◌, ◌≤◌, ◌-◌, All, Bool, IfOk, IfSome, List, MatchOption, None, Some, encode_utf8_all, false, length};
 ghost use Rattle.std.specs.Char.{IsScalar};
 ghost use Rattle.regress_strings.specs.Contents.{contents};
 ghost use Rattle.regress_tree.specs.Tree.{tree};
@@ -156,7 +156,8 @@ fn string_of_choice(
 /// Returns the leaf with which the preferred alternative of a choice begins, if the instruction with the index `pc` is a
 /// choice between it and the instruction before.
 fn first_leaf<'l>(leaves: &'l [Test], instructions: &[Instruction], pc: usize) -> Option<&'l Test>
-    ensures { IfSome result (λ test. first_leaf leaves.now instructions.now pc ≡ Some test.now) }
+    ensures { MatchOption result (first_leaf leaves.now instructions.now pc ≡ None)
+        (λ test. first_leaf leaves.now instructions.now pc ≡ Some test.now) }
 {
     let first = preferred_at(instructions, pc)?;
     match *instructions.get(first)? {
