@@ -46,6 +46,7 @@ impl Row {
         requires { position ≤ length text.now }
         ensures within { result ≤ pc }
         ensures passed { (j : ℕ) → result < j → j ≤ pc → IsPassed self.now text.now position j }
+        ensures next { 0 < self.now.lowest → IsPassed self.now text.now position result → ⊥ }
     {
         if !self.contains(pc) {
             return pc;
