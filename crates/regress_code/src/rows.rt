@@ -31,6 +31,7 @@ impl Row {
     ghost use Rattle.regress_code.specs.Rows.{IsChoiceOf, IsPassed};
 
     /// Returns whether the instruction with the index `pc` is a choice of the row.
+    #[inline(always)]
     pub(crate) fn contains(&self, pc: usize) -> bool
         ensures { IsTrue result ↔ IsChoiceOf self.now pc }
     {
