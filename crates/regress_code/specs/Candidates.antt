@@ -1,20 +1,10 @@
 -- The positions at which matches of a program can begin.
 use Rattle.std.specs.Prelude.{◌≡◌, ℕ, ◌≤◌, ◌-◌, List, [], length}
 use Rattle.std.proofs.Props.{props}
-use Rattle.regress_base.specs.ByteBitmap.{contains}
-use Rattle.regress_base.specs.Positions.{IsMemberAt}
 use Rattle.regress_tree.specs.Steps.{MatchState, Setting}
-use Rattle.regress_prefilter.specs.FirstPairs.{IsPairAt}
+use Rattle.regress_prefilter.specs.Candidates.{IsCandidate}
 use Rattle.regress_prefilter.specs.declared.candidates.Candidates.{Candidates}
-use Rattle.regress_prefilter.specs.declared.candidates.Candidates.TheVariants as candidates
 use Rattle.regress_program.specs.Program.{IsSolution, Out, Routine, matcher_of}
-
--- The position is a candidate.
-abbrev pub IsCandidate : Candidates → (text : List ℕ) → (position : ℕ) → Type 0
-IsCandidate candidates.Anywhere text position = Unit {0}
-IsCandidate candidates.Start text position = position ≡ 0
-IsCandidate (candidates.Bytes set) text position = IsMemberAt (contains set) text position
-IsCandidate (candidates.Pair pair) text position = IsPairAt pair text position
 
 -- Every match of the program begins at a candidate.
 abbrev pub BeginsAt : Candidates → (program : List Routine) → Type 0

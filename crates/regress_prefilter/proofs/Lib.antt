@@ -4,3 +4,5 @@ mod FirstPairLemmas
 mod AnchorLemmas
 mod RequiredLemmas
 mod LiteralLemmas
+mod NearLemmas
+mod CandidateLemmas

@@ -38,7 +38,7 @@ pub literal_lasts : (literal : List ℕ) → AreLasting (AbsentFrom literal)
 literal_lasts literal = λ bytes j k le none i from. none i (omega (arith, le, from))
 
 module _ (absent : ℕ → Type 0) where
-  needs_first : (f g : Matcher) → Needs absent f → Needs absent (f then_ g)
+  pub needs_first : (f g : Matcher) → Needs absent f → Needs absent (f then_ g)
   needs_first f g needs = record { none = λ s none. ap (flat_map g) (needs.none s none) }
 
   none_after : (g : Matcher) (s : MatchState) (ts : List MatchState) → IsLasting absent → Needs absent g → absent s.position →
@@ -52,11 +52,11 @@ module _ (absent : ℕ → Type 0) where
   needs_second : (f g : Matcher) → IsLasting absent → Advances 0 f → Needs absent g → Needs absent (f then_ g)
   needs_second f g lasts on needs = record { none = λ s none. none_after g s (f s) lasts needs none (on.onward s) }
 
-  needs_or : (f g : Matcher) → Needs absent f → Needs absent g → Needs absent (f or_ g)
+  pub needs_or : (f g : Matcher) → Needs absent f → Needs absent g → Needs absent (f or_ g)
   needs_or f g left right =
       record { none = λ s none. ap (λ ts. ts ++ g s) (left.none s none) ∙ right.none s none }
 
-  needs_capture : (id : ℕ) (f : Matcher) → Needs absent f → Needs absent (capture id f)
+  pub needs_capture : (id : ℕ) (f : Matcher) → Needs absent f → Needs absent (capture id f)
   unfolding capture
   needs_capture id f needs = record { none = λ s none. ap (map (captured id s.position)) (needs.none s none) }
 
@@ -64,7 +64,7 @@ module _ (absent : ℕ → Type 0) where
   needs_iterations zero f g some needs = absurd (omega (arith, some))
   needs_iterations (suc n) f g some needs = needs_first (iterations (suc n) f) g (needs_first f (iterations n f) needs)
 
-  needs_repeat : (bound : ℕ) (q : Quantifier) (start end : ℕ) (f : Matcher) → 0 < q.min → Needs absent f →
+  pub needs_repeat : (bound : ℕ) (q : Quantifier) (start end : ℕ) (f : Matcher) → 0 < q.min → Needs absent f →
       Needs absent (repeat_matcher bound q start end f)
   unfolding repeat_matcher
   needs_repeat bound q start end f some needs =
@@ -73,7 +73,7 @@ module _ (absent : ℕ → Type 0) where
       (record { none = λ s none. needs.none (unset start end s) none })
 
   -- a literal at an offset with the property, which it contradicts
-  needs_bytes : (bytes written : List ℕ) → ((k : ℕ) → absent k → starts_with nat_eq (drop k bytes) written ≡ true → ⊥) →
+  pub needs_bytes : (bytes written : List ℕ) → ((k : ℕ) → absent k → starts_with nat_eq (drop k bytes) written ≡ true → ⊥) →
       Needs absent (these_bytes forwards bytes written)
   unfolding these_bytes
   needs_bytes bytes written contradicts = record { none = λ s none. nowhere s none (starts_with nat_eq (drop s.position bytes) written) refl }
@@ -125,7 +125,7 @@ leaf_takes_none (string_set strings icase) = λ setting bytes. Advances-any_stri
 
 mutual
   -- matching forwards never moves backwards
-  takes_none : (t : Tree) → TakesAtLeast 0 t
+  pub takes_none : (t : Tree) → TakesAtLeast 0 t
   takes_none (leaf l) = leaf_takes_none l
   takes_none (cat parts) = list_takes_none parts
   takes_none (alt left right) = λ setting bytes. Advances-or 0 0 _ _ (takes_none left setting bytes) (takes_none right setting bytes)

@@ -4,3 +4,4 @@ pub mod FirstPairs
 pub mod Candidates
 pub mod Required
 pub mod Literals
+pub mod Near

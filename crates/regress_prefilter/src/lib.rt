@@ -6,10 +6,12 @@ pub mod candidates;
 pub mod first_pairs;
 pub mod first_sets;
 pub mod literal;
+pub mod near;
 pub mod required;
 
-pub use candidates::{Candidates, candidates_of, next_candidate_from};
+pub use candidates::{Candidates, FirstBytes, candidates_of, next_candidate_from};
 pub use first_pairs::{first_pair, next_pair};
 pub use first_sets::{first_bytes, next_candidate};
 pub use literal::required_literal;
+pub use near::{Near, near_byte};
 pub use required::required_byte;

@@ -14,20 +14,17 @@ use Rattle.regress_base.specs.Intervals.{Bounds, is_within}
 use Rattle.regress_tree.specs.Reading.{Direction, forwards, Read, character_at, next_character, of_bytes, read_after}
 use Rattle.regress_tree.specs.References.{all_of}
 use Rattle.regress_tree.proofs.lemmas.Characters.{character_at_parts}
-use Rattle.regress_tree.specs.Steps.{MatchState, dedup, Setting}
+use Rattle.regress_tree.specs.Steps.{MatchState, Setting}
 use Rattle.regress_tree.specs.Tree.{Tree, leaf, string_set}
 use Rattle.regress_prefilter.specs.FirstSets.{BeginsWithByteOf, IsCovered}
 use Rattle.regress_prefilter.specs.OneCharacter.{takes_one, test_of}
+use Rattle.regress_prefilter.proofs.lemmas.Distinct.{none_distinct}
 use Rattle.regress_prefilter.proofs.lemmas.OneCharacter.{after_parts, takes_one-steps}
 use Rattle.regress_base.specs.Table.{canonicalize, denotes}
 use Rattle.regress_leaves.specs.Known.{HasAsciiCase}
 use Rattle.regress_leaves.specs.Starts.{BeginsFolded, HasClass, IsFoldedFrom}
 use Rattle.regress_leaves.proofs.ReadingLemmas.{ascii_after, first_of_drop}
 use Rattle.regress_leaves.proofs.lemmas.Leaves.{all_no, all_none, any-cons, any-nil, one_yes, one_no}
-
-pub none_distinct : (states : List MatchState) → dedup states ≡ [] → states ≡ []
-none_distinct [] is = refl
-none_distinct (s ∷ states) is = let bad : ⊥ = cc in absurd bad
 
 -- no match begins with another byte, or at the end of the text
 pub bytes_fail : (set : ByteBitmap) (t : Tree) (setting : Setting) (bytes : List ℕ) (s : MatchState) → BeginsWithByteOf set t →
