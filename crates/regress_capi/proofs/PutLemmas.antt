@@ -9,15 +9,6 @@ two_ends : (span : Option CaptureSpan) → length (ends_of span) ≡ 2
 two_ends None = refl
 two_ends (Some span) = refl
 
--- ---- the room for them
-
--- one more span takes two numbers of the room
-pub room_more : (span : Option CaptureSpan) (rest : List (Option CaptureSpan)) (left room whole : ℕ) → 2 ≤ left →
-    length (flat_map ends_of (span ∷ rest)) + room ≡ whole + left → length (flat_map ends_of rest) + room ≡ whole + (left - 2)
-room_more span rest left room whole some is =
-    let both = length-append (ends_of span) (flat_map ends_of rest) in
-    omega (arith, both, two_ends span, some, is)
-
 -- ---- the buffer
 
 -- The numbers of all spans but these are written, and what follows them in the buffer is as it was.

@@ -1,6 +1,6 @@
 -- The steps that a repeated search spends.
 use Rattle.std.proofs.Common.{◌≡◌, ℕ, ◌+◌, ◌-◌, ◌^◌, ◌≤◌, List, Option, Some, None, ap, arith, min}
-use Rattle.std.specs.Prelude.{IfSome, IsNone}
+use Rattle.std.specs.Prelude.{IfSome}
 use Rattle.regress_code.specs.Code.{captures_cost}
 use Rattle.regress_found.specs.Tried.{positions_tried}
 use Rattle.regress_found.specs.Results.{IfMatched}
@@ -10,27 +10,13 @@ use Rattle.regress_found.specs.declared.outcome.Outcome.TheVariants as outcomes
 use Rattle.regress_tables.specs.TextSearch.{searched_code, searched_text}
 use Rattle.regress_tables.specs.declared.text.TextSearch.{TextSearch}
 use Rattle.regress_match.specs.Iterated.{HasCounted, IsSameIteration, Spends, iterated_from, iterated_matcher, iterated_text, steps_remaining}
-use Rattle.regress_match.specs.Kept.{IfKept, IsKept}
+use Rattle.regress_match.specs.Kept.{IsKept}
 use Rattle.regress_match.specs.Matcher.{outcome_if}
 use Rattle.regress_match.specs.declared.matcher.Matcher.{Matcher}
 use Rattle.regress_match.specs.declared.matcher_matches.MatcherMatches.{MatcherMatches}
 
 pub Spends-trans : (one two three : MatcherMatches) → Spends one two → Spends two three → Spends one three
 Spends-trans one two three first second = record { remaining = omega (arith, first.remaining, second.remaining); taken = omega (arith, first.taken, second.taken) }
-
--- fewer steps remain, and none of those in tables were taken
-pub spends_by : (old new : MatcherMatches) → new.limit ≡ old.limit → new.searched ≡ old.searched → steps_remaining new ≤ steps_remaining old →
-    Spends old new
-spends_by old new limit searched less = record { remaining = less; taken = omega (arith, limit, searched, less) }
-
--- the same steps remain, and more were taken in tables
-pub spends_searched : (old new : MatcherMatches) → new.limit ≡ old.limit → new.remaining ≡ old.remaining → old.searched ≤ new.searched → Spends old new
-spends_searched old new limit same more = record { remaining = omega (arith, same); taken = omega (arith, limit, same, more) }
-
--- without tables no step was taken in them
-pub none_searched : (m : Matcher) (text : List ℕ) (from taken : ℕ) (search : Option TextSearch) → IsNone search → IfKept m text from taken search → taken ≡ 0
-none_searched m text from taken None none kept = kept
-none_searched m text from taken (Some s) none kept = cc
 
 -- what holds of a match
 pub matched_weaker : (outcome : Outcome) (P Q : Match → Type 0) → ((m : Match) → P m → Q m) → IfMatched outcome P → IfMatched outcome Q
