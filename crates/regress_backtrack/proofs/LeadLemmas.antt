@@ -1,5 +1,5 @@
 -- Where no match begins, none begins at a later character of the loop with which the pattern begins.
-use Rattle.std.proofs.Common.{◌≡◌, ℕ, zero, suc, ◌+◌, ◌-◌, ◌<◌, ◌≤◌, Bool, true, false, List, [], ◌∷◌, ◌++◌, length, replicate, slice_get, slice_index, Some, None, inl, inr, refl, sym, ap, ap₂, ◌∙◌, subst, arith}
+use Rattle.std.proofs.Common.{◌≡◌, ℕ, zero, suc, ◌+◌, ◌-◌, ◌<◌, ◌≤◌, Bool, true, false, List, [], ◌∷◌, ◌++◌, length, replicate, slice_get, slice_index, ◌⊎◌, IfSome, MatchOption, Option, Some, None, inl, inr, refl, sym, ap, ap₂, ◌∙◌, subst, arith}
 use Rattle.std.proofs.lemmas.Bool.{cases_lt}
 use Rattle.regress_base.specs.ByteBitmap.{contains}
 use Rattle.regress_base.specs.declared.bytesearch.bitmap.ByteBitmap.{ByteBitmap}
@@ -15,10 +15,9 @@ use Rattle.regress_code.specs.Code.{code_groups, code_routines, outcomes_from, s
 use Rattle.regress_backtrack.specs.declared.input.Input.{Input}
 use Rattle.regress_backtrack.specs.declared.lead.Lead.{Lead}
 use Rattle.regress_backtrack.specs.declared.machine.Place.{Place}
-use Rattle.regress_backtrack.specs.Lead.{BeginsAfterOne, IsBegun, IsIn}
-use Rattle.regress_backtrack.specs.Sweep.{IsAsciiLeaf}
+use Rattle.regress_backtrack.specs.Lead.{BeginsAfterOne, BeginsAt, IsBegun, IsCharacterAt, IsIn, IsLead, IsLed, IsOptional, IsRequired}
 use Rattle.regress_backtrack.specs.Machine.{Groups, at}
-use Rattle.regress_backtrack.specs.Next.{Fails, IsInput, Solve, instructions_in}
+use Rattle.regress_backtrack.specs.Next.{Fails, IsInput, Solve}
 use Rattle.regress_backtrack.specs.Searched.{IsFor}
 use Rattle.regress_backtrack.proofs.PossessiveLemmas.{following_fails}
 use Rattle.regress_backtrack.proofs.RunLemmas.{solved}
@@ -117,35 +116,197 @@ module _ (input : Input) (is : IsInput input) (lead : Lead) (pc : ℕ) (begun : 
       ∙ none_both (again low) (after low) (no_iteration low n are (body_fails outs g solve) (λ j _ le. fails j le))
       (subst (λ k. after k ≡ []) (omega arith) (fails zero (omega arith)))
 
-  -- a leaf, and then the loop
-  module _ (leaf : ℕ) (before : ByteBitmap) (ascii : IsAsciiLeaf input leaf before) (first_in : input.first < length (instructions_in input))
-      (first : slice_get (instructions_in input) input.first ≡ Some (insts.Leaf leaf pc)) where
-    abbrev at_first : ℕ → List MatchState
-    at_first k = outs input.index (at (record { pc = input.first; moved = true; position = k }) g)
+module _ (input : Input) (is : IsInput input) (forwards : input.rules.backwards ≡ false) (outs : ℕ → Out) (solve : Solve input outs) (g : Groups) where
+  abbrev at_pc : (pc k : ℕ) → List MatchState
+  at_pc pc k = outs input.index (at (record { pc = pc; moved = true; position = k }) g)
 
-    pub first_on : (k : ℕ) → k < length input.text.now → slice_index input.text.now k < 128 → contains before (slice_index input.text.now k) ≡ true →
-        at_first k ≡ at_loop (k + 1)
-    first_on = character input is outs solve g leaf before ascii begun.swept.forwards input.first pc true first_in first
+  -- a leaf that matches the character
+  one_on : (pc next : ℕ) (chars : ByteBitmap) → IsCharacterAt input pc next chars → (k : ℕ) → IsIn chars input.text.now k → at_pc pc k ≡ at_pc next (k + 1)
+  one_on pc next chars one k in_set =
+      let c = one.character in
+      character input is outs solve g c.leaf chars (record { test = c.test; is_test = c.is_test; starts = c.starts }) forwards pc next true one.inside c.is
+      k in_set.inside in_set.ascii in_set.member
 
-    none_first_if : (k : ℕ) → k < length input.text.now → slice_index input.text.now k < 128 → at_loop (k + 1) ≡ [] →
-        (b : Bool) → contains before (slice_index input.text.now k) ≡ b → at_first k ≡ []
-    none_first_if k lt small none true member = first_on k lt small member ∙ none
-    none_first_if k lt small none false other = other_character input is outs solve g leaf before ascii begun.swept.forwards input.first pc true first_in first k lt small other
+  -- and one that does not
+  one_fails : (pc next : ℕ) (chars : ByteBitmap) → IsCharacterAt input pc next chars → (k : ℕ) → k < length input.text.now → slice_index input.text.now k < 128 →
+      contains chars (slice_index input.text.now k) ≡ false → at_pc pc k ≡ []
+  one_fails pc next chars one k lt small other =
+      let c = one.character in
+      other_character input is outs solve g c.leaf chars (record { test = c.test; is_test = c.is_test; starts = c.starts }) forwards pc next true one.inside c.is
+      k lt small other
 
-    -- Where no loop begins after the first character, no match begins at it or at a character of the loop.
-    pub none_from : (low m : ℕ) → low < length input.text.now → slice_index input.text.now low < 128 → AreIn set input.text.now (low + 1) m →
-        at_loop (low + 1) ≡ [] → (j : ℕ) → j ≤ m → at_first (low + j) ≡ []
-    none_from low m lt small more none zero le =
-        let same : low ≡ low + zero = omega arith in
-        subst (λ k. at_first k ≡ []) same (none_first_if low lt small none (contains before (slice_index input.text.now low)) refl)
-    none_from low m lt small more none (suc i) le =
-        let here = more i (omega (arith, le)) in
-        let same : (low + 1) + i ≡ low + suc i = omega arith in
-        let next : (low + 1) + suc i ≡ ((low + 1) + i) + 1 = omega arith in
-        let loop = subst (λ k. at_loop k ≡ []) next
-        (none_in_loop (low + 1) m more (omega (arith, lt)) none (suc i) le (omega (arith, here.0))) in
-        subst (λ k. at_first k ≡ []) same
-        (none_first_if ((low + 1) + i) here.0 here.1.0 loop (contains before (slice_index input.text.now ((low + 1) + i))) refl)
+  -- At an ASCII character a leaf fails if what follows it does after that.
+  pub one_none : (pc next : ℕ) (chars : ByteBitmap) → IsCharacterAt input pc next chars → (k : ℕ) → k < length input.text.now → slice_index input.text.now k < 128 →
+      (IsIn chars input.text.now k → at_pc next (k + 1) ≡ []) → at_pc pc k ≡ []
+  one_none pc next chars one k lt small none = by (contains chars (slice_index input.text.now k)) refl
+    where
+      by : (b : Bool) → contains chars (slice_index input.text.now k) ≡ b → at_pc pc k ≡ []
+      by true member = let in_set : IsIn chars input.text.now k = record { inside = lt; ascii = small; member = member } in one_on pc next chars one k in_set ∙ none in_set
+      by false other = one_fails pc next chars one k lt small other
+
+  -- an optional leaf
+  optional_on : (first pc : ℕ) (chars : ByteBitmap) → (optional : IsOptional input first pc chars) → (k : ℕ) → k ≤ length input.text.now →
+      at_pc first k ≡ at_pc optional.choice k ++ at_pc pc k
+  optional_on first pc chars optional k le =
+      let u = subject input.rules input.text.now in
+      let p : Place = record { pc = first; moved = true; position = k } in
+      solved input is p (insts.Split optional.choice pc) optional.first_in optional.splits u.setting u.bytes outs u.direction g solve is.direction le
+
+module _ (input : Input) (is : IsInput input) (lead : Lead) (pc : ℕ) (outs : ℕ → Out) (solve : Solve input outs) (g : Groups) where
+  abbrev here : ℕ → List MatchState
+  here k = outs input.index (at (record { pc = pc; moved = true; position = k }) g)
+
+  -- An ASCII character, and no outcome before it.
+  abbrev NoneAt : ℕ → Type 0
+  NoneAt k = (k < length input.text.now) × ((slice_index input.text.now k < 128) × (here k ≡ []))
+
+  -- the characters of the loop, if it begins at `pc`
+  loop_led : IsBegun input lead pc → (low n : ℕ) → AreIn lead.set.now input.text.now low n → low ≤ length input.text.now → here low ≡ [] →
+      (k : ℕ) → low ≤ k → k < low + n → NoneAt k
+  loop_led begun low n are le none k above below =
+      let in_set = are (k - low) (omega (arith, above, below)) in
+      let same : low + (k - low) ≡ k = omega (arith, above) in
+      subst NoneAt same (in_set.0, (in_set.1.0, none_in_loop input is lead pc begun outs solve g low n are le none (k - low) (omega (arith, above, below)) (omega (arith, in_set.0))))
+
+  -- the character before the loop, and those of the loop
+  after_led : (before : ByteBitmap) (after : BeginsAfterOne input lead pc before) → (low n : ℕ) → IsIn before input.text.now low →
+      AreIn lead.set.now input.text.now (low + 1) n →
+      outs input.index (at (record { pc = after.next; moved = true; position = low + 1 }) g) ≡ [] →
+      (k : ℕ) → low ≤ k → k < (low + 1) + n → NoneAt k
+  after_led before after low n in_before are none k above below =
+      let forwards = after.begun.swept.forwards in
+      let loop : (j : ℕ) → j ≤ n → (low + 1) + j ≤ length input.text.now →
+      outs input.index (at (record { pc = after.next; moved = true; position = (low + 1) + j }) g) ≡ [] =
+      none_in_loop input is lead after.next after.begun outs solve g (low + 1) n are (omega (arith, in_before.inside)) none in
+      let next : (low + 1) + (k - low) ≡ k + 1 = omega (arith, above) in
+      elim (cases_lt low k) [
+        | inl lt ↦ let in_set = are (k - (low + 1)) (omega (arith, lt, below)) in
+            let same : (low + 1) + (k - (low + 1)) ≡ k = omega (arith, lt) in
+            let inside = subst (λ i. i < length input.text.now) same in_set.0 in
+            let small = subst (λ i. slice_index input.text.now i < 128) same in_set.1.0 in (
+              inside,
+              (
+                small,
+                one_none input is forwards outs solve g pc after.next before after.one k inside small
+                    (λ _. subst (λ i. outs input.index (at (record { pc = after.next; moved = true; position = i }) g) ≡ []) next
+                    (loop (k - low) (omega (arith, above, below)) (omega (arith, above, inside)))),
+              ),
+            )
+        | inr ge ↦ let same : low ≡ k = omega (arith, above, ge) in
+            let inside = subst (λ i. i < length input.text.now) same in_before.inside in
+            let small = subst (λ i. slice_index input.text.now i < 128) same in_before.ascii in (
+              inside,
+              (
+                small,
+                one_none input is forwards outs solve g pc after.next before after.one k inside small
+                    (λ _. subst (λ i. outs input.index (at (record { pc = after.next; moved = true; position = i + 1 }) g) ≡ []) same none),
+              ),
+            )
+      ]
+
+  module _ (low end : ℕ) (led : IsLed lead input.text.now low end) where
+    -- the characters of the loop and the one before it, if the loop or that one begins at `pc`
+    none_led : BeginsAt input lead pc → here low ≡ [] → (k : ℕ) → low ≤ k → k < end → NoneAt k
+    none_led begins none k above below = by lead.before (λ b. b.now) begins led.begins
+      where
+        by : {A : Type 0} (o : Option A) (set_of : A → ByteBitmap) → MatchOption o (IsBegun input lead pc) (λ b. BeginsAfterOne input lead pc (set_of b)) →
+            MatchOption o (led.loop ≡ low) (λ b. (led.loop ≡ low + 1) × IsIn (set_of b) input.text.now low) → NoneAt k
+        by None set_of begun same =
+            loop_led begun low led.count (subst (λ i. AreIn lead.set.now input.text.now i led.count) same led.are_in)
+            (omega (arith, led.within, same)) none k above (omega (arith, below, led.ends, same))
+        by (Some b) set_of after begins =
+            after_led (set_of b) after low led.count begins.1 (subst (λ i. AreIn lead.set.now input.text.now i led.count) begins.0 led.are_in)
+            (sym (one_on input is after.begun.swept.forwards outs solve g pc after.next (set_of b) after.one low begins.1) ∙ none)
+            k above (omega (arith, below, led.ends, begins.0))
+
+    -- No outcome before a possessive loop, if no iteration begins after the last one, and what follows fails there.
+    none_possessive : BeginsAt input lead pc → lead.possessive ≡ true → 0 < low →
+        Fails input (record { pc = lead.looping.next; moved = true; position = end }) →
+        Fails input (record { pc = lead.looping.body; moved = false; position = end }) → here low ≡ []
+    none_possessive begins possessive some next_fails body_fails = by lead.before (λ b. b.now) begins led.begins
+      where
+        at_end : {i : ℕ} → led.loop ≡ i → end ≡ i + led.count
+        at_end same = led.ends ∙ ap (λ i. i + led.count) same
+
+        loop_none : (at_pc i : ℕ) → IsBegun input lead at_pc → led.loop ≡ i → 0 < i → outs input.index (at (record { pc = at_pc; moved = true; position = i }) g) ≡ []
+        loop_none at_pc i begun same some =
+            none_before_end input is lead at_pc begun outs solve g possessive i led.count some
+            (subst (λ i. AreIn lead.set.now input.text.now i led.count) same led.are_in) (omega (arith, led.within, same))
+            (subst (λ k. Fails input (record { pc = lead.looping.next; moved = true; position = k })) (at_end same) next_fails)
+            (subst (λ k. Fails input (record { pc = lead.looping.body; moved = false; position = k })) (at_end same) body_fails)
+
+        by : {A : Type 0} (o : Option A) (set_of : A → ByteBitmap) → MatchOption o (IsBegun input lead pc) (λ b. BeginsAfterOne input lead pc (set_of b)) →
+            MatchOption o (led.loop ≡ low) (λ b. (led.loop ≡ low + 1) × IsIn (set_of b) input.text.now low) → here low ≡ []
+        by None set_of begun same = loop_none pc low begun same some
+        by (Some b) set_of after begins =
+            one_on input is after.begun.swept.forwards outs solve g pc after.next (set_of b) after.one low begins.1
+            ∙ loop_none after.next (low + 1) after.begun begins.0 (omega arith)
+
+forwards_of : (input : Input) (lead : Lead) (pc : ℕ) → BeginsAt input lead pc → input.rules.backwards ≡ false
+forwards_of input lead pc begins = by lead.before (λ b. b.now) begins
+  where
+    by : {A : Type 0} (o : Option A) (set_of : A → ByteBitmap) → MatchOption o (IsBegun input lead pc) (λ b. BeginsAfterOne input lead pc (set_of b)) →
+        input.rules.backwards ≡ false
+    by None set_of begun = begun.swept.forwards
+    by (Some b) set_of after = after.begun.swept.forwards
+
+module _ (input : Input) (is : IsInput input) (lead : Lead) (is_lead : IsLead input lead) (outs : ℕ → Out) (solve : Solve input outs) (g : Groups) where
+  abbrev pc : ℕ
+  pc = is_lead.pc
+
+  forwards : input.rules.backwards ≡ false
+  forwards = forwards_of input lead pc is_lead.begins
+
+  abbrev at_first : ℕ → List MatchState
+  at_first k = outs input.index (at (record { pc = input.first; moved = true; position = k }) g)
+
+  abbrev at_rest : ℕ → List MatchState
+  at_rest k = outs input.index (at (record { pc = pc; moved = true; position = k }) g)
+
+  -- Without an outcome from the start there is none after an optional leaf.
+  none_after_optional : (k : ℕ) → k ≤ length input.text.now → at_first k ≡ [] → at_rest k ≡ []
+  none_after_optional k le none = by lead.optional (λ o. o.now) is_lead.optional
+    where
+      by : {A : Type 0} (o : Option A) (set_of : A → ByteBitmap) → MatchOption o (pc ≡ input.first) (λ o. IsOptional input input.first pc (set_of o)) → at_rest k ≡ []
+      by None set_of same = subst (λ i. outs input.index (at (record { pc = i; moved = true; position = k }) g) ≡ []) (sym same) none
+      by (Some o) set_of optional =
+          none_second (outs input.index (at (record { pc = optional.choice; moved = true; position = k }) g)) (at_rest k)
+          (sym (optional_on input is forwards outs solve g input.first pc (set_of o) optional k le) ∙ none)
+
+  -- There is none from the start either, if there is none after an optional leaf that is skipped, nor after one that matches.
+  none_at_first : (k : ℕ) → k < length input.text.now → slice_index input.text.now k < 128 → at_rest k ≡ [] →
+      (at_rest (k + 1) ≡ []) ⊎ IsRequired lead input.text.now k → at_first k ≡ []
+  none_at_first k lt small none next = by lead.optional (λ o. o.now) is_lead.optional next
+    where
+      by : {A : Type 0} (o : Option A) (set_of : A → ByteBitmap) → MatchOption o (pc ≡ input.first) (λ o. IsOptional input input.first pc (set_of o)) →
+          (at_rest (k + 1) ≡ []) ⊎ IfSome o (λ o. IsIn (set_of o) input.text.now k → ⊥) → at_first k ≡ []
+      by None set_of same next = subst (λ i. outs input.index (at (record { pc = i; moved = true; position = k }) g) ≡ []) same none
+      by (Some o) set_of optional next =
+          optional_on input is forwards outs solve g input.first pc (set_of o) optional k (omega (arith, lt))
+          ∙ none_both (outs input.index (at (record { pc = optional.choice; moved = true; position = k }) g)) (at_rest k)
+          (one_none input is forwards outs solve g optional.choice pc (set_of o) optional.one k lt small
+          (λ in_set. elim next [ inl none ↦ none | inr required ↦ absurd (required in_set) ])) none
+
+  module _ (low end high : ℕ) (led : IsLed lead input.text.now low end) (within : high ≤ end)
+      (required : (k : ℕ) → k + 1 ≡ end → k < high → low ≤ k → IsRequired lead input.text.now k) where
+    none_from : at_rest low ≡ [] → (k : ℕ) → low ≤ k → k < high → at_first k ≡ []
+    none_from none k above below =
+        let all = none_led input is lead pc outs solve g low end led is_lead.begins none in
+        let here = all k above (omega (arith, below, within)) in
+        none_at_first k here.0 here.1.0 here.1.1
+        (elim (cases_lt (k + 1) end) [
+          | inl lt ↦ inl (all (k + 1) (omega (arith, above)) lt).1.1
+          | inr ge ↦ inr (required k (omega (arith, ge, below, within)) below above)
+        ])
+
+    pub none_after_first : low ≤ length input.text.now → at_first low ≡ [] → (k : ℕ) → low ≤ k → k < high → at_first k ≡ []
+    none_after_first le none = none_from (none_after_optional low le none)
+
+    pub none_before_last : lead.possessive ≡ true → 0 < low →
+        Fails input (record { pc = lead.looping.next; moved = true; position = end }) →
+        Fails input (record { pc = lead.looping.body; moved = false; position = end }) → (k : ℕ) → low ≤ k → k < high → at_first k ≡ []
+    none_before_last possessive some next_fails body_fails =
+        none_from (none_possessive input is lead pc outs solve g low end led is_lead.begins possessive some next_fails body_fails)
 
 -- the outcomes of the program are those of its first instruction
 pub entry_is : (code : Code) (tables : Tables) (text : List ℕ) (input : Input) → IsFor code tables text input → (outs : ℕ → Out) → (k : ℕ) →
@@ -169,76 +330,34 @@ solves_for code tables text input for outs solution =
     (subst (λ s. IsSolution s text (code_routines input.code.now) outs) (sym for.setting)
     (subst (λ c. IsSolution (setting_with code tables) text (code_routines c) outs) (sym for.code) solution))
 
-module _ (code : Code) (tables : Tables) (text : List ℕ) (input : Input) (for : IsFor code tables text input) (lead : Lead) (outs : ℕ → Out)
-    (solution : IsSolution (setting_with code tables) text (code_routines code) outs) (low : ℕ) (within : low ≤ length text) where
+module _ (code : Code) (tables : Tables) (text : List ℕ) (input : Input) (for : IsFor code tables text input) (lead : Lead) (is_lead : IsLead input lead)
+    (outs : ℕ → Out) (solution : IsSolution (setting_with code tables) text (code_routines code) outs) (low end high : ℕ) (led : IsLed lead text low end)
+    (within : high ≤ end) (required : (k : ℕ) → k + 1 ≡ end → k < high → low ≤ k → IsRequired lead text k) where
   abbrev unset : Groups
   unset = record { captures = replicate (code_groups code) None; begins = [] }
 
   abbrev solve : Solve input outs
   solve = solves_for code tables text input for outs solution
 
-  here_in : low ≤ length input.text.now
-  here_in = subst (λ x. low ≤ length x) (sym for.same_text) within
+  led_here : IsLed lead input.text.now low end
+  led_here = subst (λ x. IsLed lead x low end) (sym for.same_text) led
 
-  are_in : (set : ByteBitmap) (from n : ℕ) → AreIn set text from n → AreIn set input.text.now from n
-  are_in set from n = subst (λ x. AreIn set x from n) (sym for.same_text)
-
-  first_none : outcomes_from code tables text outs low ≡ [] → outs input.index (at (record { pc = input.first; moved = true; position = low }) unset) ≡ []
-  first_none none = sym (entry_is code tables text input for outs low) ∙ none
-
-  at_other : (k : ℕ) → low < k → outs input.index (at (record { pc = input.first; moved = true; position = low + (k - low) }) unset) ≡ [] →
-      outcomes_from code tables text outs k ≡ []
-  at_other k above is =
-      entry_is code tables text input for outs k
-      ∙ subst (λ p. outs input.index (at (record { pc = input.first; moved = true; position = p }) unset) ≡ []) (omega (arith, above)) is
+  required_here : (k : ℕ) → k + 1 ≡ end → k < high → low ≤ k → IsRequired lead input.text.now k
+  required_here = subst (λ x. (k : ℕ) → k + 1 ≡ end → k < high → low ≤ k → IsRequired lead x k) (sym for.same_text) required
 
   -- If no match begins at the first of these characters, none begins at another one.
-  pub none_after_loop : IsBegun input lead input.first → outcomes_from code tables text outs low ≡ [] → (n : ℕ) → AreIn lead.set.now text low n →
-      (k : ℕ) → low < k → k < low + n → outcomes_from code tables text outs k ≡ []
-  none_after_loop begun none n are k above below =
-      let are' = are_in lead.set.now low n are in
-      let last = (are' (k - low) (omega (arith, above, below))).0 in
-      at_other k above
-      (none_in_loop input for.is lead input.first begun outs solve unset low n are' here_in (first_none none) (k - low) (omega (arith, above, below)) (omega (arith, last)))
-
-  -- The same if the first character is one of another set.
-  pub none_after_one : (before : ByteBitmap) → BeginsAfterOne input lead before → outcomes_from code tables text outs low ≡ [] →
-      IsIn before text low → (m : ℕ) → AreIn lead.set.now text (low + 1) m →
-      (k : ℕ) → low < k → k < (low + 1) + m → outcomes_from code tables text outs k ≡ []
-  none_after_one before begins none is m more k above below =
-      let here = subst (λ x. IsIn before x low) (sym for.same_text) is in
-      let start = sym (first_on input for.is lead begins.next begins.begun outs solve unset begins.leaf before begins.ascii begins.first_in begins.first
-      low here.inside here.ascii here.member) ∙ first_none none in
-      at_other k above
-      (none_from input for.is lead begins.next begins.begun outs solve unset begins.leaf before begins.ascii begins.first_in begins.first
-      low m here.inside here.ascii (are_in lead.set.now (low + 1) m more) start (k - low) (omega (arith, above, below)))
-
-  -- No match begins at one of these characters, if the loop is possessive and what follows fails after them.
-  pub none_in_possessive : IsBegun input lead input.first → lead.possessive ≡ true → 0 < low → (n : ℕ) → AreIn lead.set.now text low n →
-      Fails input (record { pc = lead.looping.next; moved = true; position = low + n }) →
-      Fails input (record { pc = lead.looping.body; moved = false; position = low + n }) →
-      (k : ℕ) → low ≤ k → k < low + n → outcomes_from code tables text outs k ≡ []
-  none_in_possessive begun possessive some n are next_fails body_fails k above below =
-      let here : outcomes_from code tables text outs low ≡ [] =
-      entry_is code tables text input for outs low
-      ∙ none_before_end input for.is lead input.first begun outs solve unset possessive low n some (are_in lead.set.now low n are) here_in next_fails body_fails in
-      elim (cases_lt low k) [
-        | inl lt ↦ none_after_loop begun here n are k lt below
-        | inr ge ↦ subst (λ i. outcomes_from code tables text outs i ≡ []) (omega (arith, above, ge)) here
-      ]
-
-  -- The same if the first character is one of another set.
-  pub none_in_possessive_after_one : (before : ByteBitmap) → BeginsAfterOne input lead before → lead.possessive ≡ true →
-      IsIn before text low → (m : ℕ) → AreIn lead.set.now text (low + 1) m →
-      Fails input (record { pc = lead.looping.next; moved = true; position = (low + 1) + m }) →
-      Fails input (record { pc = lead.looping.body; moved = false; position = (low + 1) + m }) →
-      (k : ℕ) → low ≤ k → k < (low + 1) + m → outcomes_from code tables text outs k ≡ []
-  none_in_possessive_after_one before begins possessive is m more next_fails body_fails k above below =
-      let here = subst (λ x. IsIn before x low) (sym for.same_text) is in
-      let more' = are_in lead.set.now (low + 1) m more in
-      let loop = none_before_end input for.is lead begins.next begins.begun outs solve unset possessive (low + 1) m (omega arith)
-      more' (omega (arith, here.inside)) next_fails body_fails in
-      let none = none_from input for.is lead begins.next begins.begun outs solve unset begins.leaf before begins.ascii begins.first_in begins.first
-      low m here.inside here.ascii more' loop (k - low) (omega (arith, above, below)) in
+  pub none_after : low ≤ length text → outcomes_from code tables text outs low ≡ [] →
+      (k : ℕ) → low < k → k < high → outcomes_from code tables text outs k ≡ []
+  none_after le none k above below =
       entry_is code tables text input for outs k
-      ∙ subst (λ p. outs input.index (at (record { pc = input.first; moved = true; position = p }) unset) ≡ []) (omega (arith, above)) none
+      ∙ none_after_first input for.is lead is_lead outs solve unset low end high led_here within required_here
+      (subst (λ x. low ≤ length x) (sym for.same_text) le) (sym (entry_is code tables text input for outs low) ∙ none) k (omega (arith, above)) below
+
+  -- No match begins at one of them, if the loop is possessive and what follows fails after them.
+  pub none_passed : lead.possessive ≡ true → 0 < low →
+      Fails input (record { pc = lead.looping.next; moved = true; position = end }) →
+      Fails input (record { pc = lead.looping.body; moved = false; position = end }) →
+      (k : ℕ) → low ≤ k → k < high → outcomes_from code tables text outs k ≡ []
+  none_passed possessive some next_fails body_fails k above below =
+      entry_is code tables text input for outs k
+      ∙ none_before_last input for.is lead is_lead outs solve unset low end high led_here within required_here possessive some next_fails body_fails k above below

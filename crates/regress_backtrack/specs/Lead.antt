@@ -1,13 +1,14 @@
 -- Loops over one character at the start of a pattern.
-use Rattle.std.specs.Prelude.{◌≡◌, ℕ, ◌<◌, true, List, length, slice_get, slice_index, MatchOption, Some}
+use Rattle.std.specs.Prelude.{◌≡◌, ℕ, ◌+◌, ◌≤◌, ◌<◌, true, List, length, slice_get, slice_index, IfSome, MatchOption, Some}
 use Rattle.regress_base.specs.ByteBitmap.{contains}
 use Rattle.regress_base.specs.declared.bytesearch.bitmap.ByteBitmap.{ByteBitmap}
 use Rattle.regress_backtrack.specs.declared.input.Input.{Input}
 use Rattle.regress_backtrack.specs.declared.lead.Lead.{Lead}
-use Rattle.regress_code.specs.Possessive.{IsPossessive}
+use Rattle.regress_code.specs.Possessive.{IsCharacter, IsPossessive}
+use Rattle.regress_leaves.specs.Starts.{AreIn}
 use Rattle.regress_program.specs.declared.instruction.Instruction.TheVariants as insts
 use Rattle.regress_backtrack.specs.Next.{instructions_in}
-use Rattle.regress_backtrack.specs.Sweep.{IsAsciiLeaf, IsSwept}
+use Rattle.regress_backtrack.specs.Sweep.{IsSwept}
 
 -- The instruction `pc` begins a greedy loop without a maximum, whose body is a leaf that matches one character, forwards.
 pub record IsBegun (input : Input) (lead : Lead) (pc : ℕ) : Type 0 where
@@ -18,21 +19,50 @@ pub record IsBegun (input : Input) (lead : Lead) (pc : ℕ) : Type 0 where
   pub begins : slice_get (instructions_in input) pc ≡ Some (insts.BeginLoop true lead.looping.body lead.looping.next)
   pub possessive : lead.possessive ≡ true → IsPossessive input.next_bytes.now input.code.now.program.leaves.items (instructions_in input) repeat_pc
 
--- The first instruction matches a leaf that matches one character, and then such a loop begins.
-pub record BeginsAfterOne (input : Input) (lead : Lead) (before : ByteBitmap) : Type 0 where
-  pub leaf : ℕ
+-- The instruction `pc` matches a leaf that matches one character, and goes on at `next`. The set has the ASCII characters
+-- that the leaf matches.
+pub record IsCharacterAt (input : Input) (pc next : ℕ) (set : ByteBitmap) : Type 0 where
+  pub inside : pc < length (instructions_in input)
+  pub character : IsCharacter input.code.now.program.leaves.items (instructions_in input) pc next set
+
+-- The instruction `pc` matches such a leaf, and then the loop begins.
+pub record BeginsAfterOne (input : Input) (lead : Lead) (pc : ℕ) (before : ByteBitmap) : Type 0 where
   pub next : ℕ
-  pub ascii : IsAsciiLeaf input leaf before
-  pub first_in : input.first < length (instructions_in input)
-  pub first : slice_get (instructions_in input) input.first ≡ Some (insts.Leaf leaf next)
+  pub one : IsCharacterAt input pc next before
   pub begun : IsBegun input lead next
 
--- The routine begins with such a loop, or with such a leaf and then the loop.
-abbrev pub IsLead : Input → Lead → Type 0
-IsLead input lead = MatchOption lead.before (IsBegun input lead input.first) (λ before. BeginsAfterOne input lead before.now)
+-- The instruction `pc` begins the loop, or matches the leaf before it.
+abbrev pub BeginsAt : Input → Lead → (pc : ℕ) → Type 0
+BeginsAt input lead pc = MatchOption lead.before (IsBegun input lead pc) (λ before. BeginsAfterOne input lead pc before.now)
+
+-- The instruction `first` tries such a leaf, and after it goes on at `pc`, or goes on there without it.
+pub record IsOptional (input : Input) (first pc : ℕ) (optional : ByteBitmap) : Type 0 where
+  pub choice : ℕ
+  pub first_in : first < length (instructions_in input)
+  pub splits : slice_get (instructions_in input) first ≡ Some (insts.Split choice pc)
+  pub one : IsCharacterAt input choice pc optional
+
+-- The routine begins with such a loop, which may have a leaf and an optional leaf before it.
+pub record IsLead (input : Input) (lead : Lead) : Type 0 where
+  pub pc : ℕ
+  pub optional : MatchOption lead.optional (pc ≡ input.first) (λ optional. IsOptional input input.first pc optional.now)
+  pub begins : BeginsAt input lead pc
 
 -- The character at the position is an ASCII character of the set.
 pub record IsIn (set : ByteBitmap) (text : List ℕ) (position : ℕ) : Type 0 where
   pub inside : position < length text
   pub ascii : slice_index text position < 128
   pub member : contains set (slice_index text position) ≡ true
+
+-- From `low` on the leaf before the loop, if there is one, and the loop match characters up to `end`.
+pub record IsLed (lead : Lead) (text : List ℕ) (low end : ℕ) : Type 0 where
+  pub loop : ℕ
+  pub count : ℕ
+  pub begins : MatchOption lead.before (loop ≡ low) (λ before. (loop ≡ low + 1) × IsIn before.now text low)
+  pub are_in : AreIn lead.set.now text loop count
+  pub within : loop + count ≤ length text
+  pub ends : end ≡ loop + count
+
+-- No optional leaf matches the ASCII character at the position.
+abbrev pub IsRequired : Lead → (text : List ℕ) → (position : ℕ) → Type 0
+IsRequired lead text position = IfSome lead.optional (λ optional. IsIn optional.now text position → ⊥)

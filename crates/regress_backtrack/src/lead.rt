@@ -5,8 +5,7 @@ ghost use Rattle.regress_program.specs.Program.{IsSolution, Out};
 ghost use Rattle.regress_code.specs.Code.{code_routines, outcomes_from, setting_with};
 ghost use Rattle.regress_code.specs.declared.code.Code.{Code};
 ghost use Rattle.regress_backtrack.specs.Next.{Fails, IsInput};
-ghost use Rattle.regress_backtrack.specs.Lead.{IsBegun, IsIn, IsLead};
-ghost use Rattle.regress_backtrack.specs.Sweep.{IsAsciiLeaf};
+ghost use Rattle.regress_backtrack.specs.Lead.{BeginsAt, IsBegun, IsCharacterAt, IsIn, IsLead, IsLed, IsRequired};
 ghost use Rattle.regress_backtrack.specs.Searched.{IsFor};
 
 use crate::alternatives::{Looping, fails};
@@ -19,9 +18,11 @@ use regress_leaves::start::Start;
 use regress_program::instruction::Instruction;
 
 /// A loop at the start of a pattern that is greedy and without a maximum, over a leaf that matches one character, and not
-/// in a group: that of `a*`, or of `ab*`.
+/// in a group: that of `a*`, of `ab*`, or of `-?ab*`.
 #[derive(Clone, Copy)]
 pub(crate) struct Lead<'c> {
+    /// The ASCII characters that an optional leaf at the start matches, if there is one. It matches one character, too.
+    pub(crate) optional: Option<&'c ByteBitmap>,
     /// The ASCII characters that the leaf before the loop matches, if there is one. It matches one character, too.
     pub(crate) before: Option<&'c ByteBitmap>,
     /// The ASCII characters that the leaf of the loop matches.
@@ -40,17 +41,37 @@ pub(crate) fn lead_of<'c>(input: &Input<'c, '_>) -> Option<Lead<'c>>
     requires { IsInput input.now }
     ensures { IfSome result (IsLead input.now) }
 {
-    match instruction_in(input, input.first)? {
-        Instruction::Leaf { leaf, next } => {
-            let lead = loop_at(input, next)?;
-            let before = ascii_at(input, leaf)?;
-            Some(Lead {
-                before: Some(before),
-                ..lead
-            })
-        }
-        _ => loop_at(input, input.first),
+    let Instruction::Split { first, second } = instruction_in(input, input.first)? else {
+        return lead_at(input, input.first);
+    };
+    let (optional, next) = character_at(input, first)?;
+    if next != second {
+        return None;
     }
+    let lead = lead_at(input, second)?;
+    Some(Lead {
+        optional: Some(optional),
+        ..lead
+    })
+}
+
+/// Returns the loop that an instruction begins, also after a leaf, if it is such a loop, with no optional leaf before it.
+///
+/// # Preconditions
+/// The input is one that `input_for` returns.
+fn lead_at<'c>(input: &Input<'c, '_>, pc: usize) -> Option<Lead<'c>>
+    requires { IsInput input.now }
+    ensures begins { IfSome result (λ lead. BeginsAt input.now lead pc) }
+    ensures required { IfSome result (λ lead. lead.optional ≡ None) }
+{
+    let Some((before, next)) = character_at(input, pc) else {
+        return loop_at(input, pc);
+    };
+    let lead = loop_at(input, next)?;
+    Some(Lead {
+        before: Some(before),
+        ..lead
+    })
 }
 
 /// Returns the loop that an instruction begins, if it is such a loop, with no leaf before it.
@@ -62,6 +83,7 @@ fn loop_at<'c>(input: &Input<'c, '_>, pc: usize) -> Option<Lead<'c>>
     requires { IsInput input.now }
     ensures begun { IfSome result (λ lead. IsBegun input.now lead pc) }
     ensures bare { IfSome result (λ lead. lead.before ≡ None) }
+    ensures required { IfSome result (λ lead. lead.optional ≡ None) }
 {
     let Instruction::BeginLoop { greedy, body, next } = instruction_in(input, pc)? else {
         return None;
@@ -72,6 +94,7 @@ fn loop_at<'c>(input: &Input<'c, '_>, pc: usize) -> Option<Lead<'c>>
     let looping = Looping { greedy, body, next };
     let swept = sole_leaf(input, looping)?;
     Some(Lead {
+        optional: None,
         before: None,
         set: swept.set,
         looping,
@@ -79,12 +102,20 @@ fn loop_at<'c>(input: &Input<'c, '_>, pc: usize) -> Option<Lead<'c>>
     })
 }
 
-/// Returns the ASCII characters that a leaf matches, if it matches one character.
-fn ascii_at<'c>(input: &Input<'c, '_>, leaf: usize) -> Option<&'c ByteBitmap>
-    ensures { IfSome result (λ set. IsAsciiLeaf input.now leaf set.now) }
+/// Returns the ASCII characters of the leaf that an instruction matches, if it matches one character, and the instruction
+/// after it.
+///
+/// # Preconditions
+/// The input is one that `input_for` returns.
+fn character_at<'c>(input: &Input<'c, '_>, pc: usize) -> Option<(&'c ByteBitmap, usize)>
+    requires { IsInput input.now }
+    ensures { IfSome result (λ r. IsCharacterAt input.now pc r.1 r.0.now) }
 {
+    let Instruction::Leaf { leaf, next } = instruction_in(input, pc)? else {
+        return None;
+    };
     match &test_at(input, leaf)?.start {
-        Start::Ascii(set) => Some(set),
+        Start::Ascii(set) => Some((set, next)),
         _ => None,
     }
 }
@@ -116,13 +147,10 @@ pub(crate) fn next_after(
     let Some(lead) = lead else {
         return position + 1;
     };
-    let Some(before) = lead.before else {
-        return position + count_of(text, lead.set, position).max(1);
-    };
-    if !is_in(before, text, position) {
-        return position + 1;
+    match loop_end(lead, text, position) {
+        Some(end) => without_optional(lead, text, position, end).max(position + 1),
+        None => position + 1,
     }
-    position + 1 + count_of(text, lead.set, position + 1)
 }
 
 /// Returns a byte offset after `position` before which no match begins, if that is known: if the loop at the start of the
@@ -173,22 +201,52 @@ fn passed_by(input: &Input<'_, '_>, lead: &Lead<'_>, text: &str, position: usize
         (outs : ℕ → Out) → IsSolution (setting_with code tables) text.now (code_routines code) outs →
         (k : ℕ) → position ≤ k → k < to → outcomes_from code tables text.now outs k ≡ []) }
 {
-    let Some(before) = lead.before else {
-        let count = count_of(text, lead.set, position);
-        // next bytes say nothing at the start of the text
-        if position == 0 || count == 0 || !fails_after(input, lead, position + count) {
-            return None;
+    let end = loop_end(lead, text, position)?;
+    let to = without_optional(lead, text, position, end);
+    // next bytes say nothing at the start of the text
+    if position > 0 && to > position && fails_after(input, lead, end) {
+        Some(to)
+    } else {
+        None
+    }
+}
+
+/// Returns the end of the characters that the loop matches from a position on, with the leaf before it, or `None` if that
+/// leaf matches no ASCII character there.
+///
+/// # Preconditions
+/// The position is inside the text.
+///
+/// # Complexity
+/// Linear in the number of these characters.
+#[inline(always)]
+fn loop_end(lead: &Lead<'_>, text: &str, position: usize) -> Option<usize>
+    requires { position ≤ length text.now }
+    ensures led { IfSome result (IsLed lead.now text.now position) }
+    ensures low { IfSome result (λ end. position ≤ end) }
+    ensures high { IfSome result (λ end. end ≤ length text.now) }
+{
+    match lead.before {
+        Some(before) if is_in(before, text, position) => {
+            Some(position + 1 + count_of(text, lead.set, position + 1))
         }
-        return Some(position + count);
-    };
-    if !is_in(before, text, position) {
-        return None;
+        Some(_) => None,
+        None => Some(position + count_of(text, lead.set, position)),
     }
-    let end = position + 1 + count_of(text, lead.set, position + 1);
-    if !fails_after(input, lead, end) {
-        return None;
+}
+
+/// Returns `end`, or the offset of the last character before it, `from` or later, if an optional leaf matches that.
+#[inline(always)]
+fn without_optional(lead: &Lead<'_>, text: &str, from: usize, end: usize) -> usize
+    requires { from ≤ end }
+    ensures low { from ≤ result }
+    ensures high { result ≤ end }
+    ensures required { (k : ℕ) → k + 1 ≡ end → k < result → from ≤ k → IsRequired lead.now text.now k }
+{
+    match lead.optional {
+        Some(optional) if from < end && is_in(optional, text, end - 1) => end - 1,
+        _ => end,
     }
-    Some(end)
 }
 
 /// Returns whether no iteration of the loop begins at a position, and nothing that follows it.
@@ -214,7 +272,8 @@ fn fails_after(input: &Input<'_, '_>, lead: &Lead<'_>, position: usize) -> bool
 /// Returns whether the character at a position is an ASCII character of the set.
 #[inline(always)]
 fn is_in(set: &ByteBitmap, text: &str, position: usize) -> bool
-    ensures { result ≡ true → IsIn set.now text.now position }
+    ensures is_in { result ≡ true → IsIn set.now text.now position }
+    ensures tests { IsIn set.now text.now position → result ≡ true }
 {
     let bytes = text.as_bytes();
     position < bytes.len() && bytes[position].is_ascii() && set.contains(bytes[position])
