@@ -15,7 +15,7 @@ use Rattle.regress_code.specs.Code.{code_groups, code_routines, outcomes_from, s
 use Rattle.regress_backtrack.specs.declared.input.Input.{Input}
 use Rattle.regress_backtrack.specs.declared.lead.Lead.{Lead}
 use Rattle.regress_backtrack.specs.declared.machine.Place.{Place}
-use Rattle.regress_backtrack.specs.Lead.{BeginsAfterOne, BeginsAt, IsBegun, IsCharacterAt, IsIn, IsLead, IsLed, IsOptional, IsRequired}
+use Rattle.regress_backtrack.specs.Lead.{BeginsAfterOne, BeginsAt, BeginsWithin, IsBegun, IsCharacterAt, IsIn, IsLead, IsLed, IsOptional, IsRequired, LeadsInto}
 use Rattle.regress_backtrack.specs.Machine.{Groups, at}
 use Rattle.regress_backtrack.specs.Next.{Fails, IsInput, Solve}
 use Rattle.regress_backtrack.specs.Searched.{IsFor}
@@ -250,63 +250,95 @@ forwards_of input lead pc begins = by lead.before (λ b. b.now) begins
     by None set_of begun = begun.swept.forwards
     by (Some b) set_of after = after.begun.swept.forwards
 
-module _ (input : Input) (is : IsInput input) (lead : Lead) (is_lead : IsLead input lead) (outs : ℕ → Out) (solve : Solve input outs) (g : Groups) where
-  abbrev pc : ℕ
-  pc = is_lead.pc
-
-  forwards : input.rules.backwards ≡ false
-  forwards = forwards_of input lead pc is_lead.begins
-
-  abbrev at_first : ℕ → List MatchState
-  at_first k = outs input.index (at (record { pc = input.first; moved = true; position = k }) g)
+module _ (input : Input) (is : IsInput input) (lead : Lead) (first pc : ℕ)
+    (optional : MatchOption lead.optional (pc ≡ first) (λ o. IsOptional input first pc o.now)) (forwards : input.rules.backwards ≡ false)
+    (outs : ℕ → Out) (solve : Solve input outs) (g : Groups) where
+  abbrev at_start : ℕ → List MatchState
+  at_start k = outs input.index (at (record { pc = first; moved = true; position = k }) g)
 
   abbrev at_rest : ℕ → List MatchState
   at_rest k = outs input.index (at (record { pc = pc; moved = true; position = k }) g)
 
-  -- Without an outcome from the start there is none after an optional leaf.
-  none_after_optional : (k : ℕ) → k ≤ length input.text.now → at_first k ≡ [] → at_rest k ≡ []
-  none_after_optional k le none = by lead.optional (λ o. o.now) is_lead.optional
+  -- Without an outcome before an optional leaf there is none after it.
+  none_after_optional : (k : ℕ) → k ≤ length input.text.now → at_start k ≡ [] → at_rest k ≡ []
+  none_after_optional k le none = by lead.optional (λ o. o.now) optional
     where
-      by : {A : Type 0} (o : Option A) (set_of : A → ByteBitmap) → MatchOption o (pc ≡ input.first) (λ o. IsOptional input input.first pc (set_of o)) → at_rest k ≡ []
+      by : {A : Type 0} (o : Option A) (set_of : A → ByteBitmap) → MatchOption o (pc ≡ first) (λ o. IsOptional input first pc (set_of o)) → at_rest k ≡ []
       by None set_of same = subst (λ i. outs input.index (at (record { pc = i; moved = true; position = k }) g) ≡ []) (sym same) none
       by (Some o) set_of optional =
           none_second (outs input.index (at (record { pc = optional.choice; moved = true; position = k }) g)) (at_rest k)
-          (sym (optional_on input is forwards outs solve g input.first pc (set_of o) optional k le) ∙ none)
+          (sym (optional_on input is forwards outs solve g first pc (set_of o) optional k le) ∙ none)
 
-  -- There is none from the start either, if there is none after an optional leaf that is skipped, nor after one that matches.
-  none_at_first : (k : ℕ) → k < length input.text.now → slice_index input.text.now k < 128 → at_rest k ≡ [] →
-      (at_rest (k + 1) ≡ []) ⊎ IsRequired lead input.text.now k → at_first k ≡ []
-  none_at_first k lt small none next = by lead.optional (λ o. o.now) is_lead.optional next
+  -- There is none before it either, if there is none after it where it is skipped, nor where it matches.
+  none_at_start : (k : ℕ) → k < length input.text.now → slice_index input.text.now k < 128 → at_rest k ≡ [] →
+      (at_rest (k + 1) ≡ []) ⊎ IsRequired lead input.text.now k → at_start k ≡ []
+  none_at_start k lt small none next = by lead.optional (λ o. o.now) optional next
     where
-      by : {A : Type 0} (o : Option A) (set_of : A → ByteBitmap) → MatchOption o (pc ≡ input.first) (λ o. IsOptional input input.first pc (set_of o)) →
-          (at_rest (k + 1) ≡ []) ⊎ IfSome o (λ o. IsIn (set_of o) input.text.now k → ⊥) → at_first k ≡ []
+      by : {A : Type 0} (o : Option A) (set_of : A → ByteBitmap) → MatchOption o (pc ≡ first) (λ o. IsOptional input first pc (set_of o)) →
+          (at_rest (k + 1) ≡ []) ⊎ IfSome o (λ o. IsIn (set_of o) input.text.now k → ⊥) → at_start k ≡ []
       by None set_of same next = subst (λ i. outs input.index (at (record { pc = i; moved = true; position = k }) g) ≡ []) same none
       by (Some o) set_of optional next =
-          optional_on input is forwards outs solve g input.first pc (set_of o) optional k (omega (arith, lt))
+          optional_on input is forwards outs solve g first pc (set_of o) optional k (omega (arith, lt))
           ∙ none_both (outs input.index (at (record { pc = optional.choice; moved = true; position = k }) g)) (at_rest k)
           (one_none input is forwards outs solve g optional.choice pc (set_of o) optional.one k lt small
           (λ in_set. elim next [ inl none ↦ none | inr required ↦ absurd (required in_set) ])) none
 
-  module _ (low end high : ℕ) (led : IsLed lead input.text.now low end) (within : high ≤ end)
-      (required : (k : ℕ) → k + 1 ≡ end → k < high → low ≤ k → IsRequired lead input.text.now k) where
-    none_from : at_rest low ≡ [] → (k : ℕ) → low ≤ k → k < high → at_first k ≡ []
-    none_from none k above below =
-        let all = none_led input is lead pc outs solve g low end led is_lead.begins none in
-        let here = all k above (omega (arith, below, within)) in
-        none_at_first k here.0 here.1.0 here.1.1
-        (elim (cases_lt (k + 1) end) [
-          | inl lt ↦ inl (all (k + 1) (omega (arith, above)) lt).1.1
-          | inr ge ↦ inr (required k (omega (arith, ge, below, within)) below above)
-        ])
+  -- none before the optional leaf at these characters, if there is none after it
+  none_from : (low end high : ℕ) → high ≤ end → ((k : ℕ) → k + 1 ≡ end → k < high → low ≤ k → IsRequired lead input.text.now k) →
+      ((k : ℕ) → low ≤ k → k < end → NoneAt input is lead pc outs solve g k) → (k : ℕ) → low ≤ k → k < high → at_start k ≡ []
+  none_from low end high within required none k above below =
+      let here = none k above (omega (arith, below, within)) in
+      none_at_start k here.0 here.1.0 here.1.1
+      (elim (cases_lt (k + 1) end) [
+        | inl lt ↦ inl (none (k + 1) (omega (arith, above)) lt).1.1
+        | inr ge ↦ inr (required k (omega (arith, ge, below, within)) below above)
+      ])
 
-    pub none_after_first : low ≤ length input.text.now → at_first low ≡ [] → (k : ℕ) → low ≤ k → k < high → at_first k ≡ []
-    none_after_first le none = none_from (none_after_optional low le none)
+module _ (input : Input) (is : IsInput input) (lead : Lead) (is_lead : IsLead input lead) (outs : ℕ → Out) (solve : Solve input outs)
+    (low end high : ℕ) (led : IsLed lead input.text.now low end) (within : high ≤ end)
+    (required : (k : ℕ) → k + 1 ≡ end → k < high → low ≤ k → IsRequired lead input.text.now k) where
+  abbrev none_at : (pc k : ℕ) → Groups → Type 0
+  none_at pc k g = outs input.index (at (record { pc = pc; moved = true; position = k }) g) ≡ []
 
-    pub none_before_last : lead.possessive ≡ true → 0 < low →
-        Fails input (record { pc = lead.looping.next; moved = true; position = end }) →
-        Fails input (record { pc = lead.looping.body; moved = false; position = end }) → (k : ℕ) → low ≤ k → k < high → at_first k ≡ []
-    none_before_last possessive some next_fails body_fails =
-        none_from (none_possessive input is lead pc outs solve g low end led is_lead.begins possessive some next_fails body_fails)
+  abbrev rest : BeginsWithin input lead is_lead.begins.pc
+  rest = is_lead.begins.rest
+
+  forwards : input.rules.backwards ≡ false
+  forwards = forwards_of input lead rest.contents rest.begins
+
+  -- If the loop is in no group, the groups are the same before it.
+  pub none_after_first : lead.grouped ≡ false → (g : Groups) → low ≤ length input.text.now → none_at input.first low g →
+      (k : ℕ) → low ≤ k → k < high → none_at input.first k g
+  none_after_first ungrouped g le none k above below =
+      let pc = is_lead.begins.pc in
+      let optional = subst (λ i. MatchOption lead.optional (pc ≡ i) (λ o. IsOptional input i pc o.now)) (is_lead.ungrouped ungrouped) is_lead.begins.optional in
+      let begins = subst (BeginsAt input lead) (rest.ungrouped ungrouped) rest.begins in
+      none_from input is lead input.first pc optional forwards outs solve g low end high within required
+      (none_led input is lead pc outs solve g low end led begins
+      (none_after_optional input is lead input.first pc optional forwards outs solve g low le none)) k above below
+
+  -- none where a capture group begins, if there is none in it
+  none_into : (pc contents k : ℕ) → LeadsInto input pc contents → k ≤ length input.text.now → ((g : Groups) → none_at contents k g) → (g : Groups) → none_at pc k g
+  none_into pc contents k (inl same) le none g = subst (λ i. none_at i k g) same (none g)
+  none_into pc contents k (inr group) le none g =
+      let u = subject input.rules input.text.now in
+      let p : Place = record { pc = pc; moved = true; position = k } in
+      solved input is p (insts.BeginGroup contents) group.inside group.begins u.setting u.bytes outs u.direction g solve is.direction le
+      ∙ none (record { captures = g.captures; begins = k ∷ g.begins })
+
+  pub none_before_last : lead.possessive ≡ true → 0 < low →
+      Fails input (record { pc = lead.looping.next; moved = true; position = end }) →
+      Fails input (record { pc = lead.looping.body; moved = false; position = end }) → (g : Groups) → (k : ℕ) → low ≤ k → k < high → none_at input.first k g
+  none_before_last possessive some next_fails body_fails g k above below =
+      let pc = is_lead.begins.pc in
+      let in_loop : (g : Groups) (k : ℕ) → low ≤ k → k < end → NoneAt input is lead rest.contents outs solve g k =
+      λ g. none_led input is lead rest.contents outs solve g low end led rest.begins
+      (none_possessive input is lead rest.contents outs solve g low end led rest.begins possessive some next_fails body_fails) in
+      let at_rest : (g : Groups) (k : ℕ) → low ≤ k → k < end → NoneAt input is lead pc outs solve g k =
+      λ g k above below. let here = in_loop g k above below in
+      (here.0, (here.1.0, none_into pc rest.contents k rest.into (omega (arith, here.0)) (λ g. (in_loop g k above below).1.1) g)) in
+      none_into input.first is_lead.start k is_lead.into (omega (arith, (in_loop g k above (omega (arith, below, within))).0))
+      (λ g. none_from input is lead is_lead.start pc is_lead.begins.optional forwards outs solve g low end high within required (at_rest g) k above below) g
 
 -- the outcomes of the program are those of its first instruction
 pub entry_is : (code : Code) (tables : Tables) (text : List ℕ) (input : Input) → IsFor code tables text input → (outs : ℕ → Out) → (k : ℕ) →
@@ -345,12 +377,12 @@ module _ (code : Code) (tables : Tables) (text : List ℕ) (input : Input) (for 
   required_here : (k : ℕ) → k + 1 ≡ end → k < high → low ≤ k → IsRequired lead input.text.now k
   required_here = subst (λ x. (k : ℕ) → k + 1 ≡ end → k < high → low ≤ k → IsRequired lead x k) (sym for.same_text) required
 
-  -- If no match begins at the first of these characters, none begins at another one.
-  pub none_after : low ≤ length text → outcomes_from code tables text outs low ≡ [] →
+  -- If no match begins at the first of these characters, none begins at another one, if the loop is in no group.
+  pub none_after : lead.grouped ≡ false → low ≤ length text → outcomes_from code tables text outs low ≡ [] →
       (k : ℕ) → low < k → k < high → outcomes_from code tables text outs k ≡ []
-  none_after le none k above below =
+  none_after ungrouped le none k above below =
       entry_is code tables text input for outs k
-      ∙ none_after_first input for.is lead is_lead outs solve unset low end high led_here within required_here
+      ∙ none_after_first input for.is lead is_lead outs solve low end high led_here within required_here ungrouped unset
       (subst (λ x. low ≤ length x) (sym for.same_text) le) (sym (entry_is code tables text input for outs low) ∙ none) k (omega (arith, above)) below
 
   -- No match begins at one of them, if the loop is possessive and what follows fails after them.
@@ -360,4 +392,4 @@ module _ (code : Code) (tables : Tables) (text : List ℕ) (input : Input) (for 
       (k : ℕ) → low ≤ k → k < high → outcomes_from code tables text outs k ≡ []
   none_passed possessive some next_fails body_fails k above below =
       entry_is code tables text input for outs k
-      ∙ none_before_last input for.is lead is_lead outs solve unset low end high led_here within required_here possessive some next_fails body_fails k above below
+      ∙ none_before_last input for.is lead is_lead outs solve low end high led_here within required_here possessive some next_fails body_fails unset k above below

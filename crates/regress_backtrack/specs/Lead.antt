@@ -1,5 +1,5 @@
 -- Loops over one character at the start of a pattern.
-use Rattle.std.specs.Prelude.{◌≡◌, ℕ, ◌+◌, ◌≤◌, ◌<◌, true, List, length, slice_get, slice_index, IfSome, MatchOption, Some}
+use Rattle.std.specs.Prelude.{◌≡◌, ◌⊎◌, ℕ, ◌+◌, ◌≤◌, ◌<◌, true, false, List, length, slice_get, slice_index, IfSome, MatchOption, Some}
 use Rattle.regress_base.specs.ByteBitmap.{contains}
 use Rattle.regress_base.specs.declared.bytesearch.bitmap.ByteBitmap.{ByteBitmap}
 use Rattle.regress_backtrack.specs.declared.input.Input.{Input}
@@ -42,11 +42,34 @@ pub record IsOptional (input : Input) (first pc : ℕ) (optional : ByteBitmap) :
   pub splits : slice_get (instructions_in input) first ≡ Some (insts.Split choice pc)
   pub one : IsCharacterAt input choice pc optional
 
--- The routine begins with such a loop, which may have a leaf and an optional leaf before it.
-pub record IsLead (input : Input) (lead : Lead) : Type 0 where
+-- The instruction `pc` begins a capture group with these contents.
+pub record BeginsGroup (input : Input) (pc contents : ℕ) : Type 0 where
+  pub inside : pc < length (instructions_in input)
+  pub begins : slice_get (instructions_in input) pc ≡ Some (insts.BeginGroup contents)
+
+-- Either `contents` is the instruction `pc`, or these are the contents of a capture group that begins there.
+abbrev pub LeadsInto : Input → (pc contents : ℕ) → Type 0
+LeadsInto input pc contents = (contents ≡ pc) ⊎ BeginsGroup input pc contents
+
+-- That begins at `pc`, maybe in a capture group.
+pub record BeginsWithin (input : Input) (lead : Lead) (pc : ℕ) : Type 0 where
+  pub contents : ℕ
+  pub into : LeadsInto input pc contents
+  pub begins : BeginsAt input lead contents
+  pub ungrouped : lead.grouped ≡ false → contents ≡ pc
+
+-- That begins at `first`, maybe after an optional leaf.
+pub record BeginsFrom (input : Input) (lead : Lead) (first : ℕ) : Type 0 where
   pub pc : ℕ
-  pub optional : MatchOption lead.optional (pc ≡ input.first) (λ optional. IsOptional input input.first pc optional.now)
-  pub begins : BeginsAt input lead pc
+  pub optional : MatchOption lead.optional (pc ≡ first) (λ optional. IsOptional input first pc optional.now)
+  pub rest : BeginsWithin input lead pc
+
+-- The routine begins with that, maybe in a capture group.
+pub record IsLead (input : Input) (lead : Lead) : Type 0 where
+  pub start : ℕ
+  pub into : LeadsInto input input.first start
+  pub begins : BeginsFrom input lead start
+  pub ungrouped : lead.grouped ≡ false → start ≡ input.first
 
 -- The character at the position is an ASCII character of the set.
 pub record IsIn (set : ByteBitmap) (text : List ℕ) (position : ℕ) : Type 0 where

@@ -5,7 +5,7 @@ ghost use Rattle.regress_program.specs.Program.{IsSolution, Out};
 ghost use Rattle.regress_code.specs.Code.{code_routines, outcomes_from, setting_with};
 ghost use Rattle.regress_code.specs.declared.code.Code.{Code};
 ghost use Rattle.regress_backtrack.specs.Next.{Fails, IsInput};
-ghost use Rattle.regress_backtrack.specs.Lead.{BeginsAt, IsBegun, IsCharacterAt, IsIn, IsLead, IsLed, IsRequired};
+ghost use Rattle.regress_backtrack.specs.Lead.{BeginsAt, BeginsFrom, BeginsWithin, IsBegun, IsCharacterAt, IsIn, IsLead, IsLed, IsRequired, LeadsInto};
 ghost use Rattle.regress_backtrack.specs.Searched.{IsFor};
 
 use crate::alternatives::{Looping, fails};
@@ -17,8 +17,8 @@ use regress_leaves::ascii::count_of;
 use regress_leaves::start::Start;
 use regress_program::instruction::Instruction;
 
-/// A loop at the start of a pattern that is greedy and without a maximum, over a leaf that matches one character, and not
-/// in a group: that of `a*`, of `ab*`, or of `-?ab*`.
+/// A loop at the start of a pattern that is greedy and without a maximum, over a leaf that matches one character: that of
+/// `a*`, of `ab*`, of `-?ab*`, or of `(ab*)`.
 #[derive(Clone, Copy)]
 pub(crate) struct Lead<'c> {
     /// The ASCII characters that an optional leaf at the start matches, if there is one. It matches one character, too.
@@ -31,6 +31,8 @@ pub(crate) struct Lead<'c> {
     pub(crate) looping: Looping,
     /// Whether the loop is known to be possessive.
     pub(crate) possessive: bool,
+    /// Whether a capture group may begin before the loop.
+    pub(crate) grouped: bool,
 }
 
 /// Returns the loop at the start of the pattern, if there is one.
@@ -41,16 +43,63 @@ pub(crate) fn lead_of<'c>(input: &Input<'c, '_>) -> Option<Lead<'c>>
     requires { IsInput input.now }
     ensures { IfSome result (IsLead input.now) }
 {
-    let Instruction::Split { first, second } = instruction_in(input, input.first)? else {
-        return lead_at(input, input.first);
+    let start = contents_at(input, input.first);
+    let lead = lead_from(input, start)?;
+    Some(Lead {
+        grouped: lead.grouped || start != input.first,
+        ..lead
+    })
+}
+
+/// Returns the contents of the capture group that an instruction begins, or the instruction, if it begins none.
+///
+/// # Preconditions
+/// The input is one that `input_for` returns.
+fn contents_at(input: &Input<'_, '_>, pc: usize) -> usize
+    requires { IsInput input.now }
+    ensures { LeadsInto input.now pc result }
+{
+    match instruction_in(input, pc) {
+        Some(Instruction::BeginGroup { next }) => next,
+        _ => pc,
+    }
+}
+
+/// Returns the loop that an instruction begins, also after an optional leaf, and in a capture group after that.
+///
+/// # Preconditions
+/// The input is one that `input_for` returns.
+fn lead_from<'c>(input: &Input<'c, '_>, start: usize) -> Option<Lead<'c>>
+    requires { IsInput input.now }
+    ensures { IfSome result (λ lead. BeginsFrom input.now lead start) }
+{
+    let Instruction::Split { first, second } = instruction_in(input, start)? else {
+        return lead_in(input, start);
     };
     let (optional, next) = character_at(input, first)?;
     if next != second {
         return None;
     }
-    let lead = lead_at(input, second)?;
+    let lead = lead_in(input, second)?;
     Some(Lead {
         optional: Some(optional),
+        ..lead
+    })
+}
+
+/// Returns the loop that an instruction begins, also in a capture group.
+///
+/// # Preconditions
+/// The input is one that `input_for` returns.
+fn lead_in<'c>(input: &Input<'c, '_>, pc: usize) -> Option<Lead<'c>>
+    requires { IsInput input.now }
+    ensures begins { IfSome result (λ lead. BeginsWithin input.now lead pc) }
+    ensures required { IfSome result (λ lead. lead.optional ≡ None) }
+{
+    let contents = contents_at(input, pc);
+    let lead = lead_at(input, contents)?;
+    Some(Lead {
+        grouped: contents != pc,
         ..lead
     })
 }
@@ -99,6 +148,7 @@ fn loop_at<'c>(input: &Input<'c, '_>, pc: usize) -> Option<Lead<'c>>
         set: swept.set,
         looping,
         possessive: is_possessive(input, swept.repeat_pc),
+        grouped: false,
     })
 }
 
@@ -147,6 +197,10 @@ pub(crate) fn next_after(
     let Some(lead) = lead else {
         return position + 1;
     };
+    // in a group the captures differ, on which what follows may depend
+    if lead.grouped {
+        return position + 1;
+    }
     match loop_end(lead, text, position) {
         Some(end) => without_optional(lead, text, position, end).max(position + 1),
         None => position + 1,
