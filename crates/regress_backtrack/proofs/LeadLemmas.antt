@@ -15,7 +15,7 @@ use Rattle.regress_code.specs.Code.{code_groups, code_routines, outcomes_from, s
 use Rattle.regress_backtrack.specs.declared.input.Input.{Input}
 use Rattle.regress_backtrack.specs.declared.lead.Lead.{Lead}
 use Rattle.regress_backtrack.specs.declared.machine.Place.{Place}
-use Rattle.regress_backtrack.specs.Lead.{BeginsAfterOne, BeginsAt, BeginsWithin, IsBegun, IsCharacterAt, IsIn, IsLead, IsLed, IsOptional, IsRequired, LeadsInto}
+use Rattle.regress_backtrack.specs.Lead.{BeginsAfterOne, BeginsAt, BeginsWithin, IsBeforeLeaf, IsBegun, IsCharacterAt, IsIn, IsLead, IsLed, IsOptional, IsRequired, LeadsInto}
 use Rattle.regress_backtrack.specs.Machine.{Groups, at}
 use Rattle.regress_backtrack.specs.Next.{Fails, IsInput, Solve}
 use Rattle.regress_backtrack.specs.Searched.{IsFor}
@@ -326,19 +326,39 @@ module _ (input : Input) (is : IsInput input) (lead : Lead) (is_lead : IsLead in
       solved input is p (insts.BeginGroup contents) group.inside group.begins u.setting u.bytes outs u.direction g solve is.direction le
       ∙ none (record { captures = g.captures; begins = k ∷ g.begins })
 
-  pub none_before_last : lead.possessive ≡ true → 0 < low →
-      Fails input (record { pc = lead.looping.next; moved = true; position = end }) →
-      Fails input (record { pc = lead.looping.body; moved = false; position = end }) → (g : Groups) → (k : ℕ) → low ≤ k → k < high → none_at input.first k g
-  none_before_last possessive some next_fails body_fails g k above below =
-      let pc = is_lead.begins.pc in
-      let in_loop : (g : Groups) (k : ℕ) → low ≤ k → k < end → NoneAt input is lead rest.contents outs solve g k =
-      λ g. none_led input is lead rest.contents outs solve g low end led rest.begins
-      (none_possessive input is lead rest.contents outs solve g low end led rest.begins possessive some next_fails body_fails) in
-      let at_rest : (g : Groups) (k : ℕ) → low ≤ k → k < end → NoneAt input is lead pc outs solve g k =
-      λ g k above below. let here = in_loop g k above below in
-      (here.0, (here.1.0, none_into pc rest.contents k rest.into (omega (arith, here.0)) (λ g. (in_loop g k above below).1.1) g)) in
-      none_into input.first is_lead.start k is_lead.into (omega (arith, (in_loop g k above (omega (arith, below, within))).0))
-      (λ g. none_from input is lead is_lead.start pc is_lead.begins.optional forwards outs solve g low end high within required (at_rest g) k above below) g
+  -- No match begins at these characters, if the loop is possessive and what follows fails after them.
+  module _ (possessive : lead.possessive ≡ true) (some : 0 < low) (next_fails : Fails input (record { pc = lead.looping.next; moved = true; position = end }))
+      (body_fails : Fails input (record { pc = lead.looping.body; moved = false; position = end })) where
+    none_inside : (g : Groups) (k : ℕ) → low ≤ k → k < end → NoneAt input is lead rest.contents outs solve g k
+    none_inside g =
+        none_led input is lead rest.contents outs solve g low end led rest.begins
+        (none_possessive input is lead rest.contents outs solve g low end led rest.begins possessive some next_fails body_fails)
+
+    none_at_rest : (g : Groups) (k : ℕ) → low ≤ k → k < end → NoneAt input is lead is_lead.begins.pc outs solve g k
+    none_at_rest g k above below =
+        let here = none_inside g k above below in
+        (here.0, (here.1.0, none_into is_lead.begins.pc rest.contents k rest.into (omega (arith, here.0)) (λ g. (none_inside g k above below).1.1) g))
+
+    pub none_before_last : (g : Groups) → (k : ℕ) → low ≤ k → k < high → none_at input.first k g
+    none_before_last g k above below =
+        none_into input.first is_lead.start k is_lead.into (omega (arith, (none_inside g k above (omega (arith, below, within))).0))
+        (λ g. none_from input is lead is_lead.start is_lead.begins.pc is_lead.begins.optional forwards outs solve g low end high within required
+        (none_at_rest g) k above below) g
+
+    -- nor at the character before them, if only an optional leaf can match that
+    pub none_before_first : (k : ℕ) → k + 1 ≡ low → low < end → IsBeforeLeaf lead input.text.now k → (g : Groups) → none_at input.first k g
+    none_before_first k next more before =
+        none_into input.first is_lead.start k is_lead.into (omega (arith, before.inside)) (λ g.
+        none_at_start input is lead is_lead.start is_lead.begins.pc is_lead.begins.optional forwards outs solve g k before.inside before.ascii
+        (none_into is_lead.begins.pc rest.contents k rest.into (omega (arith, before.inside)) (λ g. by g lead.before (λ b. b.now) rest.begins before.other) g)
+        (inl (subst (λ i. none_at is_lead.begins.pc i g) (sym next) (none_at_rest g low (omega arith) more).1.1)))
+      where
+        by : (g : Groups) → {A : Type 0} (o : Option A) (set_of : A → ByteBitmap) →
+            MatchOption o (IsBegun input lead rest.contents) (λ b. BeginsAfterOne input lead rest.contents (set_of b)) →
+            MatchOption o ⊥ (λ b. IsIn (set_of b) input.text.now k → ⊥) → none_at rest.contents k g
+        by g None set_of begun other = absurd other
+        by g (Some b) set_of after other =
+            one_none input is forwards outs solve g rest.contents after.next (set_of b) after.one k before.inside before.ascii (λ in_set. absurd (other in_set))
 
 -- the outcomes of the program are those of its first instruction
 pub entry_is : (code : Code) (tables : Tables) (text : List ℕ) (input : Input) → IsFor code tables text input → (outs : ℕ → Out) → (k : ℕ) →
@@ -385,11 +405,21 @@ module _ (code : Code) (tables : Tables) (text : List ℕ) (input : Input) (for 
       ∙ none_after_first input for.is lead is_lead outs solve low end high led_here within required_here ungrouped unset
       (subst (λ x. low ≤ length x) (sym for.same_text) le) (sym (entry_is code tables text input for outs low) ∙ none) k (omega (arith, above)) below
 
-  -- No match begins at one of them, if the loop is possessive and what follows fails after them.
+  -- No match begins at one of them, if the loop is possessive and what follows fails after them, nor at the character before
+  -- them, if only an optional leaf can match that.
   pub none_passed : lead.possessive ≡ true → 0 < low →
       Fails input (record { pc = lead.looping.next; moved = true; position = end }) →
       Fails input (record { pc = lead.looping.body; moved = false; position = end }) →
-      (k : ℕ) → low ≤ k → k < high → outcomes_from code tables text outs k ≡ []
-  none_passed possessive some next_fails body_fails k above below =
+      (first : ℕ) → low ≤ first + 1 → (first < low → (low < end) × IsBeforeLeaf lead text first) →
+      (k : ℕ) → first ≤ k → k < high → outcomes_from code tables text outs k ≡ []
+  none_passed possessive some next_fails body_fails first near before k above below =
       entry_is code tables text input for outs k
-      ∙ none_before_last input for.is lead is_lead outs solve low end high led_here within required_here possessive some next_fails body_fails unset k above below
+      ∙ elim (cases_lt k low) [
+        | inl lt ↦ let same : first ≡ k = omega (arith, near, above, lt) in
+            let here = before (omega (arith, above, lt)) in
+            none_before_first input for.is lead is_lead outs solve low end high led_here within required_here possessive some next_fails body_fails
+            k (omega (arith, lt, near, above)) here.0
+            (subst (λ x. IsBeforeLeaf lead x k) (sym for.same_text) (subst (IsBeforeLeaf lead text) same here.1)) unset
+        | inr ge ↦ none_before_last input for.is lead is_lead outs solve low end high led_here within required_here possessive some next_fails body_fails
+            unset k ge below
+      ]

@@ -89,3 +89,9 @@ pub record IsLed (lead : Lead) (text : List ℕ) (low end : ℕ) : Type 0 where
 -- No optional leaf matches the ASCII character at the position.
 abbrev pub IsRequired : Lead → (text : List ℕ) → (position : ℕ) → Type 0
 IsRequired lead text position = IfSome lead.optional (λ optional. IsIn optional.now text position → ⊥)
+
+-- The character at the position is ASCII, and there is a leaf before the loop, which does not match it.
+pub record IsBeforeLeaf (lead : Lead) (text : List ℕ) (position : ℕ) : Type 0 where
+  pub inside : position < length text
+  pub ascii : slice_index text position < 128
+  pub other : MatchOption lead.before ⊥ (λ before. IsIn before.now text position → ⊥)

@@ -1,11 +1,11 @@
 //! A loop over one character at the start of a pattern.
-ghost use Rattle.std.specs.Prelude.{◌≡◌, ◌≤◌, ◌<◌, ◌+◌, [], ℕ, IfSome, None, false, length, true};
+ghost use Rattle.std.specs.Prelude.{◌≡◌, ◌≤◌, ◌<◌, ◌+◌, [], ℕ, IfSome, None, false, length, slice_index, true};
 ghost use Rattle.regress_unicode.specs.declared.Tables.{Tables};
 ghost use Rattle.regress_program.specs.Program.{IsSolution, Out};
 ghost use Rattle.regress_code.specs.Code.{code_routines, outcomes_from, setting_with};
 ghost use Rattle.regress_code.specs.declared.code.Code.{Code};
 ghost use Rattle.regress_backtrack.specs.Next.{Fails, IsInput};
-ghost use Rattle.regress_backtrack.specs.Lead.{BeginsAt, BeginsFrom, BeginsWithin, IsBegun, IsCharacterAt, IsIn, IsLead, IsLed, IsRequired, LeadsInto};
+ghost use Rattle.regress_backtrack.specs.Lead.{BeginsAt, BeginsFrom, BeginsWithin, IsBeforeLeaf, IsBegun, IsCharacterAt, IsIn, IsLead, IsLed, IsRequired, LeadsInto};
 ghost use Rattle.regress_backtrack.specs.Searched.{IsFor};
 
 use crate::alternatives::{Looping, fails};
@@ -255,14 +255,44 @@ fn passed_by(input: &Input<'_, '_>, lead: &Lead<'_>, text: &str, position: usize
         (outs : ℕ → Out) → IsSolution (setting_with code tables) text.now (code_routines code) outs →
         (k : ℕ) → position ≤ k → k < to → outcomes_from code tables text.now outs k ≡ []) }
 {
-    let end = loop_end(lead, text, position)?;
-    let to = without_optional(lead, text, position, end);
+    let start = after_optional(lead, text, position);
+    let end = loop_end(lead, text, start)?;
+    let to = without_optional(lead, text, start, end);
     // next bytes say nothing at the start of the text
-    if position > 0 && to > position && fails_after(input, lead, end) {
+    if start > 0 && to > start && fails_after(input, lead, end) {
         Some(to)
     } else {
         None
     }
+}
+
+/// Returns the offset after the character at a position, if only an optional leaf can match it, or the position.
+///
+/// # Preconditions
+/// The position is inside the text.
+#[inline(always)]
+fn after_optional(lead: &Lead<'_>, text: &str, position: usize) -> usize
+    requires { position ≤ length text.now }
+    ensures low { position ≤ result }
+    ensures near { result ≤ position + 1 }
+    ensures high { result ≤ length text.now }
+    ensures other { position < result → IsBeforeLeaf lead.now text.now position }
+{
+    match (lead.optional, lead.before) {
+        (Some(_), Some(before)) if is_other(before, text, position) => position + 1,
+        _ => position,
+    }
+}
+
+/// Returns whether the character at a position is an ASCII character that is not in the set.
+#[inline(always)]
+fn is_other(set: &ByteBitmap, text: &str, position: usize) -> bool
+    ensures inside { result ≡ true → position < length text.now }
+    ensures ascii { result ≡ true → slice_index text.now position < 128 }
+    ensures other { result ≡ true → IsIn set.now text.now position → ⊥ }
+{
+    let bytes = text.as_bytes();
+    position < bytes.len() && bytes[position].is_ascii() && !set.contains(bytes[position])
 }
 
 /// Returns the end of the characters that the loop matches from a position on, with the leaf before it, or `None` if that
