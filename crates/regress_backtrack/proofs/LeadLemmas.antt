@@ -15,7 +15,8 @@ use Rattle.regress_code.specs.Code.{code_groups, code_routines, outcomes_from, s
 use Rattle.regress_backtrack.specs.declared.input.Input.{Input}
 use Rattle.regress_backtrack.specs.declared.lead.Lead.{Lead}
 use Rattle.regress_backtrack.specs.declared.machine.Place.{Place}
-use Rattle.regress_backtrack.specs.Lead.{BeginsAfterOne, BeginsAt, BeginsWithin, IsBeforeLeaf, IsBegun, IsCharacterAt, IsIn, IsLead, IsLed, IsOptional, IsRequired, LeadsInto}
+use Rattle.regress_backtrack.specs.Lead.{BeginsAfterOne, BeginsAt, BeginsWithin, IsBeforeLeaf, IsBegun, IsIn, IsLead, IsLed, IsOptional, IsRequired, LeadsInto}
+use Rattle.regress_backtrack.specs.Sweep.{IsCharacterAt}
 use Rattle.regress_backtrack.specs.Machine.{Groups, at}
 use Rattle.regress_backtrack.specs.Next.{Fails, IsInput, Solve}
 use Rattle.regress_backtrack.specs.Searched.{IsFor}
@@ -122,18 +123,7 @@ module _ (input : Input) (is : IsInput input) (forwards : input.rules.backwards 
 
   -- a leaf that matches the character
   one_on : (pc next : ℕ) (chars : ByteBitmap) → IsCharacterAt input pc next chars → (k : ℕ) → IsIn chars input.text.now k → at_pc pc k ≡ at_pc next (k + 1)
-  one_on pc next chars one k in_set =
-      let c = one.character in
-      character input is outs solve g c.leaf chars (record { test = c.test; is_test = c.is_test; starts = c.starts }) forwards pc next true one.inside c.is
-      k in_set.inside in_set.ascii in_set.member
-
-  -- and one that does not
-  one_fails : (pc next : ℕ) (chars : ByteBitmap) → IsCharacterAt input pc next chars → (k : ℕ) → k < length input.text.now → slice_index input.text.now k < 128 →
-      contains chars (slice_index input.text.now k) ≡ false → at_pc pc k ≡ []
-  one_fails pc next chars one k lt small other =
-      let c = one.character in
-      other_character input is outs solve g c.leaf chars (record { test = c.test; is_test = c.is_test; starts = c.starts }) forwards pc next true one.inside c.is
-      k lt small other
+  one_on pc next chars one k in_set = character input is outs solve g forwards pc next chars one true k in_set.inside in_set.ascii in_set.member
 
   -- At an ASCII character a leaf fails if what follows it does after that.
   pub one_none : (pc next : ℕ) (chars : ByteBitmap) → IsCharacterAt input pc next chars → (k : ℕ) → k < length input.text.now → slice_index input.text.now k < 128 →
@@ -142,7 +132,7 @@ module _ (input : Input) (is : IsInput input) (forwards : input.rules.backwards 
     where
       by : (b : Bool) → contains chars (slice_index input.text.now k) ≡ b → at_pc pc k ≡ []
       by true member = let in_set : IsIn chars input.text.now k = record { inside = lt; ascii = small; member = member } in one_on pc next chars one k in_set ∙ none in_set
-      by false other = one_fails pc next chars one k lt small other
+      by false other = other_character input is outs solve g forwards pc next chars one true k lt small other
 
   -- an optional leaf
   optional_on : (first pc : ℕ) (chars : ByteBitmap) → (optional : IsOptional input first pc chars) → (k : ℕ) → k ≤ length input.text.now →

@@ -1,5 +1,5 @@
 -- Loops over one character, whose iterations are run at once.
-use Rattle.std.proofs.Common.{◌≡◌, ◌⊎◌, inl, inr, ℕ, zero, suc, ◌+◌, ◌-◌, ◌<◌, ◌≤◌, ◌==◌, ◌||◌, not, Bool, true, false, List, [], ◌∷◌, ◌++◌, length, slice_get, slice_index, Some, All, flat_map, refl, sym, ap, ap₂, ◌∙◌, subst, append-nil, append_assoc, arith}
+use Rattle.std.proofs.Common.{◌≡◌, ◌⊎◌, inl, inr, ℕ, zero, suc, ◌+◌, ◌-◌, ◌<◌, ◌≤◌, ◌==◌, ◌||◌, not, Bool, true, false, List, [], ◌∷◌, ◌++◌, length, slice_index, All, flat_map, refl, sym, ap, ap₂, ◌∙◌, subst, append-nil, append_assoc, arith}
 use Rattle.std.proofs.Math.Nat.{eq-or-lt_of_le}
 use Rattle.std.proofs.lemmas.Grind.{flat_map-append}
 use Rattle.std.proofs.lemmas.List.Elements.{All-nil, All-cons, All-append}
@@ -23,7 +23,7 @@ use Rattle.regress_code.specs.Code.{code_routines}
 use Rattle.regress_backtrack.specs.Machine.{Groups, Ranged, at, groups_of, points, range_points}
 use Rattle.regress_backtrack.specs.Next.{Inside, IsInput, Solve, instructions_in}
 use Rattle.regress_leaves.specs.Starts.{AreIn, IsStart}
-use Rattle.regress_backtrack.specs.Sweep.{IsAsciiLeaf, IsSwept}
+use Rattle.regress_backtrack.specs.Sweep.{IsCharacterAt, IsSwept}
 use Rattle.regress_program.specs.Views.{part_of}
 use Rattle.regress_backtrack.proofs.RunLemmas.{solved}
 use Rattle.regress_leaves.proofs.lemmas.Starts.{ascii_fails, ascii_matches}
@@ -58,44 +58,44 @@ ends_moved false k = grind arith
 
 module _ (input : Input) (is : IsInput input) (outs : ℕ → Out) (solve : Solve input outs) (g : Groups) where
   -- a character that a leaf matches, at an instruction that matches it
-  pub character : (leaf : ℕ) (set : ByteBitmap) → (ascii : IsAsciiLeaf input leaf set) → input.rules.backwards ≡ false → (pc next : ℕ) (moved : Bool) →
-      pc < length (instructions_in input) → slice_get (instructions_in input) pc ≡ Some (insts.Leaf leaf next) →
+  pub character : input.rules.backwards ≡ false → (pc next : ℕ) (set : ByteBitmap) → IsCharacterAt input pc next set → (moved : Bool) →
       (k : ℕ) → k < length input.text.now → slice_index input.text.now k < 128 → contains set (slice_index input.text.now k) ≡ true →
       outs input.index (at (record { pc = pc; moved = moved; position = k }) g)
       ≡ outs input.index (at (record { pc = next; moved = true; position = k + 1 }) g)
-  character leaf set ascii forward pc next moved pc_in at_pc k lt small member =
+  character forward pc next set one moved k lt small member =
+      let c = one.character in
       let u = subject input.rules input.text.now in
       let out = outs input.index in
       let body_of = matcher_of u.setting u.bytes (code_routines input.code.now) outs in
       let p : Place = record { pc = pc; moved = moved; position = k } in
-      let start : IsStart (starts.Ascii set) (tree ascii.test.node) = subst (λ x. IsStart x (tree ascii.test.node)) ascii.starts ascii.test.begins in
-      let one : steps u.setting u.bytes u.direction (tree ascii.test.node) (state g.captures k) ≡ state g.captures (k + 1) ∷ [] =
-      subst (λ b. steps u.setting u.bytes (direction_if b) (tree ascii.test.node) (state g.captures k) ≡ state g.captures (k + 1) ∷ []) (sym forward)
-      (ascii_matches set (tree ascii.test.node) start.0 start.1 u.setting u.bytes forwards (state g.captures k) (slice_index input.text.now k) (k + 1) small
+      let start : IsStart (starts.Ascii set) (tree c.test.node) = subst (λ x. IsStart x (tree c.test.node)) c.starts c.test.begins in
+      let reads : steps u.setting u.bytes u.direction (tree c.test.node) (state g.captures k) ≡ state g.captures (k + 1) ∷ [] =
+      subst (λ b. steps u.setting u.bytes (direction_if b) (tree c.test.node) (state g.captures k) ≡ state g.captures (k + 1) ∷ []) (sym forward)
+      (ascii_matches set (tree c.test.node) start.0 start.1 u.setting u.bytes forwards (state g.captures k) (slice_index input.text.now k) (k + 1) small
       (ascii_after input.text.now k (slice_index input.text.now k) small lt refl) member) in
-      solved input is p (insts.Leaf leaf next) pc_in at_pc u.setting u.bytes outs u.direction g solve is.direction (omega (arith, lt))
-      ∙ ap (λ o. outcomes_by u.setting u.bytes u.direction body_of out (part_of o next) (at p g)) ascii.is_test
-      ∙ ap (flat_map (λ s. out (reach next (at p g) s))) one
+      solved input is p (insts.Leaf c.leaf next) one.inside c.is u.setting u.bytes outs u.direction g solve is.direction (omega (arith, lt))
+      ∙ ap (λ o. outcomes_by u.setting u.bytes u.direction body_of out (part_of o next) (at p g)) c.is_test
+      ∙ ap (flat_map (λ s. out (reach next (at p g) s))) reads
       ∙ append-nil _
       ∙ ap (λ b. out (at (record { pc = next; moved = b; position = k + 1 }) g)) (ends_moved moved k)
 
   -- an ASCII character that it does not match
-  pub other_character : (leaf : ℕ) (set : ByteBitmap) → (ascii : IsAsciiLeaf input leaf set) → input.rules.backwards ≡ false → (pc next : ℕ) (moved : Bool) →
-      pc < length (instructions_in input) → slice_get (instructions_in input) pc ≡ Some (insts.Leaf leaf next) →
+  pub other_character : input.rules.backwards ≡ false → (pc next : ℕ) (set : ByteBitmap) → IsCharacterAt input pc next set → (moved : Bool) →
       (k : ℕ) → k < length input.text.now → slice_index input.text.now k < 128 → contains set (slice_index input.text.now k) ≡ false →
       outs input.index (at (record { pc = pc; moved = moved; position = k }) g) ≡ []
-  other_character leaf set ascii forward pc next moved pc_in at_pc k lt small member =
+  other_character forward pc next set one moved k lt small member =
+      let c = one.character in
       let u = subject input.rules input.text.now in
       let out = outs input.index in
       let body_of = matcher_of u.setting u.bytes (code_routines input.code.now) outs in
       let p : Place = record { pc = pc; moved = moved; position = k } in
-      let start : IsStart (starts.Ascii set) (tree ascii.test.node) = subst (λ x. IsStart x (tree ascii.test.node)) ascii.starts ascii.test.begins in
-      let none : steps u.setting u.bytes u.direction (tree ascii.test.node) (state g.captures k) ≡ [] =
-      subst (λ b. steps u.setting u.bytes (direction_if b) (tree ascii.test.node) (state g.captures k) ≡ []) (sym forward)
-      (ascii_fails set (tree ascii.test.node) start.0 start.1 u.setting u.bytes forwards (state g.captures k) (slice_index input.text.now k) (k + 1) small
+      let start : IsStart (starts.Ascii set) (tree c.test.node) = subst (λ x. IsStart x (tree c.test.node)) c.starts c.test.begins in
+      let none : steps u.setting u.bytes u.direction (tree c.test.node) (state g.captures k) ≡ [] =
+      subst (λ b. steps u.setting u.bytes (direction_if b) (tree c.test.node) (state g.captures k) ≡ []) (sym forward)
+      (ascii_fails set (tree c.test.node) start.0 start.1 u.setting u.bytes forwards (state g.captures k) (slice_index input.text.now k) (k + 1) small
       (ascii_after input.text.now k (slice_index input.text.now k) small lt refl) member) in
-      solved input is p (insts.Leaf leaf next) pc_in at_pc u.setting u.bytes outs u.direction g solve is.direction (omega (arith, lt))
-      ∙ ap (λ o. outcomes_by u.setting u.bytes u.direction body_of out (part_of o next) (at p g)) ascii.is_test
+      solved input is p (insts.Leaf c.leaf next) one.inside c.is u.setting u.bytes outs u.direction g solve is.direction (omega (arith, lt))
+      ∙ ap (λ o. outcomes_by u.setting u.bytes u.direction body_of out (part_of o next) (at p g)) c.is_test
       ∙ ap (flat_map (λ s. out (reach next (at p g) s))) none
 
 module _ (input : Input) (is : IsInput input) (looping : Looping) (set : ByteBitmap) (repeat_pc : ℕ) (swept : IsSwept input looping set repeat_pc)
@@ -104,8 +104,10 @@ module _ (input : Input) (is : IsInput input) (looping : Looping) (set : ByteBit
   pub iteration : (k : ℕ) → k < length input.text.now → slice_index input.text.now k < 128 → contains set (slice_index input.text.now k) ≡ true →
       outs input.index (at (record { pc = looping.body; moved = false; position = k }) g)
       ≡ outs input.index (at (record { pc = repeat_pc; moved = true; position = k + 1 }) g)
-  iteration = character input is outs solve g swept.leaf set (record { test = swept.test; is_test = swept.is_test; starts = swept.starts }) swept.forwards
-      looping.body repeat_pc false body_in swept.body
+  iteration = character input is outs solve g swept.forwards looping.body repeat_pc set (record {
+    inside = body_in;
+    character = record { leaf = swept.leaf; test = swept.test; is = swept.body; is_test = swept.is_test; starts = swept.starts };
+  }) false
 
   -- the end of an iteration
   pub at_repeat_on : (k : ℕ) → k ≤ length input.text.now →

@@ -4,11 +4,11 @@ use Rattle.regress_base.specs.ByteBitmap.{contains}
 use Rattle.regress_base.specs.declared.bytesearch.bitmap.ByteBitmap.{ByteBitmap}
 use Rattle.regress_backtrack.specs.declared.input.Input.{Input}
 use Rattle.regress_backtrack.specs.declared.lead.Lead.{Lead}
-use Rattle.regress_code.specs.Possessive.{IsCharacter, IsPossessive}
+use Rattle.regress_code.specs.Possessive.{IsPossessive}
 use Rattle.regress_leaves.specs.Starts.{AreIn}
 use Rattle.regress_program.specs.declared.instruction.Instruction.TheVariants as insts
 use Rattle.regress_backtrack.specs.Next.{instructions_in}
-use Rattle.regress_backtrack.specs.Sweep.{IsSwept}
+use Rattle.regress_backtrack.specs.Sweep.{IsCharacterAt, IsSwept}
 
 -- The instruction `pc` begins a greedy loop without a maximum, whose body is a leaf that matches one character, forwards.
 pub record IsBegun (input : Input) (lead : Lead) (pc : ℕ) : Type 0 where
@@ -19,13 +19,7 @@ pub record IsBegun (input : Input) (lead : Lead) (pc : ℕ) : Type 0 where
   pub begins : slice_get (instructions_in input) pc ≡ Some (insts.BeginLoop true lead.looping.body lead.looping.next)
   pub possessive : lead.possessive ≡ true → IsPossessive input.next_bytes.now input.code.now.program.leaves.items (instructions_in input) repeat_pc
 
--- The instruction `pc` matches a leaf that matches one character, and goes on at `next`. The set has the ASCII characters
--- that the leaf matches.
-pub record IsCharacterAt (input : Input) (pc next : ℕ) (set : ByteBitmap) : Type 0 where
-  pub inside : pc < length (instructions_in input)
-  pub character : IsCharacter input.code.now.program.leaves.items (instructions_in input) pc next set
-
--- The instruction `pc` matches such a leaf, and then the loop begins.
+-- The instruction `pc` matches a leaf that matches one character, and then the loop begins.
 pub record BeginsAfterOne (input : Input) (lead : Lead) (pc : ℕ) (before : ByteBitmap) : Type 0 where
   pub next : ℕ
   pub one : IsCharacterAt input pc next before

@@ -7,6 +7,7 @@ use Rattle.regress_program.specs.declared.instruction.Instruction.TheVariants as
 use Rattle.regress_leaves.specs.declared.start.Start.TheVariants as starts
 use Rattle.regress_leaves.specs.declared.test.Test.{Test}
 use Rattle.regress_backtrack.specs.Next.{instructions_in}
+use Rattle.regress_code.specs.Possessive.{IsCharacter}
 
 -- The body of the greedy loop is a leaf that matches one character, forwards, and goes on at the end of an iteration.
 pub record IsSwept (input : Input) (looping : Looping) (set : ByteBitmap) (repeat_pc : ℕ) : Type 0 where
@@ -19,8 +20,8 @@ pub record IsSwept (input : Input) (looping : Looping) (set : ByteBitmap) (repea
   pub starts : test.start ≡ starts.Ascii set
   pub forwards : input.rules.backwards ≡ false
 
--- The leaf matches one character, and these are the ASCII characters that it matches.
-pub record IsAsciiLeaf (input : Input) (leaf : ℕ) (set : ByteBitmap) : Type 0 where
-  pub test : Test
-  pub is_test : slice_get input.code.now.program.leaves.items leaf ≡ Some test
-  pub starts : test.start ≡ starts.Ascii set
+-- The instruction `pc` matches a leaf that matches one character, and goes on at `next`. The set has the ASCII characters
+-- that the leaf matches.
+pub record IsCharacterAt (input : Input) (pc next : ℕ) (set : ByteBitmap) : Type 0 where
+  pub inside : pc < length (instructions_in input)
+  pub character : IsCharacter input.code.now.program.leaves.items (instructions_in input) pc next set

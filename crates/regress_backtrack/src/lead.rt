@@ -5,8 +5,9 @@ ghost use Rattle.regress_program.specs.Program.{IsSolution, Out};
 ghost use Rattle.regress_code.specs.Code.{code_routines, outcomes_from, setting_with};
 ghost use Rattle.regress_code.specs.declared.code.Code.{Code};
 ghost use Rattle.regress_backtrack.specs.Next.{Fails, IsInput};
-ghost use Rattle.regress_backtrack.specs.Lead.{BeginsAt, BeginsFrom, BeginsWithin, IsBeforeLeaf, IsBegun, IsCharacterAt, IsIn, IsLead, IsLed, IsRequired, LeadsInto};
+ghost use Rattle.regress_backtrack.specs.Lead.{BeginsAt, BeginsFrom, BeginsWithin, IsBeforeLeaf, IsBegun, IsIn, IsLead, IsLed, IsRequired, LeadsInto};
 ghost use Rattle.regress_backtrack.specs.Searched.{IsFor};
+ghost use Rattle.regress_backtrack.specs.Sweep.{IsCharacterAt};
 
 use crate::alternatives::{Looping, fails};
 use crate::input::{Input, instruction_in, is_possessive, test_at};
