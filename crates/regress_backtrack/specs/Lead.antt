@@ -45,20 +45,20 @@ pub record BeginsGroup (input : Input) (pc contents : ℕ) : Type 0 where
 abbrev pub LeadsInto : Input → (pc contents : ℕ) → Type 0
 LeadsInto input pc contents = (contents ≡ pc) ⊎ BeginsGroup input pc contents
 
--- That begins at `pc`, maybe in a capture group.
+-- The loop, with the leaf before it if there is one, begins at `pc`, or in a capture group that begins there.
 pub record BeginsWithin (input : Input) (lead : Lead) (pc : ℕ) : Type 0 where
   pub contents : ℕ
   pub into : LeadsInto input pc contents
   pub begins : BeginsAt input lead contents
   pub ungrouped : lead.grouped ≡ false → contents ≡ pc
 
--- That begins at `first`, maybe after an optional leaf.
+-- It begins at `first`, or after an optional leaf that begins there.
 pub record BeginsFrom (input : Input) (lead : Lead) (first : ℕ) : Type 0 where
   pub pc : ℕ
   pub optional : MatchOption lead.optional (pc ≡ first) (λ optional. IsOptional input first pc optional.now)
   pub rest : BeginsWithin input lead pc
 
--- The routine begins with that, maybe in a capture group.
+-- It begins at the start of the routine, or in a capture group that begins there.
 pub record IsLead (input : Input) (lead : Lead) : Type 0 where
   pub start : ℕ
   pub into : LeadsInto input input.first start
