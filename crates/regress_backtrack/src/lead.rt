@@ -172,7 +172,8 @@ fn character_at<'c>(input: &Input<'c, '_>, pc: usize) -> Option<(&'c ByteBitmap,
 }
 
 /// Returns a byte offset after `position`. Where no match begins at `position`, none begins before that offset: it is the
-/// end of the characters of the loop with which the pattern begins.
+/// end of the characters of the loop with which the pattern begins, or the offset of the last one if an optional leaf
+/// matches it.
 ///
 /// # Preconditions
 /// The position is inside the text.
