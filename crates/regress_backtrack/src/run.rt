@@ -169,64 +169,32 @@ fn leave_out(input: &Input<'_, '_>, machine: &mut Machine)
 fn advance(
     alloc: Global,
     input: &Input<'_, '_>,
-    here: Place,
+    place: Place,
     machine: &mut Machine,
     remaining: &mut u64,
 ) -> Result<Next, MemoryFault>
     requires program { IsProgram (code_routines input.now.code.now) }
     requires input { IsInput input.now }
-    requires inside { Inside input.now (at here (groups_of machine.old)) }
+    requires inside { Inside input.now (at place (groups_of machine.old)) }
     ensures leads { IfOk result (λ next. (outs : ℕ → Out) → (let u = subject input.now.rules input.now.text.now in
         let out = outs input.now.index in
         IsSolution u.setting u.bytes (code_routines input.now.code.now) outs →
-        Leads (flat_map out (at here (groups_of machine.old) ∷ points machine.old)) out machine.new next)) }
+        Leads (flat_map out (at place (groups_of machine.old) ∷ points machine.old)) out machine.new next)) }
     ensures inside { IfOk result (λ next. All (Inside input.now) (points machine.old) → All (Inside input.now) (ahead machine.new next)) }
     ensures rewound { IfOk result (λ _. rewound machine.new ≡ rewound machine.old) }
     ensures remaining { IfOk result (λ _. remaining.new ≤ remaining.old) }
     ensures costs { IfOk result (λ next. (outs : ℕ → Out) (costs : ℕ → Cost) → HasCost input.now outs costs → (let cost = costs input.now.index in
-        remaining.old + 1 + cost_ahead cost machine.new next ≤ remaining.new + (cost (at here (groups_of machine.old)) + points_cost cost machine.old))) }
+        remaining.old + 1 + cost_ahead cost machine.new next ≤ remaining.new + (cost (at place (groups_of machine.old)) + points_cost cost machine.old))) }
     ensures spent { IfOk result (λ next. next ≡ nexts.OutOfSteps → remaining.new ≡ 0) }
     ensures within { AreWithin input.now.room machine.old → AreWithin input.now.room machine.new }
     ensures grows { IfOk result (λ next. (outs : ℕ → Out) (costs : ℕ → Cost) → HasCost input.now outs costs → (let cost = costs input.now.index in
         entry_count machine.new + 64 * cost_ahead cost machine.new next
-        ≤ entry_count machine.old + 64 * (cost (at here (groups_of machine.old)) + points_cost cost machine.old))) }
+        ≤ entry_count machine.old + 64 * (cost (at place (groups_of machine.old)) + points_cost cost machine.old))) }
     ensures too_much { IfErr result (λ fault. fault ≡ TooMuchMemory → (outs : ℕ → Out) (costs : ℕ → Cost) → HasCost input.now outs costs →
-        input.now.room ≤ entry_count machine.old + 64 * costs input.now.index (at here (groups_of machine.old))) }
+        input.now.room ≤ entry_count machine.old + 64 * costs input.now.index (at place (groups_of machine.old))) }
 {
-    let next = next_choice(input, here);
-    advance_at(alloc, input, Place { pc: next, ..here }, machine, remaining)
-}
-
-/// Runs one instruction.
-#[cycle(run)]
-#[inline(always)]
-fn advance_at(
-    alloc: Global,
-    input: &Input<'_, '_>,
-    here: Place,
-    machine: &mut Machine,
-    remaining: &mut u64,
-) -> Result<Next, MemoryFault>
-    requires program { IsProgram (code_routines input.now.code.now) }
-    requires input { IsInput input.now }
-    requires inside { Inside input.now (at here (groups_of machine.old)) }
-    ensures leads { IfOk result (λ next. (outs : ℕ → Out) → (let u = subject input.now.rules input.now.text.now in
-        let out = outs input.now.index in
-        IsSolution u.setting u.bytes (code_routines input.now.code.now) outs →
-        Leads (flat_map out (at here (groups_of machine.old) ∷ points machine.old)) out machine.new next)) }
-    ensures inside { IfOk result (λ next. All (Inside input.now) (points machine.old) → All (Inside input.now) (ahead machine.new next)) }
-    ensures rewound { IfOk result (λ _. rewound machine.new ≡ rewound machine.old) }
-    ensures remaining { IfOk result (λ _. remaining.new ≤ remaining.old) }
-    ensures costs { IfOk result (λ next. (outs : ℕ → Out) (costs : ℕ → Cost) → HasCost input.now outs costs → (let cost = costs input.now.index in
-        remaining.old + 1 + cost_ahead cost machine.new next ≤ remaining.new + (cost (at here (groups_of machine.old)) + points_cost cost machine.old))) }
-    ensures spent { IfOk result (λ next. next ≡ nexts.OutOfSteps → remaining.new ≡ 0) }
-    ensures within { AreWithin input.now.room machine.old → AreWithin input.now.room machine.new }
-    ensures grows { IfOk result (λ next. (outs : ℕ → Out) (costs : ℕ → Cost) → HasCost input.now outs costs → (let cost = costs input.now.index in
-        entry_count machine.new + 64 * cost_ahead cost machine.new next
-        ≤ entry_count machine.old + 64 * (cost (at here (groups_of machine.old)) + points_cost cost machine.old))) }
-    ensures too_much { IfErr result (λ fault. fault ≡ TooMuchMemory → (outs : ℕ → Out) (costs : ℕ → Cost) → HasCost input.now outs costs →
-        input.now.room ≤ entry_count machine.old + 64 * costs input.now.index (at here (groups_of machine.old))) }
-{
+    let pc = next_choice(input, place);
+    let here = Place { pc, ..place };
     let instruction = instruction_at(input, here.pc);
     match instruction {
         Instruction::Look {

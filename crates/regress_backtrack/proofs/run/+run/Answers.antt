@@ -1,17 +1,20 @@
-use Rattle.std.proofs.Common.{rules, ◌≡◌, ◌+◌, ◌≤◌, IfErr, ◌++◌, ◌∷◌, [], All, IfSome, MatchOption, flat_map, length, reverse, refl, sym, ap, ◌∙◌, subst, arith}
+use Rattle.std.proofs.Common.{rules, ◌≡◌, ◌+◌, ◌≤◌, ◌<◌, ℕ, IfErr, ◌++◌, ◌∷◌, [], All, IfSome, MatchOption, flat_map, length, reverse, refl, sym, ap, ◌∙◌, subst, arith}
 use Rattle.std.proofs.lemmas.List.{length-take}
 use Rattle.std.proofs.lemmas.List.Elements.{All-head, All-tail}
 use Rattle.regress_leaves.specs.Subject.{subject}
 use Rattle.regress_found.specs.Found.{state}
 use Rattle.regress_found.specs.declared.fault.MemoryFault.TheVariants.{TooMuchMemory}
 use Rattle.regress_program.specs.Cost.{Cost}
-use Rattle.regress_program.specs.Program.{matcher_of, outcomes_by}
+use Rattle.regress_program.specs.Program.{At, Out, matcher_of, outcomes_by}
 use Rattle.regress_program.specs.Shape.{IsProgram}
 use Rattle.regress_code.specs.Code.{code_routines}
 use Rattle.regress_backtrack.specs.Costs.{cost_ahead, op_cost, points_cost}
 use Rattle.regress_program.specs.Views.{op_in}
 use Rattle.regress_backtrack.specs.Machine.{Groups, at, changes_of, groups_of, points, rewound}
+use Rattle.regress_backtrack.specs.declared.machine.Machine.{Machine}
+use Rattle.regress_backtrack.specs.declared.machine.Place.{Place}
 use Rattle.regress_backtrack.specs.declared.run.Response.TheVariants as responses
+use Rattle.regress_backtrack.specs.declared.step.Next.{Next}
 use Rattle.regress_backtrack.specs.Memory.{IsStackWithin, entry_count}
 use Rattle.regress_backtrack.specs.Next.{Inside, Leads}
 use Rattle.regress_backtrack.specs.Run.{IsResponseOf}
@@ -23,128 +26,113 @@ use Rattle.regress_backtrack.proofs.run.+run.Goals as goal
 
 -- ---- one instruction
 
--- ---- in a row of choices
+-- the instruction that is run is inside the routine
+next_within : (pc next width : ℕ) → next ≤ pc → pc < width → next < width
+next_within pc next width le lt = omega (arith, le, lt)
 
-pub advance-returns-clause-leads : goal.advance-returns-clause-leads
-advance-returns-clause-leads t c =
-    let input = c.args.input.now in
-    let m = c.args.machine.now in
-    ok_map c.advance_at.result _ _
-    (λ next leads. λ outs solve.
-    subst (λ states. Leads (states ++ flat_map (outs input.index) (points m)) (outs input.index) c.advance_at.new.machine next)
-    (c.next_choice-next.ensures.same outs (groups_of m) solve) (leads outs solve))
-    c.advance_at.ensures.leads
+-- what follows an instruction with the same outcomes
+leads_from : (out : Out) (m m' : Machine) (a b : At) (next : Next) → out a ≡ out b → Leads (flat_map out (a ∷ points m)) out m' next →
+    Leads (flat_map out (b ∷ points m)) out m' next
+leads_from out m m' a b next same = subst (λ states. Leads (states ++ flat_map out (points m)) out m' next) same
 
-pub advance-returns-clause-costs : goal.advance-returns-clause-costs
-advance-returns-clause-costs t c =
-    ok_map c.advance_at.result _ _
-    (λ next less. λ outs costs has.
-    let taken = less outs costs has in
-    let most = c.next_choice-next.ensures.costs outs costs (groups_of c.args.machine.now) has in
-    omega (arith, taken, most))
-    c.advance_at.ensures.costs
-
-pub advance-returns-clause-grows : goal.advance-returns-clause-grows
-advance-returns-clause-grows t c =
-    ok_map c.advance_at.result _ _
-    (λ next grows. λ outs costs has.
-    let grown = grows outs costs has in
-    let most = c.next_choice-next.ensures.costs outs costs (groups_of c.args.machine.now) has in
-    omega (arith, grown, most))
-    c.advance_at.ensures.grows
-
-pub advance-returns-clause-too_much : goal.advance-returns-clause-too_much
-advance-returns-clause-too_much t c =
-    err_map c.advance_at.result _ _
-    (λ fault much. λ is. λ outs costs has.
-    let full = much is outs costs has in
-    let most = c.next_choice-next.ensures.costs outs costs (groups_of c.args.machine.now) has in
-    omega (arith, full, most))
-    c.advance_at.ensures.too_much
-
-pub advance_at-look-requires : goal.advance_at-look-requires
-advance_at-look-requires t c =
+pub advance-look-requires : goal.advance-look-requires
+advance-look-requires t c =
     let input = c.args.input.now in
     let i = c.instruction_at-instruction.result in
     let read = c.instruction_at-instruction.ensures in
-    let can = can_step input c.requires.input c.args.here i c.requires.inside.pc read c.requires.program c.requires.inside.position in
-    let fits = look_fits input i c.args.here c.in-Look.negate c.in-Look.routine c.in-Look.next c.in-Look.is can in (
+    let p : Place = record c.args.place { pc = c.next_choice-pc.result } in
+    let lt = next_within _ _ _ c.next_choice-pc.ensures.within c.requires.inside.pc in
+    let can = can_step input c.requires.input p i lt read c.requires.program c.requires.inside.position in
+    let fits = look_fits input i p c.in-Look.negate c.in-Look.routine c.in-Look.next c.in-Look.is can in (
       omega (arith, c.decreases, fits.0, length-take input.index (code_routines input.code.now)),
-      (c.requires.program, (c.requires.input, (fits.0, c.requires.inside))),
+      (c.requires.program, (c.requires.input, (fits.0, record { pc = lt; position = c.requires.inside.position }))),
     )
 
-pub advance_at-step-requires : goal.advance_at-step-requires
-advance_at-step-requires t c =
+pub advance-step-requires : goal.advance-step-requires
+advance-step-requires t c =
     let input = c.args.input.now in
     let i = c.instruction_at-instruction.result in
     let read = c.instruction_at-instruction.ensures in
+    let p : Place = record c.args.place { pc = c.next_choice-pc.result } in
+    let lt = next_within _ _ _ c.next_choice-pc.ensures.within c.requires.inside.pc in
     record {
-      can = can_step input c.requires.input c.args.here i c.requires.inside.pc read c.requires.program c.requires.inside.position;
+      can = can_step input c.requires.input p i lt read c.requires.program c.requires.inside.position;
       input = c.requires.input;
       no_look = not_look input.code.now.program.leaves.items i c.in_default.not-Look;
     }
 
-pub advance_at-returns-in-Look-clause-leads : goal.advance_at-returns-in-Look-clause-leads
-advance_at-returns-in-Look-clause-leads t c =
+pub advance-returns-in-Look-clause-leads : goal.advance-returns-in-Look-clause-leads
+advance-returns-in-Look-clause-leads t c =
     let input = c.args.input.now in
     let u = subject input.rules input.text.now in
     let m = c.args.machine.now in
     let i = c.instruction_at-instruction.result in
     let read = c.instruction_at-instruction.ensures in
+    let p : Place = record c.args.place { pc = c.next_choice-pc.result } in
+    let lt = next_within _ _ _ c.next_choice-pc.ensures.within c.requires.inside.pc in
     ok_map c.look.result _ _
     (λ next leads. λ outs solution.
-    advanced input c.requires.input c.args.here i c.requires.inside.pc read m c.look.new.machine next u.setting u.bytes outs u.direction solution
+    leads_from (outs input.index) m c.look.new.machine _ _ next (c.next_choice-pc.ensures.same outs (groups_of m) solution)
+    (advanced input c.requires.input p i lt read m c.look.new.machine next u.setting u.bytes outs u.direction solution
     c.requires.input.direction c.requires.inside.position
     (subst (λ o. Goes (outs input.index) m c.look.new.machine
     (outcomes_by u.setting u.bytes u.direction (matcher_of u.setting u.bytes (code_routines input.code.now) outs)
-    (outs input.index) o (at c.args.here (groups_of m))) next) (sym (ap (op_in input.code.now.program.leaves.items) c.in-Look.is)) (leads outs (outs input.index) solution)))
+    (outs input.index) o (at p (groups_of m))) next) (sym (ap (op_in input.code.now.program.leaves.items) c.in-Look.is)) (leads outs (outs input.index) solution))))
     c.look.ensures.leads
 
-pub advance_at-returns-in-Look-clause-inside : goal.advance_at-returns-in-Look-clause-inside
-advance_at-returns-in-Look-clause-inside t c =
+pub advance-returns-in-Look-clause-inside : goal.advance-returns-in-Look-clause-inside
+advance-returns-in-Look-clause-inside t c =
     let input = c.args.input.now in
     let i = c.instruction_at-instruction.result in
     let read = c.instruction_at-instruction.ensures in
-    let can = can_step input c.requires.input c.args.here i c.requires.inside.pc read c.requires.program c.requires.inside.position in
-    let fits = look_fits input i c.args.here c.in-Look.negate c.in-Look.routine c.in-Look.next c.in-Look.is can in
+    let p : Place = record c.args.place { pc = c.next_choice-pc.result } in
+    let lt = next_within _ _ _ c.next_choice-pc.ensures.within c.requires.inside.pc in
+    let can = can_step input c.requires.input p i lt read c.requires.program c.requires.inside.position in
+    let fits = look_fits input i p c.in-Look.negate c.in-Look.routine c.in-Look.next c.in-Look.is can in
     ok_map c.look.result _ _ (λ next inside. inside fits.1) c.look.ensures.inside
 
-pub advance_at-returns-in_default : goal.advance_at-returns-in_default
-advance_at-returns-in_default t c =
+pub advance-returns-in_default : goal.advance-returns-in_default
+advance-returns-in_default t c =
     let input = c.args.input.now in
     let u = subject input.rules input.text.now in
     let m = c.args.machine.now in
     let i = c.instruction_at-instruction.result in
     let read = c.instruction_at-instruction.ensures in
+    let p : Place = record c.args.place { pc = c.next_choice-pc.result } in
+    let lt = next_within _ _ _ c.next_choice-pc.ensures.within c.requires.inside.pc in
     record {
       leads = ok_map c.step.result _ _
           (λ next leads. λ outs solution.
-          advanced input c.requires.input c.args.here i c.requires.inside.pc read m c.step.new.machine next u.setting u.bytes outs u.direction solution
+          leads_from (outs input.index) m c.step.new.machine _ _ next (c.next_choice-pc.ensures.same outs (groups_of m) solution)
+          (advanced input c.requires.input p i lt read m c.step.new.machine next u.setting u.bytes outs u.direction solution
           c.requires.input.direction c.requires.inside.position
-          (leads outs solution))
+          (leads outs solution)))
           c.step.ensures.leads;
       inside = c.step.ensures.inside;
       rewound = c.step.ensures.rewound;
       remaining = c.step.ensures.remaining;
       costs = ok_map c.step.result _ _
           (λ next taken. λ outs costs has.
-          let here = costed input c.requires.input outs costs has (groups_of m) c.args.here i c.requires.inside.pc read c.requires.inside.position in
+          let here = costed input c.requires.input outs costs has (groups_of m) p i lt read c.requires.inside.position in
+          let most = c.next_choice-pc.ensures.costs outs costs (groups_of m) has in
           let all = taken outs costs has in
-          omega (arith, here, all))
+          omega (arith, here, most, all))
           c.step.ensures.costs;
       spent = ok_map c.step.result _ _ (λ next goes. λ out. absurd (goes out)) c.step.ensures.goes;
       within = c.step.ensures.within;
       grows = ok_map c.step.result _ _
           (λ next grown. λ outs costs has.
-          let here = costed input c.requires.input outs costs has (groups_of m) c.args.here i c.requires.inside.pc read c.requires.inside.position in
+          let here = costed input c.requires.input outs costs has (groups_of m) p i lt read c.requires.inside.position in
+          let most = c.next_choice-pc.ensures.costs outs costs (groups_of m) has in
           let all = grown outs costs has in
-          omega (arith, here, all))
+          omega (arith, here, most, all))
           c.step.ensures.grows;
       too_much = err_map c.step.result _ _
           (λ fault full. λ is outs costs has.
-          let here = costed input c.requires.input outs costs has (groups_of m) c.args.here i c.requires.inside.pc read c.requires.inside.position in
+          let here = costed input c.requires.input outs costs has (groups_of m) p i lt read c.requires.inside.position in
+          let most = c.next_choice-pc.ensures.costs outs costs (groups_of m) has in
           let all = full is outs costs in
-          omega (arith, here, all))
+          omega (arith, here, most, all))
           c.step.ensures.too_much;
     }
 
@@ -392,19 +380,21 @@ run-returns-clause-undo t c = c.loop-remaining.invariant.undo
 
 -- ---- the cost
 
-pub advance_at-returns-in-Look-clause-costs : goal.advance_at-returns-in-Look-clause-costs
-advance_at-returns-in-Look-clause-costs t c =
+pub advance-returns-in-Look-clause-costs : goal.advance-returns-in-Look-clause-costs
+advance-returns-in-Look-clause-costs t c =
     let input = c.args.input.now in
     let m = c.args.machine.now in
-    let p = c.args.here in
+    let p : Place = record c.args.place { pc = c.next_choice-pc.result } in
     let i = c.instruction_at-instruction.result in
     let read = c.instruction_at-instruction.ensures in
+    let lt = next_within _ _ _ c.next_choice-pc.ensures.within c.requires.inside.pc in
     ok_map c.look.result _ _
     (λ next taken. λ outs costs has.
-    let here = costed input c.requires.input outs costs has (groups_of m) p i c.requires.inside.pc read c.requires.inside.position in
+    let here = costed input c.requires.input outs costs has (groups_of m) p i lt read c.requires.inside.position in
+    let most = c.next_choice-pc.ensures.costs outs costs (groups_of m) has in
     let is = ap (λ x. op_cost input outs costs (op_in input.code.now.program.leaves.items x) (at p (groups_of m))) c.in-Look.is in
     let all = taken outs costs has in
-    omega (arith, here, is, all))
+    omega (arith, here, most, is, all))
     c.look.ensures.costs
 
 pub look-returns-then-routine_fails-clause-costs : goal.look-returns-then-routine_fails-clause-costs
@@ -470,34 +460,38 @@ run-returns-clause-costs t c = λ outs costs has.
 
 -- ---- the entries
 
-pub advance_at-returns-in-Look-clause-grows : goal.advance_at-returns-in-Look-clause-grows
-advance_at-returns-in-Look-clause-grows t c =
+pub advance-returns-in-Look-clause-grows : goal.advance-returns-in-Look-clause-grows
+advance-returns-in-Look-clause-grows t c =
     let input = c.args.input.now in
     let m = c.args.machine.now in
-    let p = c.args.here in
+    let p : Place = record c.args.place { pc = c.next_choice-pc.result } in
     let i = c.instruction_at-instruction.result in
     let read = c.instruction_at-instruction.ensures in
+    let lt = next_within _ _ _ c.next_choice-pc.ensures.within c.requires.inside.pc in
     ok_map c.look.result _ _
     (λ next grown. λ outs costs has.
-    let here = costed input c.requires.input outs costs has (groups_of m) p i c.requires.inside.pc read c.requires.inside.position in
+    let here = costed input c.requires.input outs costs has (groups_of m) p i lt read c.requires.inside.position in
+    let most = c.next_choice-pc.ensures.costs outs costs (groups_of m) has in
     let is = ap (λ x. op_cost input outs costs (op_in input.code.now.program.leaves.items x) (at p (groups_of m))) c.in-Look.is in
     let all = grown outs costs has in
-    omega (arith, here, is, all))
+    omega (arith, here, most, is, all))
     c.look.ensures.grows
 
-pub advance_at-returns-in-Look-clause-too_much : goal.advance_at-returns-in-Look-clause-too_much
-advance_at-returns-in-Look-clause-too_much t c =
+pub advance-returns-in-Look-clause-too_much : goal.advance-returns-in-Look-clause-too_much
+advance-returns-in-Look-clause-too_much t c =
     let input = c.args.input.now in
     let m = c.args.machine.now in
-    let p = c.args.here in
+    let p : Place = record c.args.place { pc = c.next_choice-pc.result } in
     let i = c.instruction_at-instruction.result in
     let read = c.instruction_at-instruction.ensures in
+    let lt = next_within _ _ _ c.next_choice-pc.ensures.within c.requires.inside.pc in
     err_map c.look.result _ _
     (λ fault full. λ much outs costs has.
-    let here = costed input c.requires.input outs costs has (groups_of m) p i c.requires.inside.pc read c.requires.inside.position in
+    let here = costed input c.requires.input outs costs has (groups_of m) p i lt read c.requires.inside.position in
+    let most = c.next_choice-pc.ensures.costs outs costs (groups_of m) has in
     let is = ap (λ x. op_cost input outs costs (op_in input.code.now.program.leaves.items x) (at p (groups_of m))) c.in-Look.is in
     let all = full much outs costs has in
-    omega (arith, here, is, all))
+    omega (arith, here, most, is, all))
     c.look.ensures.too_much
 
 pub look-returns-then-routine_fails-clause-grows : goal.look-returns-then-routine_fails-clause-grows

@@ -18,9 +18,6 @@ decreases-run l = 4 * l.input.now.index + 3
 abbrev pub decreases-advance : goal.decreases-advance
 decreases-advance l = 4 * l.input.now.index + 2
 
-abbrev pub decreases-advance_at : goal.decreases-advance_at
-decreases-advance_at l = 4 * l.input.now.index + 1
-
 abbrev pub decreases-look : goal.decreases-look
 decreases-look l = 4 * l.looking.routine + 4
 
