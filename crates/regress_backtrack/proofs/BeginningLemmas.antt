@@ -1,5 +1,5 @@
 -- No match begins where the assertion fails with which the pattern begins.
-use Rattle.std.proofs.Common.{◌≡◌, inl, inr, ℕ, ◌+◌, ◌-◌, ◌<◌, ◌≤◌, ◌==◌, ◌&&◌, ◌||◌, Bool, true, false, if◌then◌else◌, List, [], ◌∷◌, flat_map, length, replicate, slice_index, Option, Some, None, refl, sym, ap, ap₂, ◌∙◌, subst, arith}
+use Rattle.std.proofs.Common.{◌≡◌, inl, inr, ℕ, ◌+◌, ◌-◌, ◌<◌, ◌≤◌, ◌==◌, ◌&&◌, ◌||◌, Bool, true, false, if◌then◌else◌, List, [], ◌∷◌, flat_map, length, replicate, slice_get, slice_index, Option, Some, None, refl, ap, ap₂, ◌∙◌, subst, arith}
 use Rattle.std.proofs.lemmas.Bool.{cases_lt, ne_eqb}
 use Rattle.regress_base.specs.Table.{Table}
 use Rattle.regress_base.specs.declared.types.AnchorType.TheVariants.{StartOfLine}
@@ -7,23 +7,22 @@ use Rattle.regress_tree.specs.Assertions.{at_anchor, at_boundary, differ, is_lin
 use Rattle.regress_tree.specs.Matching.{steps}
 use Rattle.regress_tree.specs.Reading.{Direction, of_bytes, read_after, read_before}
 use Rattle.regress_tree.specs.Steps.{MatchState, Setting, hold_at}
-use Rattle.regress_tree.specs.Tree.{leaf as leaf_of}
+use Rattle.regress_tree.specs.Tree.{leaf as leaf_of, tree}
 use Rattle.regress_leaves.proofs.ReadingLemmas.{ascii_after, ascii_before}
 use Rattle.regress_leaves.specs.Subject.{subject}
-use Rattle.regress_program.specs.Program.{IsSolution, Out, matcher_of, outcomes_by, reach}
+use Rattle.regress_program.specs.Program.{Out, matcher_of, outcomes_by, reach}
 use Rattle.regress_program.specs.Views.{part_of}
 use Rattle.regress_program.specs.declared.instruction.Instruction.TheVariants as insts
-use Rattle.regress_unicode.specs.declared.Tables.{Tables}
-use Rattle.regress_code.specs.Code.{code_groups, code_routines, outcomes_from, setting_with}
-use Rattle.regress_code.specs.declared.code.Code.{Code}
+use Rattle.regress_leaves.specs.declared.test.Test.{Test}
+use Rattle.regress_code.specs.Code.{code_groups, code_routines}
+use Rattle.regress_backtrack.specs.Backtracker.{AreOutcomes, Skipped, outcomes_at, run_code, run_tables, run_text}
 use Rattle.regress_backtrack.specs.Beginning.{BeginsWithAssertion, IsExcluded, IsInsideLine, IsInsideWord, assertion}
 use Rattle.regress_backtrack.specs.declared.beginning.Beginning.{Beginning}
 use Rattle.regress_backtrack.specs.declared.beginning.Beginning.TheVariants.{WordBoundary, LineStart}
-use Rattle.regress_backtrack.specs.Machine.{Groups, at}
-use Rattle.regress_backtrack.specs.Next.{IsInput, Solve}
-use Rattle.regress_backtrack.specs.Searched.{IsFor, Skipped}
+use Rattle.regress_backtrack.specs.Machine.{at}
+use Rattle.regress_backtrack.specs.Next.{IsInput, instructions_in, start_at}
+use Rattle.regress_backtrack.specs.declared.backtracker.Backtracker.{Backtracker}
 use Rattle.regress_backtrack.specs.declared.input.Input.{Input}
-use Rattle.regress_backtrack.specs.declared.machine.Place.{Place}
 use Rattle.regress_backtrack.proofs.LeadLemmas.{entry_is, solves_for}
 use Rattle.regress_backtrack.proofs.RunLemmas.{solved}
 
@@ -60,38 +59,37 @@ unfolding hold_at
 no_steps setting bytes d WordBoundary s inside = ap (λ b. if b then s ∷ [] else []) (no_boundary setting.table bytes s.position inside)
 no_steps setting bytes d LineStart s inside = ap (λ b. if b then s ∷ [] else []) (no_line bytes s.position inside)
 
-module _ (input : Input) (is : IsInput input) (beginning : Beginning) (begins : BeginsWithAssertion input beginning) (outs : ℕ → Out) (solve : Solve input outs) (g : Groups) where
-  none_here : (k : ℕ) → k ≤ length input.text.now → IsExcluded beginning input.text.now k →
-      outs input.index (at (record { pc = input.first; moved = true; position = k }) g) ≡ []
-  none_here k le inside =
-      let u = subject input.rules input.text.now in
-      let out = outs input.index in
-      let body_of = matcher_of u.setting u.bytes (code_routines input.code.now) outs in
-      let p : Place = record { pc = input.first; moved = true; position = k } in
-      let next = begins.next in
-      solved input is p (insts.Leaf begins.leaf next) begins.first_in begins.first u.setting u.bytes outs u.direction g solve is.direction le
-      ∙ ap (λ o. outcomes_by u.setting u.bytes u.direction body_of out (part_of o next) (at p g)) begins.is_test
-      ∙ ap (λ t. flat_map (λ s. out (reach next (at p g) s)) (steps u.setting u.bytes u.direction t (at p g).state)) begins.asserts
-      ∙ ap (flat_map (λ s. out (reach next (at p g) s))) (no_steps u.setting u.bytes u.direction beginning (at p g).state inside)
+-- The first instruction matches the assertion, so that a run fails where the assertion does.
+pub begins_with : (input : Input) → IsInput input → (beginning : Beginning) (leaf next : ℕ) (test : Test) → input.first < length (instructions_in input) →
+    slice_get (instructions_in input) input.first ≡ Some (insts.Leaf leaf next) → slice_get input.code.now.program.leaves.items leaf ≡ Some test →
+    tree test.node ≡ leaf_of (assertion beginning) → BeginsWithAssertion input beginning
+begins_with input is beginning leaf next test lt first is_test asserts k le excluded outs g solve =
+    let u = subject input.rules input.text.now in
+    let out = outs input.index in
+    let body_of = matcher_of u.setting u.bytes (code_routines input.code.now) outs in
+    let a = at (start_at input k) g in
+    solved input is (start_at input k) (insts.Leaf leaf next) lt first u.setting u.bytes outs u.direction g solve is.direction le
+    ∙ ap (λ o. outcomes_by u.setting u.bytes u.direction body_of out (part_of o next) a) is_test
+    ∙ ap (λ t. flat_map (λ s. out (reach next a s)) (steps u.setting u.bytes u.direction t a.state)) asserts
+    ∙ ap (flat_map (λ s. out (reach next a s))) (no_steps u.setting u.bytes u.direction beginning a.state excluded)
 
-none_excluded : (code : Code) (tables : Tables) (text : List ℕ) (input : Input) → IsFor code tables text input → (beginning : Beginning) → BeginsWithAssertion input beginning →
-    (outs : ℕ → Out) → IsSolution (setting_with code tables) text (code_routines code) outs → (k : ℕ) → k ≤ length text → IsExcluded beginning text k →
-    outcomes_from code tables text outs k ≡ []
-none_excluded code tables text input for beginning begins outs solution k le excluded =
-    entry_is code tables text input for outs k
-    ∙ none_here input for.is beginning begins outs (solves_for code tables text input for outs solution) (record { captures = replicate (code_groups code) None; begins = [] }) k
-    (subst (λ x. k ≤ length x) (sym for.same_text) le) (subst (λ x. IsExcluded beginning x k) (sym for.same_text) excluded)
+none_excluded : (b : Backtracker) (beginning : Beginning) → BeginsWithAssertion b.input beginning → (outs : ℕ → Out) → AreOutcomes b outs →
+    (k : ℕ) → k ≤ length (run_text b) → IsExcluded beginning (run_text b) k → outcomes_at b outs k ≡ []
+none_excluded b beginning begins outs solution k le excluded =
+    entry_is (run_code b) (run_tables b) (run_text b) b.input b.for_pattern outs k
+    ∙ begins k le excluded outs (record { captures = replicate (code_groups (run_code b)) None; begins = [] })
+    (solves_for (run_code b) (run_tables b) (run_text b) b.input b.for_pattern outs solution)
 
 -- Positions are skipped up to one at which the assertion fails, then those at which it fails, and then further ones.
-pub skipped_on : (code : Code) (text : List ℕ) (input : Input) (from position possible : ℕ) (result : Option ℕ) (beginning : Beginning) →
-    BeginsWithAssertion input beginning → Skipped code text input from (Some position) →
-    ((k : ℕ) → position ≤ k → k < possible → IsExcluded beginning text k) →
-    Skipped code text input possible result → Skipped code text input from result
-skipped_on code text input from position possible result beginning begins first excluded next = λ tables for outs solution k low le before.
+pub skipped_on : (b : Backtracker) (from position possible : ℕ) (result : Option ℕ) (beginning : Beginning) →
+    BeginsWithAssertion b.input beginning → Skipped b from (Some position) →
+    ((k : ℕ) → position ≤ k → k < possible → IsExcluded beginning (run_text b) k) →
+    Skipped b possible result → Skipped b from result
+skipped_on b from position possible result beginning begins first excluded next = λ outs solution k low le before.
     elim (cases_lt k position) [
-      | inl less ↦ first tables for outs solution k low le less
+      | inl less ↦ first outs solution k low le less
       | inr more ↦ elim (cases_lt k possible) [
-        | inl less ↦ none_excluded code tables text input for beginning begins outs solution k le (excluded k more less)
-        | inr after ↦ next tables for outs solution k after le before
+        | inl less ↦ none_excluded b beginning begins outs solution k le (excluded k more less)
+        | inr after ↦ next outs solution k after le before
       ]
     ]

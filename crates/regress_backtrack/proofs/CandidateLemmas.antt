@@ -18,3 +18,10 @@ module _ (text : List ℕ) (at : ℕ → List MatchState) (origin from : ℕ) (n
     | inl before ↦ none k low before on
     | inr after ↦ skipped k after on.0
   ]
+
+  -- nor one from there on, if none of these has one
+  pub none_on : (to : ℕ) → NoneBefore text at from to → NoneBefore text at origin to
+  none_on to more = λ k low high on. elim (cases_lt k from) [
+    | inl before ↦ none k low before on
+    | inr after ↦ more k after high on
+  ]

@@ -27,10 +27,11 @@ use Rattle.regress_leaves.specs.declared.test.Test.{Test}
 use Rattle.regress_code.specs.Code.{code_routines}
 use Rattle.regress_backtrack.specs.Costs.{HasCost, cost_ahead, op_cost, points_cost}
 use Rattle.regress_backtrack.specs.Machine.{Chosen, Groups, Ranged, at, groups_of, points, range_points}
-use Rattle.regress_backtrack.specs.Next.{IsInput, instructions_in}
+use Rattle.regress_backtrack.specs.Next.{IsInput, instructions_in, routine_of}
 use Rattle.regress_leaves.specs.Starts.{AreIn, IsStart}
 use Rattle.regress_backtrack.specs.Sweep.{IsSwept}
 use Rattle.regress_program.specs.Views.{characters_of, op_in, part_of}
+use Rattle.regress_backtrack.proofs.InputLemmas.{routine-is}
 use Rattle.regress_backtrack.proofs.RunLemmas.{op-is, width-is}
 use Rattle.regress_leaves.proofs.lemmas.Starts.{ascii_matches}
 use Rattle.regress_backtrack.proofs.StepLemmas.{Reaches}
@@ -43,7 +44,7 @@ module _ (input : Input) (is : IsInput input) (outs : ℕ → Out) (costs : ℕ 
   costed p i lt read le =
       let u = subject input.rules input.text.now in
       let program = code_routines input.code.now in
-      has.same input.index is.routine is.is (at p g) (omega (arith, width-is input is p i lt read, lt)) le
+      has.same input.index (routine_of input) (routine-is input is) (at p g) (omega (arith, width-is input is p i lt read, lt)) le
       ∙ ap₂ (λ d o. cost_at u.setting u.bytes d (matcher_of u.setting u.bytes program outs) (cost_of u.setting u.bytes program costs) (costs input.index) o (at p g))
       (sym is.direction) (op-is input is p i lt read)
 

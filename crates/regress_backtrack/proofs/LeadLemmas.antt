@@ -18,9 +18,10 @@ use Rattle.regress_backtrack.specs.declared.machine.Place.{Place}
 use Rattle.regress_backtrack.specs.Lead.{BeginsAfterOne, BeginsAt, BeginsWithin, IsBeforeLeaf, IsBegun, IsIn, IsLead, IsLed, IsOptional, IsRequired, LeadsInto}
 use Rattle.regress_backtrack.specs.Sweep.{IsCharacterAt}
 use Rattle.regress_backtrack.specs.Machine.{Groups, at}
-use Rattle.regress_backtrack.specs.Next.{Fails, IsInput, Solve}
+use Rattle.regress_backtrack.specs.Next.{Fails, IsInput, Solve, instructions_in, routine_of}
 use Rattle.regress_backtrack.specs.Searched.{IsFor}
 use Rattle.regress_backtrack.proofs.PossessiveLemmas.{following_fails}
+use Rattle.regress_backtrack.proofs.InputLemmas.{routine-is}
 use Rattle.regress_backtrack.proofs.RunLemmas.{solved}
 use Rattle.regress_backtrack.proofs.SweepLemmas.{at_repeat_on, character, iteration, other_character}
 
@@ -358,9 +359,9 @@ entry_is code tables text input for outs k =
     let program = code_routines code in
     let setting = setting_with code tables in
     let i = length program - 1 in
-    let r = for.is.routine in
+    let r = routine_of input in
     let s = initial_state (code_groups code) k in
-    let here : slice_get program i ≡ Some r = ap₂ (λ c j. slice_get (code_routines c) j) (sym for.code) (sym for.index) ∙ for.is.is in
+    let here : slice_get program i ≡ Some r = ap₂ (λ c j. slice_get (code_routines c) j) (sym for.code) (sym for.index) ∙ routine-is input for.is in
     ap (λ o. outs i (start setting text o s)) here
     ∙ ap₂ (λ j pc. outs j (record { pc = pc; moved = true; state = s; begins = [] })) (sym for.index) (sym for.is.first)
 

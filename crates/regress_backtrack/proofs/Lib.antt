@@ -1,5 +1,6 @@
 pub mod CandidateLemmas
 pub mod CostLemmas
+pub mod InputLemmas
 pub mod NextBytesLemmas
 pub mod MachineLemmas
 pub mod MemoryLemmas

@@ -9,7 +9,9 @@ use Rattle.regress_code.specs.Code.{code_groups, code_routines, outcomes_from, s
 use Rattle.regress_code.specs.NextBytes.{Bounds}
 use Rattle.regress_backtrack.specs.declared.input.Input.{Input}
 use Rattle.regress_backtrack.specs.Machine.{at}
+use Rattle.regress_backtrack.specs.Next.{routine_of}
 use Rattle.regress_backtrack.specs.Searched.{IsFor}
+use Rattle.regress_backtrack.proofs.InputLemmas.{routine-is}
 use Rattle.regress_backtrack.proofs.LeadLemmas.{entry_is, solves_for}
 
 pub entry_bounds : (code : Code) (tables : Tables) (text : List ℕ) (input : Input) → IsFor code tables text input → (next_byte : NextBytes) →
@@ -17,8 +19,8 @@ pub entry_bounds : (code : Code) (tables : Tables) (text : List ℕ) (input : In
     Bounds next_byte forwards text k (outcomes_from code tables text outs k)
 entry_bounds code tables text input for next_byte is outs solution k =
     let program = code_routines code in
-    let r = for.is.routine in
-    let here : slice_get program (length program - 1) ≡ Some r = ap₂ (λ c j. slice_get (code_routines c) j) (sym for.code) (sym for.index) ∙ for.is.is in
+    let r = routine_of input in
+    let here : slice_get program (length program - 1) ≡ Some r = ap₂ (λ c j. slice_get (code_routines c) j) (sym for.code) (sym for.index) ∙ routine-is input for.is in
     let first : At = at (record { pc = input.first; moved = true; position = k }) (record { captures = replicate (code_groups code) None; begins = [] }) in
     let bounds : Bounds next_byte r.direction input.text.now k (outs input.index first) =
     for.is.next_bytes outs (solves_for code tables text input for outs solution) input.first next_byte is first refl in

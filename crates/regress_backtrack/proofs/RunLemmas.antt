@@ -23,9 +23,10 @@ use Rattle.regress_backtrack.specs.declared.step.Next.{Next}
 use Rattle.regress_backtrack.specs.declared.step.Next.TheVariants as nexts
 use Rattle.regress_backtrack.specs.Machine.{Groups, at, groups_of, points}
 use Rattle.regress_backtrack.specs.Memory.{AreWithin}
-use Rattle.regress_backtrack.specs.Next.{CanStep, IsInput, Inside, ahead, Leads, instructions_in}
+use Rattle.regress_backtrack.specs.Next.{CanStep, IsInput, Inside, ahead, Leads, instructions_in, routine_of}
 use Rattle.regress_backtrack.specs.Run.{IsResponseOf, IsAfter}
 use Rattle.regress_program.specs.declared.instruction.Instruction.TheVariants as insts
+use Rattle.regress_backtrack.proofs.InputLemmas.{routine-is}
 use Rattle.regress_backtrack.proofs.MachineLemmas.{points-none}
 use Rattle.regress_backtrack.proofs.StepLemmas.{Goes, goes_on, goes_back, Remains, on_inside, back_inside}
 
@@ -33,33 +34,33 @@ use Rattle.regress_backtrack.proofs.StepLemmas.{Goes, goes_on, goes_back, Remain
 
 module _ (input : Input) (is : IsInput input) (p : Place) (i : Instruction) (lt : p.pc < length (instructions_in input))
     (read : slice_get (instructions_in input) p.pc ≡ Some i) where
-  pub op-is : slice_get is.routine.ops p.pc ≡ Some (op_in input.code.now.program.leaves.items i)
-  op-is = ap (λ xs. slice_get xs p.pc) (sym is.ops) ∙ slice_get-map (op_in input.code.now.program.leaves.items) (instructions_in input) p.pc ∙ ap (option_map (op_in input.code.now.program.leaves.items)) read
+  pub op-is : slice_get (routine_of input).ops p.pc ≡ Some (op_in input.code.now.program.leaves.items i)
+  op-is = slice_get-map (op_in input.code.now.program.leaves.items) (instructions_in input) p.pc ∙ ap (option_map (op_in input.code.now.program.leaves.items)) read
 
-  pub width-is : length is.routine.ops ≡ length (instructions_in input)
-  width-is = ap length (sym is.ops) ∙ length-map (instructions_in input) (op_in input.code.now.program.leaves.items)
+  pub width-is : length (routine_of input).ops ≡ length (instructions_in input)
+  width-is = length-map (instructions_in input) (op_in input.code.now.program.leaves.items)
 
   pub can_step : IsProgram (code_routines input.code.now) → p.position ≤ length input.text.now → CanStep input (op_in input.code.now.program.leaves.items i) p
   can_step program le = record {
     pc = lt;
     position = le;
     fits = subst (λ w. Fits (take input.index (code_routines input.code.now)) w p.pc (op_in input.code.now.program.leaves.items i)) width-is
-        ((program input.index is.routine is.is).fit p.pc (op_in input.code.now.program.leaves.items i) (omega arith) (omega (arith, width-is, lt)) op-is);
+        ((program input.index (routine_of input) (routine-is input is)).fit p.pc (op_in input.code.now.program.leaves.items i) (omega arith) (omega (arith, width-is, lt)) op-is);
   }
 
   -- the outcomes at the instruction
   pub solved : (setting : Setting) (bytes : List ℕ) (outs : ℕ → Out) (d : Direction) (g : Groups) →
-      IsSolution setting bytes (code_routines input.code.now) outs → d ≡ is.routine.direction → p.position ≤ length bytes →
+      IsSolution setting bytes (code_routines input.code.now) outs → d ≡ (routine_of input).direction → p.position ≤ length bytes →
       outs input.index (at p g) ≡ outcomes_by setting bytes d (matcher_of setting bytes (code_routines input.code.now) outs) (outs input.index) (op_in input.code.now.program.leaves.items i)
       (at p g)
   solved setting bytes outs d g solution direction le =
-      solution input.index is.routine is.is (at p g) (omega arith) (omega (arith, width-is, lt)) le
+      solution input.index (routine_of input) (routine-is input is) (at p g) (omega arith) (omega (arith, width-is, lt)) le
       ∙ ap₂ (λ x o. outcomes_at setting bytes x (matcher_of setting bytes (code_routines input.code.now) outs) (outs input.index) o (at p g))
       (sym direction) op-is
 
   -- the outcomes at the instruction lead on
   pub advanced : (m m' : Machine) (n : Next) (setting : Setting) (bytes : List ℕ) (outs : ℕ → Out) (d : Direction) →
-      IsSolution setting bytes (code_routines input.code.now) outs → d ≡ is.routine.direction → p.position ≤ length bytes →
+      IsSolution setting bytes (code_routines input.code.now) outs → d ≡ (routine_of input).direction → p.position ≤ length bytes →
       Goes (outs input.index) m m' (outcomes_by setting bytes d (matcher_of setting bytes (code_routines input.code.now) outs) (outs input.index) (op_in input.code.now.program.leaves.items i)
       (at p (groups_of m))) n → Leads (flat_map (outs input.index) (at p (groups_of m) ∷ points m)) (outs input.index) m' n
   advanced m m' n setting bytes outs d solution direction le goes =
@@ -106,8 +107,8 @@ pub begins-inside : (input : Input) (is : IsInput input) (m : Machine) (start' :
     m.stack.entries.items ≡ [] → start' ≤ length input.text.now →
     All (Inside input) (at (record { pc = input.first; moved = true; position = start' }) (groups_of m) ∷ points m)
 begins-inside input is m start' program clear le =
-    let width : length is.routine.ops ≡ length (instructions_in input) = ap length (sym is.ops) ∙ length-map (instructions_in input) (op_in input.code.now.program.leaves.items) in
-    let entry = (program input.index is.routine is.is).entry in
+    let width : length (routine_of input).ops ≡ length (instructions_in input) = length-map (instructions_in input) (op_in input.code.now.program.leaves.items) in
+    let entry = (program input.index (routine_of input) (routine-is input is)).entry in
     let p : Place = record { pc = input.first; moved = true; position = start' } in
     All-cons (Inside input) (at p (groups_of m)) (points m) (record { pc = omega (arith, is.first, entry, width); position = le })
     (subst (All (Inside input)) (sym (points-none m clear)) (All-nil (Inside input)))
@@ -118,7 +119,7 @@ begins_at : (input : Input) (is : IsInput input) (m : Machine) (captures : List 
     start setting bytes (slice_get (code_routines input.code.now) input.index) (state captures start')
     ≡ at (record { pc = input.first; moved = true; position = start' }) (groups_of m)
 begins_at input is m captures start' setting bytes none same =
-    ap (λ o. start setting bytes o (state captures start')) is.is
+    ap (λ o. start setting bytes o (state captures start')) (routine-is input is)
     ∙ ap (λ k. record { pc = k; moved = true; state = state captures start'; begins = [] }) (sym is.first)
     ∙ ap₂ (λ cs bs. record { pc = input.first; moved = true; state = state cs start'; begins = reverse bs }) (sym same) (sym none)
 

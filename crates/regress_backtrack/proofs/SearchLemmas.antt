@@ -1,5 +1,5 @@
 -- Searches.
-use Rattle.std.proofs.Common.{◌≡◌, ℕ, ◌+◌, ◌*◌, ◌≤◌, ◌-◌, Bool, true, false, List, [], ◌∷◌, length, replicate, Option, None, inl, inr, sym, ap, ◌∙◌, subst, arith}
+use Rattle.std.proofs.Common.{◌≡◌, ℕ, ◌+◌, ◌*◌, ◌≤◌, ◌-◌, Bool, true, false, List, [], ◌∷◌, length, replicate, Option, None, inl, inr, refl, sym, ap, ◌∙◌, subst, arith}
 use Rattle.std.proofs.lemmas.Bool.{cases_eq}
 use Rattle.std.specs.Bool.{IsTrue}
 use Rattle.std.specs.Str.{IsCharBoundary}
@@ -9,13 +9,12 @@ use Rattle.regress_tree.specs.Tree.{Tree}
 use Rattle.regress_unicode.specs.declared.Tables.{Tables}
 use Rattle.regress_program.specs.Compiled.{IsPattern}
 use Rattle.regress_found.specs.declared.found.Match.{Match}
-use Rattle.regress_program.specs.Cost.{Cost, IsCost, cost_of}
+use Rattle.regress_program.specs.Cost.{Cost, cost_of}
 use Rattle.regress_found.specs.Found.{IsLeftmost, NoneBefore, initial_state, start_of, state_of, state}
 use Rattle.regress_program.specs.Program.{Out, IsSolution, matcher_of}
 use Rattle.regress_program.proofs.lemmas.Solutions.{solution}
 use Rattle.regress_backtrack.specs.declared.backtracker.Backtracker.{Backtracker}
 use Rattle.regress_code.specs.declared.code.Code.{Code}
-use Rattle.regress_backtrack.specs.declared.input.Input.{Input}
 use Rattle.regress_backtrack.specs.declared.machine.Machine.{Machine}
 use Rattle.regress_found.specs.declared.outcome.Outcome.{Outcome}
 use Rattle.regress_found.specs.declared.outcome.Outcome.TheVariants as outcomes
@@ -25,7 +24,8 @@ use Rattle.regress_backtrack.specs.Backtracker.{AreCosts, AreOutcomes, cost_at, 
 use Rattle.regress_code.specs.Code.{code_groups, code_routines, outcomes_from, setting_with, tree_outcomes_from}
 use Rattle.regress_backtrack.specs.Run.{IsResponseOf}
 use Rattle.regress_found.specs.Results.{IsSearchResult, IsMatchResult}
-use Rattle.regress_backtrack.specs.Searched.{IsFor}
+use Rattle.regress_backtrack.specs.Costs.{HasCost}
+use Rattle.regress_backtrack.specs.Next.{Solve}
 use Rattle.regress_backtrack.proofs.RunLemmas.{same_response, same_cost, same_entries}
 
 -- what is so for each solution is so for each tree of the program
@@ -54,7 +54,7 @@ pub tree_finds : (b : Backtracker) (origin : ℕ) (outcome : Outcome) →
     (t : Tree) → IsPattern (code_routines (run_code b)) t → IsSearchResult (run_text b) (tree_outcomes_at b t) origin outcome
 tree_finds b origin outcome all t pattern =
     let setting = setting_with (run_code b) (run_tables b) in
-    let some = solution setting (run_text b) (code_routines (run_code b)) b.code.now.program.is_program in
+    let some = solution setting (run_text b) (code_routines (run_code b)) (run_code b).program.is_program in
     same_finds (run_text b) (outcomes_at b some.0) (tree_outcomes_at b t) origin outcome
     (λ k le. pattern.means setting (run_text b) some.0 some.1 (initial_state (code_groups (run_code b)) k) le) (all some.0 some.1)
 
@@ -76,35 +76,38 @@ pub for_tree : (b : Backtracker) (code : Code) (tables : Tables) (text : List �
 for_tree b code tables text P =
     same_parts (λ c t x. (tree : Tree) → IsPattern (code_routines c) tree → P x (tree_outcomes_from c t x tree)) _ _ _ _ _ _
 
--- a run from the input for the pattern, with every group unset
-pub run_solved : (b : Backtracker) (input : Input) (captures : List (Option CaptureSpan)) (k : ℕ) (m : Machine) (r : Response) →
-    IsFor (run_code b) (run_tables b) (run_text b) input → captures ≡ replicate (code_groups (run_code b)) None →
-    ((outs : ℕ → Out) → IsSolution (subject input.rules input.text.now).setting input.text.now (code_routines input.code.now) outs →
-    IsResponseOf (matcher_of (subject input.rules input.text.now).setting input.text.now (code_routines input.code.now) outs input.index (state captures k)) m r) →
+-- a run of the pattern, with every group unset
+pub run_solved : (b : Backtracker) (captures : List (Option CaptureSpan)) (k : ℕ) (m : Machine) (r : Response) →
+    captures ≡ replicate (code_groups (run_code b)) None →
+    ((outs : ℕ → Out) → Solve b.input outs →
+    IsResponseOf (matcher_of (subject b.input.rules (run_text b)).setting (run_text b) (code_routines (run_code b)) outs b.input.index (state captures k)) m r) →
     (outs : ℕ → Out) → AreOutcomes b outs → IsResponseOf (outcomes_at b outs k) m r
-run_solved b input captures k m r is unset responds outs =
+run_solved b captures k m r unset responds outs =
+    let is = b.for_pattern in
     same_response m r outs k (setting_with (run_code b) (run_tables b)) _ (run_text b) _ (code_routines (run_code b)) _ (length (code_routines (run_code b)) - 1) _
-    (replicate (code_groups (run_code b)) None) _ (responds outs) is.setting is.same_text (ap code_routines is.code) is.index unset
+    (replicate (code_groups (run_code b)) None) _ (responds outs) is.setting refl refl is.index unset
 
--- the cost of a run from the input for the pattern, with every group unset
-pub run_cost : (b : Backtracker) (input : Input) (captures : List (Option CaptureSpan)) (k remaining remaining' : ℕ) (outs : ℕ → Out) (costs : ℕ → Cost) →
-    IsFor (run_code b) (run_tables b) (run_text b) input → captures ≡ replicate (code_groups (run_code b)) None →
-    (IsCost (subject input.rules input.text.now).setting input.text.now (code_routines input.code.now) outs costs →
-    remaining ≤ remaining' + cost_of (subject input.rules input.text.now).setting input.text.now (code_routines input.code.now) costs input.index (state captures k)) →
+-- the cost of a run of the pattern, with every group unset
+pub run_cost : (b : Backtracker) (captures : List (Option CaptureSpan)) (k remaining remaining' : ℕ) (outs : ℕ → Out) (costs : ℕ → Cost) →
+    captures ≡ replicate (code_groups (run_code b)) None →
+    (HasCost b.input outs costs →
+    remaining ≤ remaining' + cost_of (subject b.input.rules (run_text b)).setting (run_text b) (code_routines (run_code b)) costs b.input.index (state captures k)) →
     AreCosts b outs costs → remaining ≤ remaining' + cost_at b costs k
-run_cost b input captures k remaining remaining' outs costs is unset taken =
+run_cost b captures k remaining remaining' outs costs unset taken =
+    let is = b.for_pattern in
     same_cost remaining remaining' outs costs k (setting_with (run_code b) (run_tables b)) _ (run_text b) _ (code_routines (run_code b)) _
-    (length (code_routines (run_code b)) - 1) _ (replicate (code_groups (run_code b)) None) _ taken is.setting is.same_text (ap code_routines is.code) is.index unset
+    (length (code_routines (run_code b)) - 1) _ (replicate (code_groups (run_code b)) None) _ taken is.setting refl refl is.index unset
 
--- the entries that the cost of a run bounds, from the input for the pattern, with every group unset
-pub run_entries : (b : Backtracker) (input : Input) (captures : List (Option CaptureSpan)) (k entries : ℕ) (outs : ℕ → Out) (costs : ℕ → Cost) →
-    IsFor (run_code b) (run_tables b) (run_text b) input → captures ≡ replicate (code_groups (run_code b)) None →
-    (IsCost (subject input.rules input.text.now).setting input.text.now (code_routines input.code.now) outs costs →
-    entries ≤ 64 * cost_of (subject input.rules input.text.now).setting input.text.now (code_routines input.code.now) costs input.index (state captures k)) →
+-- the entries that the cost of a run of the pattern bounds, with every group unset
+pub run_entries : (b : Backtracker) (captures : List (Option CaptureSpan)) (k entries : ℕ) (outs : ℕ → Out) (costs : ℕ → Cost) →
+    captures ≡ replicate (code_groups (run_code b)) None →
+    (HasCost b.input outs costs →
+    entries ≤ 64 * cost_of (subject b.input.rules (run_text b)).setting (run_text b) (code_routines (run_code b)) costs b.input.index (state captures k)) →
     AreCosts b outs costs → entries ≤ 64 * cost_at b costs k
-run_entries b input captures k entries outs costs is unset grown =
+run_entries b captures k entries outs costs unset grown =
+    let is = b.for_pattern in
     same_entries entries outs costs k (setting_with (run_code b) (run_tables b)) _ (run_text b) _ (code_routines (run_code b)) _
-    (length (code_routines (run_code b)) - 1) _ (replicate (code_groups (run_code b)) None) _ grown is.setting is.same_text (ap code_routines is.code) is.index unset
+    (length (code_routines (run_code b)) - 1) _ (replicate (code_groups (run_code b)) None) _ grown is.setting refl refl is.index unset
 
 -- the match that is found at a position, if no earlier position has an outcome
 pub found_leftmost : (text : List ℕ) (at : ℕ → List MatchState) (origin k : ℕ) (found : Match) → origin ≤ k → IsCharBoundary text k →

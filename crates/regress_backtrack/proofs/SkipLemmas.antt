@@ -18,7 +18,7 @@ use Rattle.regress_backtrack.specs.declared.machine.Place.{Place}
 use Rattle.regress_code.specs.Choices.{preferred}
 use Rattle.regress_code.specs.NextBytes.{IsOutside, next_to}
 use Rattle.regress_backtrack.specs.Machine.{Groups, at}
-use Rattle.regress_backtrack.specs.Next.{IsInput, Solve, instructions_in}
+use Rattle.regress_backtrack.specs.Next.{IsInput, Solve, instructions_in, routine_of}
 use Rattle.regress_code.specs.Skips.{AreSkipped, IsBeside, is_excluded, is_skipped}
 use Rattle.regress_code.proofs.lemmas.Choices.{preferred_is}
 use Rattle.regress_backtrack.proofs.CostLemmas.{second_cost}
@@ -68,9 +68,9 @@ module _ (input : Input) (is : IsInput input) (p : Place) (b : ℕ)
   abbrev pub outs_from : ℕ → List MatchState
   outs_from pc = outs input.index (at (record p { pc = pc }) g)
 
-  pub outside : (set : ByteBitmap) → contains set b ≡ false → IsOutside is.routine.direction set input.text.now p.position
+  pub outside : (set : ByteBitmap) → contains set b ≡ false → IsOutside (routine_of input).direction set input.text.now p.position
   outside set out =
-      let same : get_or input.text.now (next_to is.routine.direction p.position) 0 ≡ b =
+      let same : get_or input.text.now (next_to (routine_of input).direction p.position) 0 ≡ b =
       ap (λ d. get_or input.text.now (next_to d p.position) 0) (sym is.direction) ∙ beside.is in
       record {
         after = beside.after;

@@ -1,31 +1,19 @@
 -- Patterns that begin with an assertion.
-use Rattle.std.specs.Prelude.{◌≡◌, ℕ, ◌-◌, ◌<◌, true, List, false, length, slice_get, slice_index, Some}
+use Rattle.std.specs.Prelude.{◌≡◌, ℕ, ◌-◌, ◌≤◌, ◌<◌, true, List, false, length, slice_index}
 use Rattle.regress_base.specs.Classes.{word_characters}
 use Rattle.regress_base.specs.Intervals.{is_member}
-use Rattle.regress_leaves.specs.declared.test.Test.{Test}
-use Rattle.regress_program.specs.declared.instruction.Instruction.TheVariants as insts
 use Rattle.regress_tree.specs.Assertions.{is_line_terminator}
-use Rattle.regress_tree.specs.Tree.{Leaf, leaf as leaf_of, tree, anchor, word_boundary}
+use Rattle.regress_tree.specs.Tree.{Leaf, anchor, word_boundary}
 use Rattle.regress_base.specs.declared.types.AnchorType.TheVariants.{StartOfLine}
 use Rattle.regress_backtrack.specs.declared.beginning.Beginning.{Beginning}
 use Rattle.regress_backtrack.specs.declared.beginning.Beginning.TheVariants.{WordBoundary, LineStart}
 use Rattle.regress_backtrack.specs.declared.input.Input.{Input}
-use Rattle.regress_backtrack.specs.Next.{instructions_in}
+use Rattle.regress_backtrack.specs.Next.{Fails, start_at}
 
 -- the assertion
 abbrev pub assertion : Beginning → Leaf
 assertion WordBoundary = word_boundary false false
 assertion LineStart = anchor StartOfLine true
-
--- The first instruction matches the assertion.
-pub record BeginsWithAssertion (input : Input) (beginning : Beginning) : Type 0 where
-  pub leaf : ℕ
-  pub next : ℕ
-  pub test : Test
-  pub first_in : input.first < length (instructions_in input)
-  pub first : slice_get (instructions_in input) input.first ≡ Some (insts.Leaf leaf next)
-  pub is_test : slice_get input.code.now.program.leaves.items leaf ≡ Some test
-  pub asserts : tree test.node ≡ leaf_of (assertion beginning)
 
 -- The byte at k is a word character of ASCII.
 pub record IsWordAt (text : List ℕ) (k : ℕ) : Type 0 where
@@ -50,3 +38,7 @@ pub record IsInsideLine (text : List ℕ) (k : ℕ) : Type 0 where
 abbrev pub IsExcluded : Beginning → (text : List ℕ) → ℕ → Type 0
 IsExcluded WordBoundary text k = IsInsideWord text k
 IsExcluded LineStart text k = IsInsideLine text k
+
+-- A run from the first instruction fails at each position at which the assertion does.
+abbrev pub BeginsWithAssertion : Input → Beginning → Type 0
+BeginsWithAssertion input beginning = (k : ℕ) → k ≤ length input.text.now → IsExcluded beginning input.text.now k → Fails input (start_at input k)

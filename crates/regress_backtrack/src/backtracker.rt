@@ -1,5 +1,6 @@
 //! Runs from many positions of a text.
-ghost use Rattle.std.specs.Prelude.{◌≡◌, ◌≤◌, ◌+◌, ◌-◌, ◌*◌, ℕ, IfErr, IfOk, List, None, length, replicate};
+ghost use Rattle.std.specs.Prelude.{◌≡◌, ◌≤◌, ◌+◌, ◌-◌, ◌*◌, ℕ, IfErr, IfOk, IfSome, List, None, length, replicate};
+ghost use Rattle.std.proofs.Props.{props};
 ghost use Rattle.regress_tree.specs.Steps.{MatchState};
 ghost use Rattle.regress_tree.specs.Tree.{Tree};
 ghost use Rattle.regress_program.specs.Compiled.{IsPattern};
@@ -12,8 +13,10 @@ ghost use Rattle.regress_found.specs.Results.{IsMatchResult};
 ghost use Rattle.regress_found.specs.declared.outcome.Outcome.TheVariants.{NoMatch, OutOfSteps};
 ghost use Rattle.regress_found.specs.declared.fault.MemoryFault.TheVariants.{TooMuchMemory};
 ghost use Rattle.regress_backtrack.specs.Memory.{AreWithin, IsWithin, entries_in};
-ghost use Rattle.regress_backtrack.specs.Searched.{IsFor};
+ghost use Rattle.regress_backtrack.specs.Beginning.{BeginsWithAssertion};
+ghost use Rattle.regress_backtrack.specs.Searched.{IsFor, IsFor-prop};
 
+use crate::beginning::{Beginning, beginning_of};
 use crate::cache::Cache;
 use crate::input::{Input, input_for};
 use crate::machine::{ENTRY_BYTES, Machine};
@@ -29,14 +32,12 @@ use std::mem;
 /// A program and a text, for runs from many positions. The memory of a run is that of a [`Cache`].
 #[derive(Drop)]
 pub struct Backtracker<'c, 'x> {
-    /// The program.
-    pub(crate) code: &'c Code,
-    /// The case mappings.
-    pub(crate) known: Known<'x>,
-    /// The text.
-    pub(crate) text: &'x str,
-    /// The number of entries for which each backtrack stack may have room.
-    pub(crate) room: usize,
+    /// What a run of the pattern reads.
+    pub(crate) input: Input<'c, 'x>,
+    /// The assertion with which the pattern begins, if there is one.
+    pub(crate) beginning: Option<Beginning>,
+    ghost for_pattern: { IsFor input.code.now input.rules.known.tables.now input.text.now input } by { IsFor-prop input.code.now input.rules.known.tables.now input.text.now input },
+    ghost begins: { IfSome beginning (BeginsWithAssertion input) } by { Prim.hlevel props },
 }
 
 impl<'c, 'x> Backtracker<'c, 'x> {
@@ -57,12 +58,15 @@ impl<'c, 'x> Backtracker<'c, 'x> {
         ensures room { run_room result ≡ entries_in memory }
         ensures has_cost { (outs : ℕ → Out) → AreOutcomes result outs → (costs : ℕ → Cost) × AreCosts result outs costs }
     {
-        Backtracker {
-            code,
+        let rules = MatchContext {
+            flags: code.program.flags,
             known,
-            text,
-            room: memory / ENTRY_BYTES,
-        }
+            backwards: false,
+        };
+        let pattern = code.program.routines.len() - 1;
+        let input = input_for(text, rules, code, pattern, memory / ENTRY_BYTES);
+        let beginning = beginning_of(&input);
+        Backtracker { input, beginning }
     }
 
     /// Matches at exactly the byte offset `position`, with every group unset at first, and subtracts the steps from
@@ -98,45 +102,23 @@ impl<'c, 'x> Backtracker<'c, 'x> {
         ensures too_much { IfErr result (λ fault. fault ≡ TooMuchMemory → (outs : ℕ → Out) (costs : ℕ → Cost) → AreCosts self.now outs costs →
             run_room self.now ≤ 64 * match_cost_at self.now costs position) }
     {
-        let input = self.input();
         *remaining = remaining.saturating_sub(self.captures_cost());
-        cache.machine.unset_all(self.code.program.groups)?;
-        self.match_in(alloc, &input, &mut cache.machine, position, remaining)
-    }
-
-    /// Returns the input for the pattern of the program.
-    #[inline(always)]
-    pub(crate) fn input(&self) -> Input<'c, 'x>
-        ensures input { IsFor (run_code self.now) (run_tables self.now) (run_text self.now) result }
-        ensures room { result.room ≡ run_room self.now }
-    {
-        let rules = MatchContext {
-            flags: self.code.program.flags,
-            known: self.known,
-            backwards: false,
-        };
-        input_for(
-            self.text,
-            rules,
-            self.code,
-            self.code.program.routines.len() - 1,
-            self.room,
-        )
+        cache.machine.unset_all(self.input.code.program.groups)?;
+        self.match_in(alloc, &mut cache.machine, position, remaining)
     }
 
     /// Returns the number of steps for the captures of a match.
     pub(crate) fn captures_cost(&self) -> u64
         ensures { result ≡ captures_cost_of self.now }
     {
-        blocks(self.code.program.groups)
+        blocks(self.input.code.program.groups)
     }
 
     /// Matches at exactly the byte offset `position`, as [`Backtracker::match_at`]. If there is no match, every group is
     /// unset after it too.
     ///
     /// # Preconditions
-    /// The input is for the pattern and the text of the backtracker, the position is inside the text, and every group is
-    /// unset.
+    /// The position is inside the text, and every group is unset.
     ///
     /// # Errors
     /// - [`MemoryFault::TooMuchMemory`] if a backtrack stack needs more bytes than the backtracker allows.
@@ -145,13 +127,10 @@ impl<'c, 'x> Backtracker<'c, 'x> {
     pub(crate) fn match_in(
         &self,
         alloc: Global,
-        input: &Input<'_, '_>,
         machine: &mut Machine,
         position: usize,
         remaining: &mut u64,
     ) -> Result<Outcome, MemoryFault>
-        requires input { IsFor (run_code self.now) (run_tables self.now) (run_text self.now) input.now }
-        requires room { input.now.room ≡ run_room self.now }
         requires unset { machine.old.captures.items ≡ replicate (code_groups (run_code self.now)) None }
         requires position { position ≤ length (run_text self.now) }
         ensures solved { IfOk result (λ outcome. (outs : ℕ → Out) → AreOutcomes self.now outs →
@@ -167,7 +146,7 @@ impl<'c, 'x> Backtracker<'c, 'x> {
         ensures too_much { IfErr result (λ fault. fault ≡ TooMuchMemory → (outs : ℕ → Out) (costs : ℕ → Cost) → AreCosts self.now outs costs →
             run_room self.now ≤ 64 * cost_at self.now costs position) }
     {
-        let response = self.run_at(alloc, input, machine, position, remaining)?;
+        let response = self.run_at(alloc, machine, position, remaining)?;
         Ok(outcome_of(alloc, machine, response, position))
     }
 
@@ -183,13 +162,10 @@ impl<'c, 'x> Backtracker<'c, 'x> {
     fn run_at(
         &self,
         alloc: Global,
-        input: &Input<'_, '_>,
         machine: &mut Machine,
         position: usize,
         remaining: &mut u64,
     ) -> Result<Response, MemoryFault>
-        requires input { IsFor (run_code self.now) (run_tables self.now) (run_text self.now) input.now }
-        requires room { input.now.room ≡ run_room self.now }
         requires unset { machine.old.captures.items ≡ replicate (code_groups (run_code self.now)) None }
         requires position { position ≤ length (run_text self.now) }
         ensures solved { IfOk result (λ response. (outs : ℕ → Out) → AreOutcomes self.now outs →
@@ -205,7 +181,7 @@ impl<'c, 'x> Backtracker<'c, 'x> {
         ensures too_much { IfErr result (λ fault. fault ≡ TooMuchMemory → (outs : ℕ → Out) (costs : ℕ → Cost) → AreCosts self.now outs costs →
             run_room self.now ≤ 64 * cost_at self.now costs position) }
     {
-        run(alloc, input, position, machine, remaining)
+        run(alloc, &self.input, position, machine, remaining)
     }
 }
 

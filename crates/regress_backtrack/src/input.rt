@@ -67,6 +67,7 @@ pub fn input_for<'c, 'x>(
     ensures input { IsInput result }
     ensures text { result.text.now ≡ text.now }
     ensures setting { (subject result.rules text.now).setting ≡ (subject rules.entry text.now).setting }
+    ensures tables { result.rules.known.tables.now ≡ rules.entry.known.tables.now }
     ensures code { result.code.now ≡ code.now }
     ensures index { result.index ≡ index }
     ensures room { result.room ≡ room }

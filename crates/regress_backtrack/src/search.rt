@@ -1,31 +1,44 @@
 //! Searching a text from left to right.
-ghost use Rattle.std.specs.Prelude.{◌≡◌, ◌≤◌, ◌<◌, ◌+◌, ◌-◌, ◌*◌, [], ℕ, IfErr, IfOk, IfSome, MatchOption, Some, length, min};
+ghost use Rattle.std.specs.Prelude.{◌≡◌, ◌≤◌, ◌+◌, ◌-◌, ◌*◌, ℕ, IfErr, IfOk, IfSome, None, Some, length, min, replicate};
 ghost use Rattle.regress_tree.specs.Tree.{Tree};
-ghost use Rattle.regress_unicode.specs.declared.Tables.{Tables};
 ghost use Rattle.regress_program.specs.Compiled.{IsPattern};
 ghost use Rattle.regress_program.specs.Cost.{Cost, IsCost};
 ghost use Rattle.regress_program.specs.Program.{IsSolution, Out};
-ghost use Rattle.regress_backtrack.specs.Backtracker.{AreCosts, AreOutcomes, captures_cost_of, outcomes_at, run_code, run_room, run_text, runs_cost_at, search_cost_at, tree_outcomes_at};
-ghost use Rattle.regress_code.specs.Code.{captures_cost, code_routines, match_cost, outcomes_from, setting_with, tree_outcomes_from};
+ghost use Rattle.regress_backtrack.specs.Backtracker.{AreCosts, AreOutcomes, IfGoesOn, IsAttempt, Skipped, captures_cost_of, cost_at, outcomes_at, run_code, run_room, run_text, runs_cost_at, search_cost_at, tree_outcomes_at};
+ghost use Rattle.regress_backtrack.specs.declared.search.Attempt.TheVariants as attempts;
+ghost use Rattle.regress_code.specs.Code.{captures_cost, code_groups, code_routines, match_cost, outcomes_from, setting_with, tree_outcomes_from};
 ghost use Rattle.regress_found.specs.Results.{IfMatched, IsSearchResult, IsMatchResult};
 ghost use Rattle.regress_found.specs.Tried.{positions_tried};
 ghost use Rattle.regress_found.specs.declared.fault.MemoryFault.TheVariants.{TooMuchMemory};
-ghost use Rattle.regress_backtrack.specs.Memory.{IsWithin, entries_in};
+ghost use Rattle.regress_backtrack.specs.Memory.{AreWithin, IsWithin, entries_in};
 ghost use Rattle.regress_backtrack.specs.Beginning.{BeginsWithAssertion};
-ghost use Rattle.regress_backtrack.specs.Searched.{IsFor, Skipped};
-ghost use Rattle.regress_code.specs.declared.code.Code.{Code};
+ghost use Rattle.regress_backtrack.specs.Lead.{IsLead};
 ghost use Rattle.regress_found.specs.declared.outcome.Outcome.TheVariants.{OutOfSteps};
 
 use crate::backtracker::Backtracker;
-use crate::beginning::{Beginning, beginning_of, next_possible};
+use crate::beginning::{Beginning, next_possible};
 use crate::cache::Cache;
-use crate::input::{Input, next_bytes_at};
-use crate::lead::{lead_of, next_after, passed};
+use crate::input::next_bytes_at;
+use crate::lead::{Lead, lead_of, next_after, passed};
+use crate::machine::Machine;
 use regress_code::Code;
-use regress_found::{Found, MemoryFault, Outcome};
+use regress_found::{Found, Match, MemoryFault, Outcome};
 use regress_leaves::known::Known;
 use regress_prefilter::candidates::next_candidate_from;
 use std::alloc::Global;
+
+/// What an attempt to match at a position says.
+#[derive(Drop)]
+pub(crate) enum Attempt {
+    /// This match starts there.
+    Matched(Match),
+    /// No match starts there, as a run has shown.
+    Failed,
+    /// No match starts from there on and before this byte offset, as is known without a run.
+    Passed(usize),
+    /// The step limit was reached.
+    OutOfSteps,
+}
 
 /// Matches at exactly the byte offset `position`, with every group unset at first.
 ///
@@ -155,11 +168,9 @@ impl Backtracker<'_, '_> {
         ensures too_much { IfErr result (λ fault. fault ≡ TooMuchMemory → (outs : ℕ → Out) (costs : ℕ → Cost) → AreCosts self.now outs costs →
             run_room self.now ≤ 64 * runs_cost_at self.now costs from) }
     {
-        let code = self.code;
-        let text = self.text;
-        let input = self.input();
-        cache.machine.unset_all(code.program.groups)?;
-        let beginning = beginning_of(&input);
+        let input = &self.input;
+        let text = input.text;
+        cache.machine.unset_all(input.code.program.groups)?;
         // many searches match at the first attempt, and need no lead
         let mut lead = None;
         let mut has_failed = false;
@@ -169,115 +180,138 @@ impl Backtracker<'_, '_> {
             if *remaining == 0 {
                 return Ok(Outcome::OutOfSteps);
             }
-            let Some(position) = next_start(code, &input, text, start, beginning) else {
+            let Some(position) = self.next_start(start) else {
                 return Ok(Outcome::NoMatch);
             };
             // the bytes that are skipped, and the position that is tried
             *remaining = remaining.saturating_sub((position - counted) as u64 + 1);
             counted = position + 1;
-            start = counted;
-            if text.is_char_boundary(position) {
-                match passed(&input, &lead, text, position) {
-                    Some(to) => start = to,
-                    None => {
-                        match self.match_in(
-                            alloc,
-                            &input,
-                            &mut cache.machine,
-                            position,
-                            remaining,
-                        )? {
-                            Outcome::Matched(found) => return Ok(Outcome::Matched(found)),
-                            Outcome::NoMatch => {
-                                if !has_failed {
-                                    lead = lead_of(&input);
-                                    has_failed = true;
-                                }
-                                start = next_after(&input, &lead, text, position);
-                            }
-                            Outcome::OutOfSteps => return Ok(Outcome::OutOfSteps),
-                        }
+            match self.attempt(alloc, &mut cache.machine, &lead, position, remaining)? {
+                Attempt::Matched(found) => return Ok(Outcome::Matched(found)),
+                Attempt::Failed => {
+                    if !has_failed {
+                        lead = lead_of(input);
+                        has_failed = true;
                     }
+                    start = next_after(input, &lead, text, position);
                 }
+                Attempt::Passed(to) => start = to,
+                Attempt::OutOfSteps => return Ok(Outcome::OutOfSteps),
             }
         }
         Ok(Outcome::NoMatch)
     }
-}
 
-/// Returns the least byte offset, `from` or later, at which a match is not known to fail, or `None`.
-///
-/// # Preconditions
-/// `from` is inside the text, and the pattern begins with the assertion `beginning`, if there is one.
-#[inline(always)]
-fn next_start(
-    code: &Code,
-    input: &Input<'_, '_>,
-    text: &str,
-    from: usize,
-    beginning: Option<Beginning>,
-) -> Option<usize>
-    requires from { from ≤ length text.now }
-    requires beginning { IfSome beginning (BeginsWithAssertion input.now) }
-    ensures within { IfSome result (λ position. (from ≤ position) × (position ≤ length text.now)) }
-    ensures skipped { Skipped code.now text.now input.now from result }
-{
-    match beginning {
-        Some(assertion) => next_start_with(code, input, text, from, assertion),
-        None => next_by_bytes(code, input, text, from),
+    /// Matches at a position, unless no match is known to start there.
+    ///
+    /// # Preconditions
+    /// The lead is one of the input, every group is unset, and the position is inside the text.
+    ///
+    /// # Errors
+    /// - [`MemoryFault::TooMuchMemory`] if a backtrack stack needs more bytes than the backtracker allows.
+    /// - [`MemoryFault::Memory`] if an allocation fails.
+    #[inline(always)]
+    fn attempt(
+        &self,
+        alloc: Global,
+        machine: &mut Machine,
+        lead: &Option<Lead<'_>>,
+        position: usize,
+        remaining: &mut u64,
+    ) -> Result<Attempt, MemoryFault>
+        requires lead { IfSome lead.now (IsLead self.now.input) }
+        requires unset { machine.old.captures.items ≡ replicate (code_groups (run_code self.now)) None }
+        requires position { position ≤ length (run_text self.now) }
+        ensures attempt { IfOk result (IsAttempt self.now position) }
+        ensures unset { IfOk result (λ attempt. IfGoesOn attempt (machine.new.captures.items ≡ machine.old.captures.items)) }
+        ensures remaining { IfOk result (λ _. remaining.new ≤ remaining.old) }
+        ensures costs { IfOk result (λ _. (outs : ℕ → Out) (costs : ℕ → Cost) → AreCosts self.now outs costs →
+            remaining.old ≤ remaining.new + cost_at self.now costs position) }
+        ensures spent { IfOk result (λ attempt. attempt ≡ attempts.OutOfSteps → remaining.new ≡ 0) }
+        ensures within { AreWithin (run_room self.now) machine.old → AreWithin (run_room self.now) machine.new }
+        ensures too_much { IfErr result (λ fault. fault ≡ TooMuchMemory → (outs : ℕ → Out) (costs : ℕ → Cost) → AreCosts self.now outs costs →
+            run_room self.now ≤ 64 * cost_at self.now costs position) }
+    {
+        let text = self.input.text;
+        if !text.is_char_boundary(position) {
+            return Ok(Attempt::Passed(position + 1));
+        }
+        if let Some(to) = passed(&self.input, lead, text, position) {
+            return Ok(Attempt::Passed(to));
+        }
+        match self.match_in(alloc, machine, position, remaining)? {
+            Outcome::Matched(found) => Ok(Attempt::Matched(found)),
+            Outcome::NoMatch => Ok(Attempt::Failed),
+            Outcome::OutOfSteps => Ok(Attempt::OutOfSteps),
+        }
     }
-}
 
-/// Returns the same for a pattern that begins with an assertion.
-///
-/// # Preconditions
-/// `from` is inside the text, and the pattern begins with `beginning`.
-fn next_start_with(
-    code: &Code,
-    input: &Input<'_, '_>,
-    text: &str,
-    from: usize,
-    beginning: Beginning,
-) -> Option<usize>
-    requires from { from ≤ length text.now }
-    requires beginning { BeginsWithAssertion input.now beginning }
-    ensures within { IfSome result (λ position. (from ≤ position) × (position ≤ length text.now)) }
-    ensures skipped { Skipped code.now text.now input.now from result }
-{
-    let mut position = next_by_bytes(code, input, text, from)?;
-    let mut possible = next_possible(beginning, text, position);
-    while position < possible {
-        position = next_by_bytes(code, input, text, possible)?;
-        possible = next_possible(beginning, text, position);
+    /// Returns the least byte offset, `from` or later, at which a match is not known to fail, or `None`.
+    ///
+    /// # Preconditions
+    /// `from` is inside the text.
+    #[inline(always)]
+    fn next_start(&self, from: usize) -> Option<usize>
+        requires { from ≤ length (run_text self.now) }
+        ensures within { IfSome result (λ position. (from ≤ position) × (position ≤ length (run_text self.now))) }
+        ensures skipped { Skipped self.now from result }
+    {
+        match self.beginning {
+            Some(beginning) => self.next_start_with(beginning, from),
+            None => self.next_by_bytes(from),
+        }
     }
-    Some(position)
-}
 
-/// Returns the same by the first bytes alone.
-#[inline(always)]
-fn next_by_bytes(code: &Code, input: &Input<'_, '_>, text: &str, from: usize) -> Option<usize>
-    requires { from ≤ length text.now }
-    ensures within { IfSome result (λ position. (from ≤ position) × (position ≤ length text.now)) }
-    ensures skipped { Skipped code.now text.now input.now from result }
-{
-    match next_candidate_from(&code.candidates, text, from) {
-        Some(position) => Some(next_by_first_bytes(input, text, position)),
-        None => None,
+    /// Returns the same for a pattern that begins with an assertion.
+    ///
+    /// # Preconditions
+    /// The pattern begins with `beginning`, and `from` is inside the text.
+    fn next_start_with(&self, beginning: Beginning, from: usize) -> Option<usize>
+        requires beginning { BeginsWithAssertion self.now.input beginning }
+        requires from { from ≤ length (run_text self.now) }
+        ensures within { IfSome result (λ position. (from ≤ position) × (position ≤ length (run_text self.now))) }
+        ensures skipped { Skipped self.now from result }
+    {
+        let text = self.input.text;
+        let mut position = self.next_by_bytes(from)?;
+        let mut possible = next_possible(beginning, text, position);
+        while position < possible {
+            position = self.next_by_bytes(possible)?;
+            possible = next_possible(beginning, text, position);
+        }
+        Some(position)
     }
-}
 
-/// Returns the same by the next bytes of the first instruction alone.
-#[inline(always)]
-fn next_by_first_bytes(input: &Input<'_, '_>, text: &str, from: usize) -> usize
-    requires { from ≤ length text.now }
-    ensures low { from ≤ result }
-    ensures high { result ≤ length text.now }
-    ensures skipped { (code : Code) (tables : Tables) → IsFor code tables text.now input.now →
-        (outs : ℕ → Out) → IsSolution (setting_with code tables) text.now (code_routines code) outs →
-        (k : ℕ) → from ≤ k → k < result → outcomes_from code tables text.now outs k ≡ [] }
-{
-    match next_bytes_at(input, input.first) {
-        Some(next_byte) => next_byte.next_from(text, from),
-        None => from,
+    /// Returns the same by the first bytes alone.
+    ///
+    /// # Preconditions
+    /// `from` is inside the text.
+    #[inline(always)]
+    fn next_by_bytes(&self, from: usize) -> Option<usize>
+        requires { from ≤ length (run_text self.now) }
+        ensures within { IfSome result (λ position. (from ≤ position) × (position ≤ length (run_text self.now))) }
+        ensures skipped { Skipped self.now from result }
+    {
+        match next_candidate_from(&self.input.code.candidates, self.input.text, from) {
+            Some(position) => Some(self.next_by_first_bytes(position)),
+            None => None,
+        }
+    }
+
+    /// Returns the same by the next bytes of the first instruction alone.
+    ///
+    /// # Preconditions
+    /// `from` is inside the text.
+    #[inline(always)]
+    fn next_by_first_bytes(&self, from: usize) -> usize
+        requires { from ≤ length (run_text self.now) }
+        ensures low { from ≤ result }
+        ensures high { result ≤ length (run_text self.now) }
+        ensures skipped { Skipped self.now from (Some result) }
+    {
+        match next_bytes_at(&self.input, self.input.first) {
+            Some(next_byte) => next_byte.next_from(self.input.text, from),
+            None => from,
+        }
     }
 }

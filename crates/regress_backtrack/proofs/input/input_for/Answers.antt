@@ -30,9 +30,7 @@ returns-in-Some-clause-input c =
     let known : slice_get code.analyses.items i ≡ Some a = c.in-Some.ensures.analysis in
     let setting : Setting = record { flags = c.args.rules.flags; table = table_of c.args.rules.known.tables.now } in
     record {
-      routine = routine_in leaves r;
-      is = in_program;
-      ops = refl;
+      is = here;
       direction = refl;
       first = refl;
       leading = c.leading.ensures;
@@ -57,9 +55,7 @@ returns-in-None-clause-input c =
     let lt : i < length routines = omega (arith, length-map routines (routine_in leaves), c.requires) in
     let here : slice_get routines i ≡ Some r = slice_get_read routines _ i _ refl lt c.index-routine.ensures in
     record {
-      routine = routine_in leaves r;
-      is = slice_get-map (routine_in leaves) routines i ∙ ap (option_map (routine_in leaves)) here;
-      ops = refl;
+      is = here;
       direction = refl;
       first = refl;
       leading = c.leading.ensures;

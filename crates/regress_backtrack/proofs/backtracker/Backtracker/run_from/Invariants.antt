@@ -14,7 +14,7 @@ use Rattle.regress_backtrack.proofs.backtracker.Backtracker.run_from.Given as go
 abbrev pub invariant-loop-start : goal.invariant-loop-start
 invariant-loop-start l = record {
   unset : l.cache.machine.captures.items ≡ replicate (code_groups (run_code l.self)) None;
-  lead : IfSome l.lead (IsLead l.input);
+  lead : IfSome l.lead (IsLead l.self.input);
   from : l.fn.from ≤ l.counted;
   on : l.counted ≤ l.start;
   remaining : l.remaining ≤ l.fn.remaining;
@@ -27,4 +27,4 @@ invariant-loop-start l = record {
 }
 
 abbrev pub decreases-loop-start : goal.decreases-loop-start
-decreases-loop-start l = length l.text + 1 - l.start
+decreases-loop-start l = length (run_text l.self) + 1 - l.start

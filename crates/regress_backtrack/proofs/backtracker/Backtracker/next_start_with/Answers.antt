@@ -1,6 +1,6 @@
 use Rattle.std.proofs.Common.{Some, None, arith}
 use Rattle.regress_backtrack.proofs.BeginningLemmas.{skipped_on}
-use Rattle.regress_backtrack.proofs.search.next_start_with.Goals as goal
+use Rattle.regress_backtrack.proofs.backtracker.Backtracker.next_start_with.Goals as goal
 
 pub loop-position-preserved : goal.loop-position-preserved
 loop-position-preserved c =
@@ -12,17 +12,17 @@ loop-position-preserved c =
       order = possible.low;
       high = possible.high;
       excluded = possible.excluded;
-      skipped = skipped_on c.args.code.now c.args.text.now c.args.input.now c.args.from here.position here.possible (Some next.position)
+      skipped = skipped_on c.args.self.now c.args.from here.position here.possible (Some next.position)
           c.args.beginning c.requires.beginning here.invariant.skipped here.invariant.excluded next.ensures.skipped;
     }
 
 pub returns-in_err-position-clause-skipped : goal.returns-in_err-position-clause-skipped
-returns-in_err-position-clause-skipped c = λ tables for outs solution k low le any.
-    c.in_err-position.ensures.skipped tables for outs solution k low le tt
+returns-in_err-position-clause-skipped c = λ outs solution k low le any.
+    c.in_err-position.ensures.skipped outs solution k low le tt
 
 pub returns-in_err-position-2-clause-skipped : goal.returns-in_err-position-2-clause-skipped
-returns-in_err-position-2-clause-skipped c = λ tables for outs solution k low le any.
+returns-in_err-position-2-clause-skipped c = λ outs solution k low le any.
     let here = c.loop-position in
-    skipped_on c.args.code.now c.args.text.now c.args.input.now c.args.from here.position here.possible None
+    skipped_on c.args.self.now c.args.from here.position here.possible None
     c.args.beginning c.requires.beginning here.invariant.skipped here.invariant.excluded c.in_err-position-2.ensures.skipped
-    tables for outs solution k low le tt
+    outs solution k low le tt
