@@ -11,11 +11,11 @@ ghost use Rattle.regress_code.specs.Skips.{AreSkipped, IsBeside};
 ghost use Rattle.regress_tree.specs.Reading.{direction_if};
 ghost use Rattle.regress_backtrack.specs.declared.step.Next.TheVariants.{OutOfSteps};
 
-use crate::input::{Input, choice_at, counts_at, next_bytes_at, row_at};
+use crate::input::{Input, choice_at, next_bytes_at, row_at, skip_at};
 use crate::machine::{Machine, Place};
 use crate::step::Next;
 use crate::sweep::sweep;
-use regress_code::skips::count_at;
+use regress_code::skips::{Skip, count_at};
 use regress_found::MemoryFault;
 
 /// A loop.
@@ -231,35 +231,33 @@ fn other_alternative(input: &Input<'_, '_>, place: Place) -> Option<usize>
     ensures costs { IfSome result (λ other. (outs : ℕ → Out) (costs : ℕ → Cost) (g : Groups) → HasCost input.now outs costs →
         costs input.now.index (at (record place { pc = other }) g) ≤ costs input.now.index (at place g)) }
 {
-    if row_at(input, place.pc).is_some() {
-        return None;
+    match skipped_at(input, place) {
+        Some(0) => None,
+        Some(count) => Some(place.pc - count),
+        None => next_alternative(input, place),
     }
-    let Some(count) = skipped_at(input, place) else {
-        return next_alternative(input, place);
-    };
-    if count == 0 {
-        return None;
-    }
-    Some(place.pc - count)
 }
 
-/// Returns the number of choices from a place on that are skipped at once, or `None` if it is not known.
+/// Returns the number of choices from a place on that are skipped at once, or `None` if it is not known. It is 0 in a row
+/// of choices between strings.
 ///
 /// # Preconditions
 /// The routines are a program.
 #[inline(always)]
 fn skipped_at(input: &Input<'_, '_>, place: Place) -> Option<usize>
     requires input { IsInput input.now }
-    ensures skipped { IfSome result (λ count. (b : ℕ) × IsBeside (direction_if input.now.rules.backwards) input.now.text.now place.position b
+    ensures skipped { IfSome result (λ count. 0 < count → (b : ℕ) × IsBeside (direction_if input.now.rules.backwards) input.now.text.now place.position b
         × AreSkipped input.now.next_bytes.now (instructions_in input.now) b place.pc count) }
     ensures within { IfSome result (λ count. count ≤ place.pc) }
 {
-    let counts = counts_at(input, place.pc);
-    if counts.is_empty() {
-        return None;
+    match skip_at(input, place.pc)? {
+        Skip::Unknown => None,
+        Skip::Counts(counts) => {
+            let b = byte_beside(input.text, input.rules.backwards, place.position)?;
+            Some(usize::from(count_at(counts, b)))
+        }
+        Skip::Row(_) => Some(0),
     }
-    let b = byte_beside(input.text, input.rules.backwards, place.position)?;
-    Some(usize::from(count_at(counts, b)))
 }
 
 /// Returns the byte next to a position, or `None` at the start and the end of the text.

@@ -11,7 +11,6 @@ ghost use Rattle.regress_backtrack.specs.Next.{IsInput, Solve, instructions_in};
 ghost use Rattle.regress_program.specs.declared.instruction.Instruction.TheVariants.{Leaf, Repeat, Split};
 ghost use Rattle.regress_code.specs.Possessive.{IsPossessive};
 ghost use Rattle.regress_code.specs.Rows.{IsRow};
-ghost use Rattle.regress_code.specs.Skips.{AreCounts};
 
 use regress_code::Code;
 use regress_code::analysis::Analysis;
@@ -352,20 +351,15 @@ pub fn next_bytes_at<'c>(input: &Input<'c, '_>, pc: usize) -> Option<&'c NextByt
     }
 }
 
-/// Returns the number of choices that are skipped from an instruction of the routine on, for each byte. It is empty
-/// if there is no instruction with this index.
-///
-/// # Preconditions
-/// The input is one that `input_for` returns.
+/// Returns the skip of an instruction of the routine, or `None` if there is none with this index.
 #[inline(always)]
-pub fn counts_at<'c>(input: &Input<'c, '_>, pc: usize) -> &'c [u8]
-    requires { IsInput input.now }
-    ensures { AreCounts input.now.next_bytes.now (instructions_in input.now) pc result.now }
+pub(crate) fn skip_at<'c>(input: &Input<'c, '_>, pc: usize) -> Option<&'c Skip>
+    ensures { IfSome result (λ skip. slice_get input.now.skips.now pc ≡ Some skip.now) }
 {
     if pc < input.skips.len() {
-        input.skips[pc].counts()
+        Some(&input.skips[pc])
     } else {
-        &[]
+        None
     }
 }
 
@@ -379,14 +373,11 @@ pub(crate) fn row_at<'c>(input: &Input<'c, '_>, pc: usize) -> Option<&'c Row>
     ensures row { IfSome result (λ row. IsRow input.now.code.now.folds input.now.code.now.program.leaves.items (instructions_in input.now) input.now.rules.backwards row.now) }
     ensures folds { IfSome result (λ row. FoldsIf input.now.code.now.folds (subject input.now.rules input.now.text.now).setting) }
 {
-    if pc >= input.skips.len() {
-        return None;
-    }
-    let Skip::Row(row) = input.skips[pc] else {
+    let Some(Skip::Row(row)) = skip_at(input, pc) else {
         return None;
     };
-    if row < input.rows.len() {
-        Some(&input.rows[row])
+    if *row < input.rows.len() {
+        Some(&input.rows[*row])
     } else {
         None
     }
