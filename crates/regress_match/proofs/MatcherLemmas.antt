@@ -40,7 +40,7 @@ use Rattle.regress_found.specs.declared.outcome.Found.{Found}
 use Rattle.regress_found.specs.declared.outcome.Outcome.{Outcome}
 use Rattle.regress_found.specs.declared.outcome.Outcome.TheVariants as outcomes
 use Rattle.regress_match.specs.Compiled.{IsCodeOf, all_outcomes}
-use Rattle.regress_match.specs.Kept.{IfKept, IsKept}
+use Rattle.regress_match.specs.Kept.{IfKept, IsBacktrackerOf, IsKept}
 use Rattle.regress_found.specs.Results.{IsSearchResult, IfMatched, IsMatchResult}
 use Rattle.regress_match.specs.Matcher.{factor, factor_in, factor_of, factor_with, linear_steps_of, nonlinear_by, nonlinear_with, outcome_if}
 use Rattle.regress_match.specs.Pattern.{matcher_outcomes, matcher_setting, matcher_tree}
@@ -325,15 +325,14 @@ module _ (m : Matcher) (text : List ℕ) (from taken : ℕ) (s : TextSearch) (ke
 
 -- ---- a run of the program
 
-pub run_matches : (m : Matcher) (text : List ℕ) (b : Backtracker) (from : ℕ) (outcome : Outcome) → run_code b ≡ m.code →
-    run_tables b ≡ arc_value m.tables → run_text b ≡ text →
+pub run_matches : (m : Matcher) (text : List ℕ) (b : Backtracker) (from : ℕ) (outcome : Outcome) → IsBacktrackerOf m text b →
     ((outs : ℕ → Out) → AreOutcomes b outs → IsSearchResult (run_text b) (runs.outcomes_at b outs) from outcome) →
     IsSearchResult text (matcher_outcomes m text) from outcome
-run_matches m text b from outcome code tables same solved =
+run_matches m text b from outcome is solved =
     run_finds (matcher_setting m) (matcher_tree m) (run_tables b) (run_code b) text from outcome
-    (code_of m (run_tables b) (run_code b) tables code m.compiled)
+    (code_of m (run_tables b) (run_code b) is.tables is.code m.compiled)
     (subst (λ (t : List ℕ). (outs : ℕ → Out) → IsSolution (setting_with (run_code b) (run_tables b)) t (code_routines (run_code b)) outs →
-    IsSearchResult t (outcomes_from (run_code b) (run_tables b) t outs) from outcome) same solved)
+    IsSearchResult t (outcomes_from (run_code b) (run_tables b) t outs) from outcome) is.same_text solved)
 
 -- ---- the tables of a text, before the first search
 

@@ -17,6 +17,7 @@ ghost use Rattle.regress_found.specs.Tried.{positions_tried};
 
 use crate::matcher::Matcher;
 use crate::matcher_matches::MatcherMatches;
+use crate::runs::find_by_kept;
 use regress_backtrack::Cache;
 use regress_found::{Match, MemoryFault, Outcome};
 use regress_tables::Linear;
@@ -188,10 +189,10 @@ impl<'m> MatcherMatches<'m> {
     {
         let text = self.text();
         let mut remaining = self.remaining;
-        let outcome = self.matcher.find_by_kept(
+        let outcome = find_by_kept(
             alloc,
+            &self.backtracker,
             &mut self.cache,
-            self.text,
             self.from,
             &mut remaining,
         )?;

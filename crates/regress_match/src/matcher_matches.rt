@@ -1,14 +1,14 @@
 //! The matches of a matcher in a text.
 ghost use Rattle.std.specs.Prelude.{◌≤◌, ◌+◌, ◌*◌, IfSome, length};
 ghost use Rattle.std.proofs.Props.{props};
-ghost use Rattle.regress_match.specs.Kept.{IfKept, IfKept-prop};
+ghost use Rattle.regress_match.specs.Kept.{IfKept, IfKept-prop, IsBacktrackerOf, IsBacktrackerOf-prop};
 ghost use Rattle.regress_match.specs.Matcher.{factor_in};
 ghost use Rattle.regress_match.specs.Memory.{AreStacksWithin, memory_of};
 ghost use Rattle.regress_tables.specs.Memory.{table_bytes};
 ghost use Rattle.regress_tables.specs.TextSearch.{searched_size};
 
 use crate::matcher::Matcher;
-use regress_backtrack::Cache;
+use regress_backtrack::{Backtracker, Cache};
 use regress_tables::TextSearch;
 
 /// The non-overlapping matches of a [`Matcher`] in a text, from left to right: each starts at the end of the one before
@@ -17,6 +17,8 @@ use regress_tables::TextSearch;
 pub struct MatcherMatches<'m> {
     pub(crate) matcher: &'m Matcher,
     pub(crate) text: &'m str,
+    /// What backtracks in the text with the program of the matcher.
+    pub(crate) backtracker: Backtracker<'m, 'm>,
     pub(crate) from: usize,
     /// The largest number of steps of backtracking.
     pub(crate) limit: u64,
@@ -28,6 +30,7 @@ pub struct MatcherMatches<'m> {
     pub(crate) cache: Option<Cache>,
     /// The tables, once backtracking has used up its steps or filled a stack.
     pub(crate) search: Option<TextSearch<'m>>,
+    ghost runs: { IsBacktrackerOf matcher.now text.now backtracker } by { IsBacktrackerOf-prop matcher.now text.now backtracker },
     ghost within: { remaining ≤ limit },
     ghost short: { IfSome (factor_in matcher.now text.now) (λ _. limit ≤ 64 * (length text.now + 1)) } by { Prim.hlevel props },
     ghost fits: { IfSome search (λ s. table_bytes (searched_size s) text.now ≤ memory_of matcher.now) } by { Prim.hlevel props },

@@ -203,9 +203,11 @@ impl Matcher {
         ensures taken { steps_taken result ≡ 0 }
     {
         let limit = self.backtracking_steps(text, steps);
+        let backtracker = self.backtracker(text);
         MatcherMatches {
             matcher: self,
             text,
+            backtracker,
             from,
             limit,
             remaining: limit,

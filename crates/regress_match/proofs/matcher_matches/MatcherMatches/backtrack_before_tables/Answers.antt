@@ -9,6 +9,7 @@ pub invariant_of-self : goal.invariant_of-self
 invariant_of-self c =
     let s = c.backtrack.new.self in
     record {
+      runs = s.runs;
       within = s.within;
       short = s.short;
       fits = s.fits;

@@ -31,6 +31,7 @@ invariant_of-self-2 c =
     c.offset_after-from.ensures ∙ ap (λ t. offset_after t s.from c.outcome_of-outcome.result) c.text-text.ensures
     ∙ ap (offset_after s.text.now s.from) c.outcome_of-outcome.ensures in
     record {
+      runs = s.runs;
       within = s.within;
       short = s.short;
       fits = s.fits;

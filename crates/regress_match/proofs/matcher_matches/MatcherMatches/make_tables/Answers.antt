@@ -12,6 +12,7 @@ invariant_of-self c =
     let s = c.args.self.now in
     let made = c.in_ok-search.ensures in
     record {
+      runs = s.runs;
       within = s.within;
       short = s.short;
       fits = made.fits;
