@@ -27,6 +27,7 @@ use Rattle.regress_tables.specs.declared.probe.Probe.{Probe}
 use Rattle.regress_tables.specs.declared.probe.Probe.TheVariants as probes
 use Rattle.regress_tables.specs.declared.table.Table.{Table}
 use Rattle.regress_tables.specs.Memo.{AreBytesOf, AreFarBytes, Covers, HasKey, IsEntry, IsKept, IsKnown, IsNear, IsSymbol, Knows, Represents, SameRows, row_bit}
+use Rattle.regress_tables.specs.Numbers.{numbers_of}
 use Rattle.regress_tables.specs.Probes.{CanProbe, Coded, IsProbe, Leads, digit, jumps_if}
 use Rattle.regress_tables.specs.Symbols.{AreAlikeIn}
 use Rattle.regress_program.specs.Tidy.{has_no_back_reference}
@@ -224,11 +225,11 @@ index-row t row x pc moved is = ap (λ k. k * (2 * t.width) + column t.width mov
 
 -- A row with a number represents its position.
 pub represented : (out : Out) (t : Table) (row x : ℕ) → IsRight out t → row_of (direction_if t.backwards) t.length x ≡ row → x ≤ t.length →
-    row < length t.rows.items → Represents out t (number_of t row) x
+    row < length (numbers_of t.rows) → Represents out t (number_of t row) x
 represented out t row x right is within numbered = record {
-  stored = row-stored t (number_of t row) (t.numbers row (t.distinct + (row - length t.rows.items)) numbered);
+  stored = row-stored t (number_of t row) (t.numbers row (t.distinct + (row - length (numbers_of t.rows))) numbered);
   tells = λ pc moved lt a e m p.
-      let rows : (row + 1) * (2 * t.width) ≤ length t.rows.items * (2 * t.width) = mul-le-mul_right (2 * t.width) (let h : row + 1 ≤ length t.rows.items = omega (arith, numbered) in h) in
+      let rows : (row + 1) * (2 * t.width) ≤ length (numbers_of t.rows) * (2 * t.width) = mul-le-mul_right (2 * t.width) (let h : row + 1 ≤ length (numbers_of t.rows) = omega (arith, numbered) in h) in
       right.tells pc moved x lt within
       (omega (arith, index-row t row x pc moved is, column-less t.width pc moved lt, rows, length-evaluated t, t.filled, bits-len t.bits)) a e m p
       ∙ cell-number t pc moved x lt ∙ ap (λ k. row_bit t (number_of t k) pc moved) is;
@@ -358,16 +359,16 @@ module _ (input : Input) (r : Routine) (t : Table) (memo : Memo) (x : ℕ) (can 
       known-next t t' extra grows.bits grows.shape input r memo memo x known refl refl refl
       (λ outs solution right knows. (filled (λ outs' solution' right'. (known.knows outs' solution' right').right) outs solution right, λ k n kept. inl kept))
 
-  module _ (numbered : length t.rows.items ≡ row_of (direction_if t.backwards) t.length x) (key : Option Key)
+  module _ (numbered : length (numbers_of t.rows) ≡ row_of (direction_if t.backwards) t.length x) (key : Option Key)
       (has : IfSome key (λ k. (outs : ℕ → Out) → AreRight outs input.tables.now → IsRight (outs (length input.tables.now)) t → HasKey input outs r.ops t memo.far.items x k)) where
     abbrev row : ℕ
-    row = length t.rows.items
+    row = length (numbers_of t.rows)
 
-    last-number : (t' : Table) (n : ℕ) → t'.rows.items ≡ t.rows.items ++ n ∷ [] → number_of t' row ≡ n
-    last-number t' n rows = ap (λ xs. get_or xs row (t'.distinct + (row - length t'.rows.items))) rows ∙ get_or_push t.rows.items n _ row refl
+    last-number : (t' : Table) (n : ℕ) → numbers_of t'.rows ≡ numbers_of t.rows ++ n ∷ [] → number_of t' row ≡ n
+    last-number t' n rows = ap (λ xs. get_or xs row (t'.distinct + (row - length (numbers_of t'.rows)))) rows ∙ get_or_push (numbers_of t.rows) n _ row refl
 
     -- the number of a row that was computed from the same
-    pub known-hit : (t' : Table) (n : ℕ) → SameShape t t' → t'.rows.items ≡ t.rows.items ++ n ∷ [] → bits_of t'.bits ≡ bits_of t.bits →
+    pub known-hit : (t' : Table) (n : ℕ) → SameShape t t' → numbers_of t'.rows ≡ numbers_of t.rows ++ n ∷ [] → bits_of t'.bits ≡ bits_of t.bits →
         evaluated t' ≡ evaluated t ++ row_bits t n → n < t.distinct → IsKept memo key n → IsKnown input r t' memo
     known-hit t' n same rows bits bits-more less kept =
         let bits' : bits_of t'.bits ≡ bits_of t.bits ++ [] = bits ∙ sym (append-nil (bits_of t.bits)) in
@@ -392,7 +393,7 @@ module _ (input : Input) (r : Routine) (t : Table) (memo : Memo) (x : ℕ) (can 
 
     -- the number of a row that was computed
     pub known-miss : (t' u : Table) (memo' : Memo) (n : ℕ) (extra : List Bool) → Grows t t' extra → (IsFilled input t → IsFilled input t') →
-        SameShape t' u → u.rows.items ≡ t'.rows.items ++ n ∷ [] → bits_of u.bits ≡ take (u.distinct * (2 * t'.width)) (bits_of t'.bits) →
+        SameShape t' u → numbers_of u.rows ≡ numbers_of t'.rows ++ n ∷ [] → bits_of u.bits ≡ take (u.distinct * (2 * t'.width)) (bits_of t'.bits) →
         t'.distinct ≤ u.distinct → evaluated u ≡ evaluated t' → memo'.far.items ≡ memo.far.items → memo'.far_bytes ≡ memo.far_bytes →
         memo'.symbols.tests ≡ memo.symbols.tests → ((k : Key) (m : ℕ) → IsKept memo' (Some k) m → IsKept memo (Some k) m ⊎ ((key ≡ Some k) × (m ≡ n))) →
         IsKnown input r u memo'
@@ -405,7 +406,7 @@ module _ (input : Input) (r : Routine) (t : Table) (memo : Memo) (x : ℕ) (can 
         let sum : m ≡ length (bits_of t.bits) + k = omega (arith, whole, mul-le-mul_right (2 * t'.width) le) in
         let bits' : bits_of u.bits ≡ bits_of t.bits ++ take k extra =
         bits ∙ ap₂ take sum grows.bits ∙ take-append-add (bits_of t.bits) extra k in
-        let rows' : u.rows.items ≡ t.rows.items ++ n ∷ [] = rows ∙ ap (λ xs. xs ++ n ∷ []) grows.rows in
+        let rows' : numbers_of u.rows ≡ numbers_of t.rows ++ n ∷ [] = rows ∙ ap (λ xs. xs ++ n ∷ []) grows.rows in
         known-next t u (take k extra) bits' shape input r memo memo' x known far_is bytes_is tests_is
         (λ outs solution right knows.
         let out = outs (length input.tables.now) in
@@ -413,7 +414,7 @@ module _ (input : Input) (r : Routine) (t : Table) (memo : Memo) (x : ℕ) (can 
         let is : Represents out u n x =
         subst (λ m. Represents out u m x) (last-number u n rows')
         (represented out u row x right' (same-row_of t u x shape ∙ sym numbered) (omega (arith, within, shape.length))
-        (omega (arith, ap length rows', length-append t.rows.items (n ∷ [])))) in (
+        (omega (arith, ap length rows', length-append (numbers_of t.rows) (n ∷ [])))) in (
           right',
           λ k m kept. elim (kept_is k m kept) [
             | inl old ↦ inl old

@@ -1,5 +1,5 @@
 -- Rows of a table.
-use Rattle.std.proofs.Common.{zero, suc, ◌≡◌, ℕ, ◌+◌, ◌-◌, ◌*◌, ◌≤◌, ◌<◌, Bool, true, false, List, [], ◌∷◌, ◌++◌, All, Result, Ok, Err, IfOk, IfErr, length, take, drop, flat_map, get_or, if◌then◌else◌, inl, inr, sym, ap, ap₂, ◌∙◌, subst, refl, arith, length-append}
+use Rattle.std.proofs.Common.{zero, suc, ◌≡◌, ℕ, ◌+◌, ◌-◌, ◌*◌, ◌≤◌, ◌<◌, Bool, true, false, List, [], ◌∷◌, ◌++◌, All, Result, Ok, Err, IfOk, IfErr, length, take, drop, flat_map, get_or, inl, inr, sym, ap, ap₂, ◌∙◌, subst, refl, arith, length-append}
 use Rattle.std.proofs.Math.ListN.{get_or-append}
 use Rattle.std.proofs.Math.Nat.{mul-le-mul_right}
 use Rattle.std.proofs.Math.Seq.{drop-length}
@@ -11,6 +11,7 @@ use Rattle.regress_program.specs.Below.{column, place, row_of}
 use Rattle.regress_program.proofs.lemmas.Places.{column-less}
 use Rattle.regress_tables.specs.Bits.{bits_of}
 use Rattle.regress_tables.specs.Memo.{row_bit}
+use Rattle.regress_tables.specs.Numbers.{numbers_of}
 use Rattle.regress_tables.specs.declared.table.Table.{Table}
 use Rattle.regress_tables.specs.Table.{Grows, SameShape, cell, evaluated, index, number_of, row_bits}
 use Rattle.regress_tables.proofs.BitLemmas.{bits-len}
@@ -59,18 +60,18 @@ flat-same f g (x ∷ xs) same = ap₂ ◌++◌ (same 0 0 (omega arith)) (flat-sa
 -- ---- the states that were evaluated
 
 module _ (t : Table) where
-  row-long : (k d : ℕ) → k < length t.rows.items → length (row_bits t (get_or t.rows.items k d)) ≡ 2 * t.width
-  row-long k d lt = length-row t (get_or t.rows.items k d) (row-stored t (get_or t.rows.items k d) (t.numbers k d lt))
+  row-long : (k d : ℕ) → k < length (numbers_of t.rows) → length (row_bits t (get_or (numbers_of t.rows) k d)) ≡ 2 * t.width
+  row-long k d lt = length-row t (get_or (numbers_of t.rows) k d) (row-stored t (get_or (numbers_of t.rows) k d) (t.numbers k d lt))
 
-  pub length-evaluated : length (evaluated t) + t.distinct * (2 * t.width) ≡ length t.rows.items * (2 * t.width) + length (bits_of t.bits)
+  pub length-evaluated : length (evaluated t) + t.distinct * (2 * t.width) ≡ length (numbers_of t.rows) * (2 * t.width) + length (bits_of t.bits)
   unfolding evaluated
   length-evaluated =
-      let flat = flat_map (row_bits t) t.rows.items in
+      let flat = flat_map (row_bits t) (numbers_of t.rows) in
       let tail = drop (t.distinct * (2 * t.width)) (bits_of t.bits) in
       omega (
         arith,
         length-append flat tail,
-        flat-length (row_bits t) (2 * t.width) t.rows.items row-long,
+        flat-length (row_bits t) (2 * t.width) (numbers_of t.rows) row-long,
         length-drop (t.distinct * (2 * t.width)) (bits_of t.bits),
         t.filled,
         bits-len t.bits,
@@ -82,19 +83,19 @@ module _ (t : Table) where
   evaluated-read row k lt =
       let w = 2 * t.width in
       let bits = bits_of t.bits in
-      let flat = flat_map (row_bits t) t.rows.items in
+      let flat = flat_map (row_bits t) (numbers_of t.rows) in
       let tail = drop (t.distinct * w) bits in
-      elim (cases_lt row (length t.rows.items)) [
+      elim (cases_lt row (length (numbers_of t.rows))) [
         | inl numbered ↦
-            flat-read (row_bits t) w t.rows.items row k tail row-long numbered lt (t.distinct + (row - length t.rows.items))
+            flat-read (row_bits t) w (numbers_of t.rows) row k tail row-long numbered lt (t.distinct + (row - length (numbers_of t.rows)))
             ∙ get_or-take w (drop (number_of t row * w) bits) k false lt
             ∙ get_or-drop (number_of t row * w) bits k false
         | inr past ↦
-            let m = row - length t.rows.items in
-            let row_is : row ≡ length t.rows.items + m = omega (arith, past) in
+            let m = row - length (numbers_of t.rows) in
+            let row_is : row ≡ length (numbers_of t.rows) + m = omega (arith, past) in
             let at : row * w + k ≡ length flat + (m * w + k) =
-            ap (λ r. r * w + k) row_is ∙ omega (arith, flat-length (row_bits t) w t.rows.items row-long) in
-            let number : number_of t row ≡ t.distinct + m = get_or_past t.rows.items row (t.distinct + m) (omega (arith, past)) in
+            ap (λ r. r * w + k) row_is ∙ omega (arith, flat-length (row_bits t) w (numbers_of t.rows) row-long) in
+            let number : number_of t row ≡ t.distinct + m = get_or_past (numbers_of t.rows) row (t.distinct + m) (omega (arith, past)) in
             let to : t.distinct * w + (m * w + k) ≡ number_of t row * w + k = omega arith ∙ ap (λ n. n * w + k) (sym number) in
             ap (λ i. get_or (flat ++ tail) i false) at ∙ get_or-append-add flat tail (m * w + k) false
             ∙ get_or-drop (t.distinct * w) bits (m * w + k) false ∙ ap (λ i. get_or bits i false) to
@@ -119,25 +120,25 @@ module _ (t t' : Table) (width : t'.width ≡ t.width) where
       ∙ take-append-le w (drop (number * w) (bits_of t.bits)) extra (omega (arith, stored, length-drop (number * w) (bits_of t.bits)))
 
   -- one more row with a number
-  pub evaluated-next : (number : ℕ) → t'.rows.items ≡ t.rows.items ++ number ∷ [] → ((n : ℕ) → n < t.distinct → row_bits t' n ≡ row_bits t n) →
-      drop (t'.distinct * (2 * t'.width)) (bits_of t'.bits) ≡ [] → evaluated t' ≡ flat_map (row_bits t) t.rows.items ++ row_bits t' number
+  pub evaluated-next : (number : ℕ) → numbers_of t'.rows ≡ numbers_of t.rows ++ number ∷ [] → ((n : ℕ) → n < t.distinct → row_bits t' n ≡ row_bits t n) →
+      drop (t'.distinct * (2 * t'.width)) (bits_of t'.bits) ≡ [] → evaluated t' ≡ flat_map (row_bits t) (numbers_of t.rows) ++ row_bits t' number
   unfolding evaluated
   evaluated-next number rows kept none =
       ap₂ (λ xs ys. flat_map (row_bits t') xs ++ ys) rows none
-      ∙ append-nil (flat_map (row_bits t') (t.rows.items ++ number ∷ []))
-      ∙ flat_map-append (row_bits t') t.rows.items (number ∷ [])
-      ∙ ap₂ ◌++◌ (flat-same (row_bits t') (row_bits t) t.rows.items (λ k d lt. kept (get_or t.rows.items k d) (t.numbers k d lt))) (append-nil (row_bits t' number))
+      ∙ append-nil (flat_map (row_bits t') ((numbers_of t.rows) ++ number ∷ []))
+      ∙ flat_map-append (row_bits t') (numbers_of t.rows) (number ∷ [])
+      ∙ ap₂ ◌++◌ (flat-same (row_bits t') (row_bits t) (numbers_of t.rows) (λ k d lt. kept (get_or (numbers_of t.rows) k d) (t.numbers k d lt))) (append-nil (row_bits t' number))
 
 -- bits of the rows that have no number yet
 pub evaluated-grows : (t t' : Table) (extra : List Bool) → Grows t t' extra → evaluated t' ≡ evaluated t ++ extra
 unfolding evaluated
 evaluated-grows t t' extra grows =
     let w = 2 * t.width in
-    let flat = flat_map (row_bits t) t.rows.items in
-    let rows : flat_map (row_bits t') t'.rows.items ≡ flat =
+    let flat = flat_map (row_bits t) (numbers_of t.rows) in
+    let rows : flat_map (row_bits t') (numbers_of t'.rows) ≡ flat =
     ap (flat_map (row_bits t')) grows.rows
-    ∙ flat-same (row_bits t') (row_bits t) t.rows.items
-    (λ k d lt. row-kept t t' grows.shape.width extra (get_or t.rows.items k d) grows.bits (row-stored t (get_or t.rows.items k d) (t.numbers k d lt))) in
+    ∙ flat-same (row_bits t') (row_bits t) (numbers_of t.rows)
+    (λ k d lt. row-kept t t' grows.shape.width extra (get_or (numbers_of t.rows) k d) grows.bits (row-stored t (get_or (numbers_of t.rows) k d) (t.numbers k d lt))) in
     let tail : drop (t'.distinct * (2 * t'.width)) (bits_of t'.bits) ≡ drop (t.distinct * w) (bits_of t.bits) ++ extra =
     ap₂ (λ n v. drop (n * (2 * v)) (bits_of t'.bits)) grows.distinct grows.shape.width
     ∙ ap (drop (t.distinct * w)) grows.bits
@@ -147,10 +148,10 @@ evaluated-grows t t' extra grows =
 -- every bit is that of a state
 pub bits-few : (t : Table) → length (bits_of t.bits) ≤ length (evaluated t)
 bits-few t =
-    let few : t.distinct ≤ length t.rows.items = omega (arith, t.few, t.rows.ok) in
+    let few : t.distinct ≤ length (numbers_of t.rows) = t.few in
     omega (arith, length-evaluated t, mul-le-mul_right (2 * t.width) few)
 
-pub evaluated-none : (t : Table) → t.rows.items ≡ [] → bits_of t.bits ≡ [] → evaluated t ≡ []
+pub evaluated-none : (t : Table) → numbers_of t.rows ≡ [] → bits_of t.bits ≡ [] → evaluated t ≡ []
 unfolding evaluated
 evaluated-none t rows bits =
     ap₂ (λ xs ys. flat_map (row_bits t) xs ++ drop (t.distinct * (2 * t.width)) ys) rows bits ∙ drop-none (t.distinct * (2 * t.width))
@@ -197,28 +198,36 @@ second-half t t' x at same more = same-index t t' 0 true x same ∙ omega (arith
 
 -- The table has no other bits than those of rows with a number.
 pub all-numbered : (t : Table) (x : ℕ) → index t 0 false x ≡ length (evaluated t) →
-    length t.rows.items ≡ row_of (direction_if t.backwards) t.length x → length (bits_of t.bits) ≡ t.distinct * (2 * t.width)
+    length (numbers_of t.rows) ≡ row_of (direction_if t.backwards) t.length x → length (bits_of t.bits) ≡ t.distinct * (2 * t.width)
 all-numbered t x at numbered =
     omega (arith, length-evaluated t, next-row t x at, ap (λ n. n * (2 * t.width)) numbered)
 
 -- ---- numbers
 
 -- one more number
-pub numbers-more : (added : Bool) (rows : List ℕ) (number n n' : ℕ) → All (λ k. k < n) rows → n ≤ n' → number < n' →
-    All (λ k. k < n') (if added then rows ++ number ∷ [] else rows)
-numbers-more false rows number n n' each le less = λ k d lt. omega (arith, each k d lt, le)
-numbers-more true rows number n n' each le less = λ k d lt.
+pub numbers-more : (rows : List ℕ) (number n n' : ℕ) → All (λ k. k < n) rows → n ≤ n' → number < n' → All (λ k. k < n') (rows ++ number ∷ [])
+numbers-more rows number n n' each le less = λ k d lt.
     elim (cases_lt k (length rows)) [
       | inl before ↦ subst (λ m. m < n') (sym (get_or-append rows (number ∷ []) d k before)) (omega (arith, each k d before, le))
       | inr past ↦ subst (λ m. m < n') (sym (get_or_push rows number d k (omega (arith, past, lt, length-append rows (number ∷ []))))) less
     ]
 
+-- one more number, or none
+pub numbers-pushed : {X E : Type 0} (r : Result X E) (rows rows' : List ℕ) (number n : ℕ) → IfOk r (λ _. rows' ≡ rows ++ number ∷ []) → IfErr r (λ _. rows' ≡ rows) →
+    All (λ k. k < n) rows → number < n → All (λ k. k < n) rows' × (length rows ≤ length rows') × (length rows' ≤ length rows + 1)
+numbers-pushed (Ok x) rows rows' number n more same each less =
+    let long : length rows' ≡ length rows + 1 = ap length more ∙ length-append rows (number ∷ []) in
+    (subst (All (λ k. k < n)) (sym more) (numbers-more rows number n n each (omega arith) less), omega arith, omega arith)
+numbers-pushed (Err e) rows rows' number n more same each less =
+    let long : length rows' ≡ length rows = ap length same in
+    (subst (All (λ k. k < n)) (sym same) each, omega arith, omega arith)
+
 -- the number of a row is repeated
-pub evaluated-repeat : (t t' : Table) (number : ℕ) → SameShape t t' → t'.rows.items ≡ t.rows.items ++ number ∷ [] → bits_of t'.bits ≡ bits_of t.bits →
+pub evaluated-repeat : (t t' : Table) (number : ℕ) → SameShape t t' → numbers_of t'.rows ≡ numbers_of t.rows ++ number ∷ [] → bits_of t'.bits ≡ bits_of t.bits →
     t'.distinct ≡ t.distinct → number < t.distinct → length (bits_of t.bits) ≡ t.distinct * (2 * t.width) → evaluated t' ≡ evaluated t ++ row_bits t number
 unfolding evaluated
 evaluated-repeat t t' number same rows bits distinct less whole =
-    let flat = flat_map (row_bits t) t.rows.items in
+    let flat = flat_map (row_bits t) (numbers_of t.rows) in
     let kept : (n : ℕ) → row_bits t' n ≡ row_bits t n = λ n. ap₂ (λ v ys. take (2 * v) (drop (n * (2 * v)) ys)) same.width bits in
     let none : drop (t.distinct * (2 * t.width)) (bits_of t.bits) ≡ [] = ap (λ k. drop k (bits_of t.bits)) (sym whole) ∙ drop-length (bits_of t.bits) in
     let none' : drop (t'.distinct * (2 * t'.width)) (bits_of t'.bits) ≡ [] =
@@ -227,14 +236,14 @@ evaluated-repeat t t' number same rows bits distinct less whole =
     ∙ sym (ap (λ ys. (flat ++ ys) ++ row_bits t number) none ∙ ap (λ xs. xs ++ row_bits t number) (append-nil flat))
 
 -- the last row gets the number of an equal one, or the next number
-pub evaluated-share : (t t' : Table) (number : ℕ) → SameShape t t' → t'.rows.items ≡ t.rows.items ++ number ∷ [] →
+pub evaluated-share : (t t' : Table) (number : ℕ) → SameShape t t' → numbers_of t'.rows ≡ numbers_of t.rows ++ number ∷ [] →
     bits_of t'.bits ≡ take (t'.distinct * (2 * t.width)) (bits_of t.bits) → t.distinct ≤ t'.distinct → t'.distinct ≤ t.distinct + 1 → number < t'.distinct →
     length (bits_of t.bits) ≡ (t.distinct + 1) * (2 * t.width) → row_bits t number ≡ row_bits t t.distinct → evaluated t' ≡ evaluated t
 unfolding evaluated
 evaluated-share t t' number same rows bits most least less one equal =
     let w = 2 * t.width in
     let xs = bits_of t.bits in
-    let flat = flat_map (row_bits t) t.rows.items in
+    let flat = flat_map (row_bits t) (numbers_of t.rows) in
     let m = t'.distinct * w in
     let within : m ≤ length xs = omega (arith, one, mul-le-mul_right w least) in
     let split : xs ≡ bits_of t'.bits ++ drop m xs = sym (ap (λ ys. ys ++ drop m xs) bits ∙ take-append-drop m xs) in

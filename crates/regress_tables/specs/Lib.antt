@@ -3,6 +3,7 @@ pub mod Evaluated
 pub mod Filled
 pub mod Memo
 pub mod Memory
+pub mod Numbers
 pub mod Probes
 pub mod RowSets
 pub mod Runs

@@ -5,6 +5,7 @@ use Rattle.regress_tree.specs.Steps.{MatchState}
 use Rattle.regress_program.specs.Below.{place}
 use Rattle.regress_program.specs.Program.{Routine, At, Out}
 use Rattle.regress_tables.specs.Bits.{bits_of}
+use Rattle.regress_tables.specs.Numbers.{numbers_of}
 use Rattle.regress_tables.specs.declared.table.Table.{Table}
 
 -- There is an outcome.
@@ -27,11 +28,11 @@ row_bits t number = take (2 * t.width) (drop (number * (2 * t.width)) (bits_of t
 
 -- the bits of the states that were evaluated so far, in order: those of the rows that have a number, then the others
 unfoldable pub evaluated : Table → List Bool
-evaluated t = flat_map (row_bits t) t.rows.items ++ drop (t.distinct * (2 * t.width)) (bits_of t.bits)
+evaluated t = flat_map (row_bits t) (numbers_of t.rows) ++ drop (t.distinct * (2 * t.width)) (bits_of t.bits)
 
 -- The number of a row. Those that have none yet are stored in order.
 abbrev pub number_of : Table → (row : ℕ) → ℕ
-number_of t row = slice_index_or t.rows.items row (t.distinct + (row - length t.rows.items))
+number_of t row = slice_index_or (numbers_of t.rows) row (t.distinct + (row - length (numbers_of t.rows)))
 
 -- the bit of a state
 unfoldable pub cell : Table → (pc : ℕ) (moved : Bool) (position : ℕ) → Bool
@@ -86,6 +87,6 @@ pub record SameShape (t t' : Table) : Type 0 where
 -- These bits are added, of the rows that have no number yet.
 pub record Grows (t t' : Table) (extra : List Bool) : Type 0 where
   pub shape : SameShape t t'
-  pub rows : t'.rows.items ≡ t.rows.items
+  pub rows : numbers_of t'.rows ≡ numbers_of t.rows
   pub distinct : t'.distinct ≡ t.distinct
   pub bits : bits_of t'.bits ≡ bits_of t.bits ++ extra

@@ -5,6 +5,7 @@ ghost use Rattle.regress_program.specs.Below.{column, row_of};
 ghost use Rattle.regress_tables.specs.Table.{Grows, cell, evaluated, number_of, size};
 
 use crate::bits::Bits;
+use crate::numbers::Numbers;
 use crate::table::Table;
 use std::alloc::{AllocError, Global};
 
@@ -33,7 +34,7 @@ impl Table {
         }
         Ok(Table {
             bits: Bits::new(alloc, length / 4, (2 * half).div_ceil(64)),
-            rows: Vec::with_capacity(alloc, length + 1)?,
+            rows: Numbers::with_capacity(alloc, length + 1)?,
             distinct: 0,
             width,
             length,
@@ -80,15 +81,15 @@ impl Table {
     }
 
     /// Returns the number of a row, or the number that it would have if none of the rows after those with a number were equal.
+    #[inline(always)]
     pub(crate) fn number_of(&self, row: usize) -> usize
         requires { row ≤ self.now.length }
         ensures value { result ≡ number_of self.now row }
         ensures within { result ≤ self.now.length }
     {
-        if row < self.rows.len() {
-            self.rows[row] as usize
-        } else {
-            self.distinct + (row - self.rows.len())
+        match self.rows.get(row) {
+            Some(number) => number,
+            None => self.distinct + (row - self.rows.len()),
         }
     }
 }

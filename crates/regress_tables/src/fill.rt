@@ -9,6 +9,7 @@ ghost use Rattle.regress_program.specs.Views.{routine_in};
 ghost use Rattle.regress_tables.specs.Bits.{bits_of};
 ghost use Rattle.regress_tables.specs.Evaluated.{CanFill, IsFilled};
 ghost use Rattle.regress_tables.specs.Memo.{IsKnown, SameRows};
+ghost use Rattle.regress_tables.specs.Numbers.{numbers_of};
 ghost use Rattle.regress_tables.specs.Runs.{AreRuns};
 ghost use Rattle.regress_tables.specs.Table.{AreTables, Grows, IsFull, IsTableOf, SameShape, evaluated, index, row_bits};
 
@@ -106,7 +107,7 @@ fn fill_shared(
     requires can { CanFill input.now (routine_in input.now.code.now.program.leaves.items routine.now) table.old }
     requires position { position ≤ table.old.length }
     requires at { index table.old 0 false position ≡ length (evaluated table.old) }
-    requires numbered { length table.old.rows.items ≡ row_of (direction_if table.old.backwards) table.old.length position }
+    requires numbered { length (numbers_of table.old.rows) ≡ row_of (direction_if table.old.backwards) table.old.length position }
     requires known { IsKnown input.now (routine_in input.now.code.now.program.leaves.items routine.now) table.old memo.old }
     requires runs { AreRuns (subject input.now.rules input.now.text.now) input.now.code.now.program.leaves.items memo.old.runs }
     ensures shape { IfOk result (λ _. SameShape table.old table.new) }

@@ -9,6 +9,7 @@ ghost use Rattle.regress_program.specs.Views.{routine_in};
 ghost use Rattle.regress_code.specs.Code.{code_routines};
 ghost use Rattle.regress_tables.specs.Evaluated.{CanFill};
 ghost use Rattle.regress_tables.specs.Memo.{AreFarBytes, HasKey, IsKept, SameRows};
+ghost use Rattle.regress_tables.specs.Numbers.{numbers_of};
 ghost use Rattle.regress_tables.specs.Probes.{Coded, digit};
 ghost use Rattle.regress_tables.specs.Runs.{AreRuns};
 ghost use Rattle.regress_tables.specs.Table.{AreRight, AreTables, IsRight, evaluated, index};
@@ -83,7 +84,7 @@ pub(crate) fn direct_row(
 ) -> Option<usize>
     requires can { CanFill input.now (routine_in input.now.code.now.program.leaves.items routine.now) table.now }
     requires position { position ≤ table.now.length }
-    requires numbered { length table.now.rows.items ≡ row_of (direction_if table.now.backwards) table.now.length position }
+    requires numbered { length (numbers_of table.now.rows) ≡ row_of (direction_if table.now.backwards) table.now.length position }
     requires bytes { let u = subject input.now.rules input.now.text.now in
         AreFarBytes u.setting u.bytes u.direction (routine_in input.now.code.now.program.leaves.items routine.now).ops memo.now.far.items memo.now.far_bytes }
     requires tests { memo.now.symbols.tests.now ≡ input.now.code.now.program.leaves.items }
@@ -104,7 +105,7 @@ pub(crate) fn direct_row(
     }
     let (c, _) = next_ascii(input.text, input.rules.backwards, position)?;
     let symbol = memo.symbols.known_symbol(c)?;
-    let from = table.rows[rows - 1] as usize;
+    let from = table.rows.get(rows - 1)?;
     let index = from * 128 + usize::from(symbol);
     if index >= memo.direct.len() {
         return None;

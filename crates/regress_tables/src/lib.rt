@@ -14,6 +14,7 @@ mod leftmost;
 mod linear;
 mod memo;
 mod memory;
+mod numbers;
 mod probe;
 mod resolve;
 mod row_set;

@@ -1,6 +1,7 @@
 //! Rows of a table.
 ghost use Rattle.std.specs.Prelude.{◌≡◌, ◌≤◌, ◌<◌, ◌+◌, ◌*◌, ◌^◌, ◌++◌, [], ◌∷◌, ℕ, IfOk, false, length, slice_index_or, take, true};
 ghost use Rattle.regress_tables.specs.Bits.{bits_of};
+ghost use Rattle.regress_tables.specs.Numbers.{numbers_of};
 ghost use Rattle.regress_tables.specs.Table.{SameShape, evaluated, row_bits, size};
 
 use crate::table::Table;
@@ -60,9 +61,9 @@ impl Table {
     pub(crate) fn repeat(&mut self, number: usize) -> Result<(), AllocError>
         requires number { number < self.old.distinct }
         requires whole { length (bits_of self.old.bits) ≡ self.old.distinct * (2 * self.old.width) }
-        requires room { length self.old.rows.items ≤ self.old.length }
+        requires room { length (numbers_of self.old.rows) ≤ self.old.length }
         ensures shape { IfOk result (λ _. SameShape self.old self.new) }
-        ensures rows { IfOk result (λ _. self.new.rows.items ≡ self.old.rows.items ++ number ∷ []) }
+        ensures rows { IfOk result (λ _. numbers_of self.new.rows ≡ numbers_of self.old.rows ++ number ∷ []) }
         ensures bits { IfOk result (λ _. bits_of self.new.bits ≡ bits_of self.old.bits) }
         ensures evaluated { IfOk result (λ _. evaluated self.new ≡ evaluated self.old ++ row_bits self.old number) }
     {
@@ -78,10 +79,10 @@ impl Table {
         requires number { number ≤ self.old.distinct }
         requires narrow { self.old.distinct < 2 ^ 32 }
         requires one { length (bits_of self.old.bits) ≡ (self.old.distinct + 1) * (2 * self.old.width) }
-        requires room { length self.old.rows.items ≤ self.old.length }
+        requires room { length (numbers_of self.old.rows) ≤ self.old.length }
         requires same { row_bits self.old number ≡ row_bits self.old self.old.distinct }
         ensures shape { IfOk result (λ _. SameShape self.old self.new) }
-        ensures rows { IfOk result (λ _. self.new.rows.items ≡ self.old.rows.items ++ number ∷ []) }
+        ensures rows { IfOk result (λ _. numbers_of self.new.rows ≡ numbers_of self.old.rows ++ number ∷ []) }
         ensures bits { IfOk result (λ _. bits_of self.new.bits ≡ take (self.new.distinct * (2 * self.old.width)) (bits_of self.old.bits)) }
         ensures distinct { IfOk result (λ _. self.old.distinct ≤ self.new.distinct) }
         ensures evaluated { IfOk result (λ _. evaluated self.new ≡ evaluated self.old) }

@@ -1,6 +1,5 @@
 use Rattle.std.proofs.Common.{◌≡◌, ◌<◌, ◌+◌, ◌-◌, ◌*◌, Some, length, slice_get, refl, sym, ap, ◌∙◌, subst, inr, arith}
-use Rattle.std.proofs.lemmas.List.{get_or_read}
-use Rattle.std.proofs.lemmas.Option.{slice_get_read}
+use Rattle.std.proofs.lemmas.Option.{get_or_from_slice_get, slice_get_read}
 use Rattle.regress_leaves.specs.Subject.{subject}
 use Rattle.regress_tree.specs.Reading.{Read, direction_if, next_character, of_bytes}
 use Rattle.regress_program.specs.Below.{row_of}
@@ -11,6 +10,7 @@ use Rattle.regress_code.specs.Code.{code_routines}
 use Rattle.regress_code.specs.NextBytes.{Bounds}
 use Rattle.regress_tables.specs.Memo.{Represents, direct_index}
 use Rattle.regress_tables.specs.declared.memo.Key.{Key}
+use Rattle.regress_tables.specs.Numbers.{numbers_of}
 use Rattle.regress_tables.specs.Symbols.{AreAlike, AreAlikeIn}
 use Rattle.regress_tables.specs.Table.{number_of}
 use Rattle.regress_tables.proofs.AsciiLemmas.{row-behind}
@@ -31,21 +31,21 @@ returns-clause-kept c =
     let x = c.args.position in
     let character = c.in_ok-c.c in
     let symbol = c.in_ok-symbol.symbol in
-    let from = c.index.result.now in
-    let next = c.index-2.result.now in
+    let from = c.in_ok-from.from in
+    let next = c.index.result.now in
     let read : Read = record { character = character; position = c.in_ok-c.field-0-1 } in
     let key : Key = record { symbol = symbol + 1; from = from; probes = 0 } in
     let here = c.in_ok-c.ensures in
-    let some : 0 < length t.rows.items = omega (arith, c.if-rows-eq0.false) in
+    let some : 0 < length (numbers_of t.rows) = omega (arith, c.if-rows-eq0.false) in
     let is : next_character d (of_bytes u.bytes) x ≡ Some read = ap (λ b. next_character (direction_if b) (of_bytes u.bytes) x) c.requires.can.backwards ∙ here.1 in
     let behind = row-behind d u.bytes t.length x read is here.0 (omega (arith, some, c.requires.numbered)) c.requires.position in
-    let last : row_of d t.length read.position ≡ length t.rows.items - 1 = omega (arith, behind.0, c.requires.numbered) in
+    let last : row_of d t.length read.position ≡ length (numbers_of t.rows) - 1 = omega (arith, behind.0, c.requires.numbered) in
     let from_is : number_of t (row_of d t.length read.position) ≡ from =
-    ap (number_of t) (last ∙ (let e : length t.rows.items - 1 ≡ c.len-rows.result - 1 = omega arith in e))
-    ∙ sym (get_or_read t.rows.items (c.len-rows.result - 1) from (omega (arith, some)) c.index.ensures _) in
+    ap (number_of t) (last ∙ (let e : length (numbers_of t.rows) - 1 ≡ c.len-rows.result - 1 = omega arith in e))
+    ∙ get_or_from_slice_get (numbers_of t.rows) (c.len-rows.result - 1) from _ (sym c.in_ok-from.ensures.value) in
     let column : from * 128 + c.from.result ≡ from * 128 + symbol = ap (λ k. from * 128 + k) c.from.ensures in
     let found : slice_get memo.direct.items (from * 128 + symbol) ≡ Some (next - 1 + 1) =
-    ap (slice_get memo.direct.items) (sym column) ∙ slice_get_read memo.direct.items _ (from * 128 + c.from.result) next refl (omega arith) c.index-2.ensures
+    ap (slice_get memo.direct.items) (sym column) ∙ slice_get_read memo.direct.items _ (from * 128 + c.from.result) next refl (omega arith) c.index.ensures
     ∙ ap Some (let e : next ≡ next - 1 + 1 = omega (arith, c.if-next-eq0.false) in e) in
     let at : direct_index key ≡ from * 128 + symbol = omega arith in
     let alike : AreAlikeIn r.ops character (symbol + 1 - 1) =

@@ -8,6 +8,7 @@ use Rattle.regress_program.specs.Program.{matcher_of}
 use Rattle.regress_program.specs.Views.{routine_in}
 use Rattle.regress_code.specs.Code.{code_routines}
 use Rattle.regress_tables.specs.Memo.{Represents}
+use Rattle.regress_tables.specs.Numbers.{numbers_of}
 use Rattle.regress_tables.specs.Probes.{Coded}
 use Rattle.regress_tables.specs.Symbols.{AreAlike, AreAlikeIn}
 use Rattle.regress_tables.specs.Table.{number_of}
@@ -44,7 +45,7 @@ returns-else-row-len-clause-key c = λ outs tables right.
     alike-in leaves (listed c.args.routine.now) c.in-Some.c (c.from.result + 1 - 1)
     (let e : c.symbol_of.result ≡ c.from.result + 1 - 1 = omega (arith, c.from.ensures) in
     subst (AreAlike leaves c.in-Some.c) e (subst (λ ts. AreAlike ts c.in-Some.c c.symbol_of.result) c.requires.tests c.symbol_of.ensures.alike)) in
-    let lt : c.row_of-row.result < length t.rows.items = omega (arith, c.if-row-len.false, c.len.ensures) in
+    let lt : c.row_of-row.result < length (numbers_of t.rows) = omega (arith, c.if-row-len.false, c.len.ensures) in
     let from_is : c.number_of-from.result ≡ number_of t (row_of (direction_if t.backwards) t.length to) = c.number_of-from.ensures.value ∙ ap (number_of t) row_is in
     key-some input outs ops t c.args.memo.now.far.items c.args.position
     (record { symbol = c.from.result + 1; from = c.number_of-from.result; probes = probes })

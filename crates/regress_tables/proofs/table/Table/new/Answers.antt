@@ -2,4 +2,4 @@ use Rattle.regress_tables.proofs.RowLemmas.{evaluated-none}
 use Rattle.regress_tables.proofs.table.Table.new.Goals as goal
 
 pub returns-clause-empty : goal.returns-clause-empty
-returns-clause-empty c = evaluated-none _ c.in_ok-with_capacity.ensures.items c.new.ensures.empty
+returns-clause-empty c = evaluated-none _ c.in_ok-with_capacity.ensures.empty c.new.ensures.empty
