@@ -485,7 +485,7 @@ class Calls(unittest.TestCase):
         with self.assertRaises(regress.error) as caught:
             regress.compile('(a*)*b', steps=1, linear_instructions=1).search('a' * 1000)
         self.assertEqual(caught.exception.kind, 'OutOfSteps')
-        # Tables that are too large are not made.
+        # Tables are limited.
         small = regress.compile('(a*)*b', memory=1000)
         self.assertEqual(small.search('aab').span(), (0, 3))
         for call in (small.search, small.findall, small.split, lambda text: small.sub('', text)):

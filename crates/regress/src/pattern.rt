@@ -342,9 +342,9 @@ impl Regex {
     /// - [`SearchError::OutOfSteps`] if the search takes more than `steps` of [`Options`]; or if
     ///   [`Regex::is_find_linear`], more than `linear_steps`, and never where [`Regex::find_steps_per_byte`] for each byte of
     ///   the text, and once more, is within that.
-    /// - [`SearchError::TooMuchMemory`] if the search needs tables that take more bytes than `memory` of [`Options`]:
-    ///   (n / 4 + 8) (length + 1) for a program of n instructions, with n / 4 rounded up, which are not made then; or if
-    ///   it only backtracks, and a backtrack stack needs more.
+    /// - [`SearchError::TooMuchMemory`] if the search needs tables that take more bytes than `memory` of [`Options`], and
+    ///   so would (n / 4 + 8) (length + 1) for a program of n instructions, with n / 4 rounded up; or if it only
+    ///   backtracks, and a backtrack stack needs more.
     /// - [`SearchError::Memory`] if an allocation fails.
     ///
     /// # Complexity

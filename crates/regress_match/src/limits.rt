@@ -22,9 +22,10 @@ pub struct Limits {
     /// one whose stack is full goes on by tables, if it takes linear time.
     ///
     /// There is a backtrack stack for the pattern, and one for each level of nested lookarounds, with 40 bytes for each
-    /// entry. Tables take a quarter of a byte for each instruction, and 8 bytes, for each byte of the text, and once more. A
-    /// lookaround takes up to 4 bytes more for each byte of the text, which do not count. A match in a list counts 56 bytes,
-    /// and 24 for each group of the pattern.
+    /// entry. Tables take at most a quarter of a byte for each instruction, and 8 bytes, for each byte of the text, and once
+    /// more: a search by tables never ends so if that is within the limit. It takes less where positions are alike, and up to
+    /// 4 bytes more for each lookaround and byte of the text. A match in a list counts 56 bytes, and 24 for each group of the
+    /// pattern.
     pub memory: usize,
 }
 

@@ -50,8 +50,8 @@ impl Matcher {
     ///
     /// # Errors
     /// - [`MemoryFault::TooMuchMemory`] if the search needs tables that take more memory than [`Limits`](crate::Limits)
-    ///   allow, which are not made then; or if it only backtracks, and a backtrack stack needs more. Then 64 times its
-    ///   cost is at least the number of entries for which the stack may have room.
+    ///   allow; or if it only backtracks, and a backtrack stack needs more. Then 64 times its cost is at least the number of
+    ///   entries for which the stack may have room.
     /// - [`MemoryFault::Memory`] if an allocation fails.
     ///
     /// # Examples

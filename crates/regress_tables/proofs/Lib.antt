@@ -8,6 +8,7 @@ mod FirstLemmas
 mod FollowLemmas
 mod KeptLemmas
 mod MemoLemmas
+mod MemoryLemmas
 mod ProbeLemmas
 mod ResolveLemmas
 mod RowLemmas

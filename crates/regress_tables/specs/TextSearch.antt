@@ -3,6 +3,7 @@ use Rattle.std.specs.Prelude.{ℕ, List}
 use Rattle.regress_program.specs.Compiled.{total}
 use Rattle.regress_code.specs.Code.{code_groups, code_routines}
 use Rattle.regress_code.specs.declared.code.Code.{Code}
+use Rattle.regress_tables.specs.Memory.{stored_bytes}
 use Rattle.regress_tables.specs.declared.text.TextSearch.{TextSearch}
 use Rattle.regress_unicode.specs.declared.Tables.{Tables}
 
@@ -13,6 +14,10 @@ searched_code s = s.linear.code.now
 -- the number of its instructions
 abbrev pub searched_size : TextSearch → ℕ
 searched_size s = total (code_routines (searched_code s))
+
+-- the number of bytes that its tables store
+abbrev pub searched_bytes : TextSearch → ℕ
+searched_bytes s = stored_bytes s.tables.items
 
 -- the case mappings of the search
 abbrev pub searched_tables : TextSearch → Tables

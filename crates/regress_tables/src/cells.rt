@@ -5,12 +5,17 @@ ghost use Rattle.regress_program.specs.Below.{column, row_of};
 ghost use Rattle.regress_tables.specs.Table.{Grows, cell, evaluated, number_of, size};
 
 use crate::bits::Bits;
+use crate::memory::most_words;
 use crate::numbers::Numbers;
 use crate::table::Table;
 use std::alloc::{AllocError, Global};
 
+/// The largest number of positions of a table, and of pairs of states.
+const MOST: usize = 0x0800_0000_0000_0000;
+
 impl Table {
-    /// Returns an empty table for a routine, with memory for the numbers of all rows.
+    /// Returns an empty table for a routine, with memory for the numbers of all rows, which stores about as many bytes as
+    /// there is room for, or any number.
     ///
     /// # Errors
     /// Returns [`AllocError`] if no memory can hold the table.
@@ -19,6 +24,7 @@ impl Table {
         width: usize,
         length: usize,
         backwards: bool,
+        room: Option<usize>,
     ) -> Result<Table, AllocError>
         requires { length < 2 ^ 63 }
         ensures width { IfOk result (λ t. t.width ≡ width) }
@@ -29,11 +35,12 @@ impl Table {
         let Some(half) = width.checked_mul(length + 1) else {
             return Err(AllocError);
         };
-        if half > 0x0800_0000_0000_0000 {
+        if half > MOST || length > MOST {
             return Err(AllocError);
         }
+        let words = (2 * half).div_ceil(64);
         Ok(Table {
-            bits: Bits::new(alloc, length / 4, (2 * half).div_ceil(64)),
+            bits: Bits::new(alloc, length / 4, most_words(room, words, width)),
             rows: Numbers::with_capacity(alloc, length + 1)?,
             distinct: 0,
             width,

@@ -1,5 +1,6 @@
 //! Filling the table of a routine.
-ghost use Rattle.std.specs.Prelude.{◌≡◌, ◌≤◌, ◌+◌, ◌*◌, ◌^◌, ◌<◌, Bool, IfOk, List, Some, false, length, slice_get, true};
+ghost use Rattle.std.specs.Prelude.{◌≡◌, ◌≤◌, ◌+◌, ◌*◌, ◌^◌, ◌<◌, Bool, IfErr, IfOk, IfSome, IsSome, List, Some, false, length, slice_get, true};
+ghost use Rattle.regress_found.specs.declared.fault.MemoryFault.TheVariants.{TooMuchMemory};
 ghost use Rattle.regress_leaves.specs.Subject.{subject};
 ghost use Rattle.regress_tree.specs.Reading.{direction_if};
 ghost use Rattle.regress_program.specs.Below.{row_of};
@@ -9,6 +10,7 @@ ghost use Rattle.regress_program.specs.Views.{routine_in};
 ghost use Rattle.regress_tables.specs.Bits.{bits_of};
 ghost use Rattle.regress_tables.specs.Evaluated.{CanFill, IsFilled};
 ghost use Rattle.regress_tables.specs.Memo.{IsKnown, SameRows};
+ghost use Rattle.regress_tables.specs.Memory.{stored_in};
 ghost use Rattle.regress_tables.specs.Numbers.{numbers_of};
 ghost use Rattle.regress_tables.specs.Runs.{AreRuns};
 ghost use Rattle.regress_tables.specs.Table.{AreTables, Grows, IsFull, IsTableOf, SameShape, evaluated, index, row_bits};
@@ -17,28 +19,35 @@ use crate::cells::row_of;
 use crate::evaluate::{Input, evaluate};
 use crate::keys::{direct_row, key_at};
 use crate::memo::{Memo, slot_of};
+use crate::memory::test_positions;
 use crate::runs::Runs;
 use crate::table::Table;
+use regress_found::MemoryFault;
 use regress_leaves::reading::next_read;
 use regress_leaves::rules::MatchContext;
 use regress_program::instruction::Routine;
 use std::alloc::{AllocError, Global};
 
-/// Returns the full table of a routine: the one after those whose tables are full.
+/// Returns the full table of a routine: the one after those whose tables are full. It stores at most as many bytes as there
+/// is room for.
 ///
 /// # Errors
-/// Returns [`AllocError`] if an allocation fails.
+/// - [`MemoryFault::TooMuchMemory`] if it would store more.
+/// - [`MemoryFault::Memory`] if an allocation fails.
 pub(crate) fn fill(
     alloc: Global,
     input: Input<'_, '_>,
     routine: &Routine,
-) -> Result<Table, AllocError>
+    room: Option<usize>,
+) -> Result<Table, MemoryFault>
     requires no_reference { has_no_back_reference (code_routines input.code.now) ≡ true }
     requires tables { AreTables input.text.now (code_routines input.code.now) input.tables.now }
     requires routine { slice_get (code_routines input.code.now) (length input.tables.now) ≡ Some (routine_in input.code.now.program.leaves.items routine.now) }
     ensures of { IfOk result (IsTableOf input.entry.text.now (routine_in input.entry.code.now.program.leaves.items routine.now)) }
     ensures full { IfOk result IsFull }
     ensures filled { IfOk result (IsFilled input.entry) }
+    ensures stored { IfOk result (λ table. IfSome room (λ most. stored_in table ≤ most)) }
+    ensures too_much { IfErr result (λ fault. fault ≡ TooMuchMemory → IsSome room) }
 {
     let input = Input {
         rules: MatchContext {
@@ -48,11 +57,13 @@ pub(crate) fn fill(
         ..input
     };
     let length = input.text.len();
+    test_positions(length, room)?;
     let mut memo = Memo::new(alloc, input, routine)?;
-    let mut table = Table::new(alloc, routine.len(), length, routine.backwards)?;
+    let mut table = Table::new(alloc, routine.len(), length, routine.backwards, room)?;
     for row in 0..length + 1 {
         let position = row_of(routine.backwards, length, row);
         fill_row(&input, routine, &mut table, &mut memo, position)?;
+        table.test_room(room)?;
     }
     Ok(table)
 }

@@ -9,7 +9,7 @@ ghost use Rattle.regress_program.specs.Program.{IsSolution, Out};
 ghost use Rattle.regress_code.specs.Code.{captures_cost, code_routines, outcomes_from, setting_with, tree_outcomes_from};
 ghost use Rattle.regress_tables.specs.Memory.{table_bytes};
 ghost use Rattle.regress_tables.specs.Search.{per_byte};
-ghost use Rattle.regress_tables.specs.TextSearch.{searched_code, searched_size, searched_tables, searched_text};
+ghost use Rattle.regress_tables.specs.TextSearch.{searched_bytes, searched_code, searched_size, searched_tables, searched_text};
 
 use crate::found::Search;
 use crate::linear::Linear;
@@ -39,12 +39,13 @@ impl Linear<'_, '_> {
     /// # Complexity
     /// The steps are at most [`Linear::steps_per_byte`] for each byte of the text, and once more. A step takes constant
     /// time, but for literals and sets, and unless [`Code::has_bounded_counts`](regress_code::Code::has_bounded_counts)
-    /// a loop over one character, whose iterations are one step. For each byte of the text, and once more, a quarter of
-    /// a byte for each instruction, and 8 bytes, count as the memory of the tables. So much it takes if all rows
-    /// differ, and 4 bytes more for each lookaround. Equal rows are stored once.
+    /// a loop over one character, whose iterations are one step. The tables take at most a quarter of a byte for each
+    /// instruction, and 8 bytes, for each byte of the text, and once more; and 4 bytes more for each lookaround. So much it
+    /// is if all rows differ. Equal rows are stored once.
     ///
     /// # Errors
-    /// - [`MemoryFault::TooMuchMemory`] if the tables take more than `memory` bytes. They are not made then.
+    /// - [`MemoryFault::TooMuchMemory`] if the tables store more than `memory` bytes, and a quarter of a byte for each
+    ///   instruction, and 8 bytes, for each byte of the text, and once more, are more than that too.
     /// - [`MemoryFault::Memory`] if an allocation fails.
     ///
     /// # Examples
@@ -81,12 +82,11 @@ impl Linear<'_, '_> {
         ensures tried { IfOk result (λ search. positions_tried text.now from search.found ≤ search.steps) }
         ensures charged { IfOk result (λ search. IfSome search.found (λ m.
             captures_cost self.now.code.now + positions_tried text.now from (Some m) ≤ search.steps)) }
-        ensures fits { IfOk result (λ _. table_bytes (total (code_routines self.now.code.now)) text.now ≤ memory) }
         ensures too_much { IfErr result (λ fault. fault ≡ TooMuchMemory → memory < table_bytes (total (code_routines self.now.code.now)) text.now) }
     {
-        self.test_memory(text, memory)?;
+        let room = self.room_for(text, memory)?;
         let mut steps = 0;
-        let tables = self.fill_all(alloc, text, &mut steps)?;
+        let tables = self.fill_all(alloc, text, room, &mut steps)?;
         let search = find_filled(alloc, self, text, &tables, from)?;
         Ok(Search {
             found: search.found,
@@ -114,12 +114,12 @@ impl<'p> Linear<'p, 'p> {
         ensures code { IfOk result (λ search. searched_code search ≡ self.entry.code.now) }
         ensures tables { IfOk result (λ search. searched_tables search ≡ self.entry.known.tables.now) }
         ensures text { IfOk result (λ search. searched_text search ≡ text.now) }
-        ensures fits { IfOk result (λ search. table_bytes (searched_size search) text.now ≤ memory) }
+        ensures fits { IfOk result (λ search. memory < table_bytes (searched_size search) text.now → searched_bytes search ≤ memory) }
         ensures too_much { IfErr result (λ fault. fault ≡ TooMuchMemory → memory < table_bytes (total (code_routines self.entry.code.now)) text.now) }
     {
-        self.test_memory(text, memory)?;
+        let room = self.room_for(text, memory)?;
         let mut steps = 0;
-        let tables = self.fill_all(alloc, text, &mut steps)?;
+        let tables = self.fill_all(alloc, text, room, &mut steps)?;
         Ok(TextSearch {
             linear: self,
             text,

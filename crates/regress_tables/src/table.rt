@@ -28,7 +28,7 @@ pub struct Table {
     pub(crate) length: usize,
     /// Whether the routine matches backwards.
     pub(crate) backwards: bool,
-    ghost short: { length < 2 ^ 63 },
+    ghost short: { length < 2 ^ 60 },
     ghost small: { (length + 1) * (2 * width) < 2 ^ 62 },
     ghost words: { words_of bits ≤ div_ceil ((length + 1) * (2 * width)) 64 },
     ghost numbers: { All (λ n. n < distinct) (numbers_of rows) },

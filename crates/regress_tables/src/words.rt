@@ -28,6 +28,14 @@ impl Bits {
         self.len
     }
 
+    /// Returns the number of bytes of the words.
+    #[inline(always)]
+    pub(crate) fn bytes(&self) -> usize
+        ensures { result ≡ 8 * words_of self.now }
+    {
+        8 * self.words.len()
+    }
+
     /// Returns a bit.
     pub(crate) fn get(&self, index: usize) -> bool
         requires { index < length (bits_of self.now) }

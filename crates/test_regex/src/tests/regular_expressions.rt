@@ -289,11 +289,11 @@ fn steps_until_end(alloc: Global, regex: &Regex, text: &str) -> Option<u64> {
     }
 }
 
-/// For this text the tables of `(a*)*b` take between 400 and 1,000 bytes.
+/// For this text the tables of `(a*)*b` store between 40 and 100 bytes.
 #[test]
 fn tables_have_a_limit_of_memory(rt: HostRuntime) -> Result<(), Fail> {
     let alloc = rt.alloc();
-    let small = within_memory(alloc, 400)?;
+    let small = within_memory(alloc, 40)?;
     assert!(rt; matches!(small.find(alloc, MANY), Err(SearchError::TooMuchMemory)));
     assert!(rt; matches!(small.is_match(alloc, MANY), Err(SearchError::TooMuchMemory)));
     assert!(rt; matches!(small.find_all(alloc, MANY), Err(SearchError::TooMuchMemory)));
@@ -308,7 +308,7 @@ fn tables_have_a_limit_of_memory(rt: HostRuntime) -> Result<(), Fail> {
     assert!(rt; matches!(matches.next(), Some(Err(SearchError::TooMuchMemory))));
     assert!(rt; matches.next().is_none());
     expect_eq!(rt; small.is_match(alloc, "aab")?, true);
-    let large = within_memory(alloc, 1000)?;
+    let large = within_memory(alloc, 100)?;
     expect_eq!(rt; large.is_match(alloc, MANY)?, false);
     expect_eq!(rt; Options::default().memory, 256 << 20);
     Ok(())

@@ -31,6 +31,7 @@ loop-row-preserved c =
       backwards = same.backwards ∙ so_far.backwards;
       rows = more ∙ ap (λ w. (c.loop-row.row + 1) * (2 * w)) (sym same.width);
       runs = c.in_ok-fill_row.ensures.runs;
+      stored = λ some. c.in_ok-test_room.ensures.fits;
       known = c.in_ok-fill_row.ensures.known;
     }
 
@@ -46,6 +47,7 @@ loop-row-init c = record {
   backwards = c.in_ok-table.ensures.backwards;
   rows = ap length c.in_ok-table.ensures.empty ∙ omega arith;
   runs = c.in_ok-memo.ensures.runs;
+  stored = λ none. absurd (omega (arith, none));
   known = known-start _ _ c.in_ok-table.table c.in_ok-memo.memo c.in_ok-table.ensures.empty c.in_ok-memo.ensures.covers c.in_ok-memo.ensures.bytes c.in_ok-memo.ensures.tests c.in_ok-memo.ensures.empty;
 }
 
@@ -59,3 +61,6 @@ returns-clause-full c =
 
 pub returns-clause-filled : goal.returns-clause-filled
 returns-clause-filled c = λ outs solution right. (c.loop-row.invariant.known.knows outs solution right).right
+
+pub returns-clause-stored : goal.returns-clause-stored
+returns-clause-stored c = c.loop-row.invariant.stored (omega (arith, c.loop-row-test.false, c.loop-row.auto.row-end))

@@ -1,7 +1,8 @@
-use Rattle.std.proofs.Common.{◌≡◌, ◌*◌, length}
+use Rattle.std.proofs.Common.{◌≡◌, ◌*◌, ◌<◌, ◌≤◌, IfSome, length}
 use Rattle.regress_program.specs.Views.{routine_in}
 use Rattle.regress_leaves.specs.Subject.{subject}
 use Rattle.regress_tables.specs.Memo.{IsKnown}
+use Rattle.regress_tables.specs.Memory.{stored_in}
 use Rattle.regress_tables.specs.Runs.{AreRuns}
 use Rattle.regress_tables.specs.Table.{IsTableOf, evaluated}
 use Rattle.regress_tables.proofs.fill.fill.Given as goal
@@ -12,5 +13,6 @@ invariant-loop-row l = record {
   backwards : l.table.backwards ≡ l.routine.backwards;
   rows : length (evaluated l.table) ≡ l.row * (2 * l.table.width);
   runs : AreRuns (subject l.input.rules l.input.text.now) l.input.code.now.program.leaves.items l.memo.runs;
+  stored : 0 < l.row → IfSome l.room (λ most. stored_in l.table ≤ most);
   known : IsKnown l.input (routine_in l.input.code.now.program.leaves.items l.routine) l.table l.memo;
 }
