@@ -25,7 +25,7 @@ use Rattle.regress_program.specs.Contents.{no_ids}
 use Rattle.regress_program.specs.Ranges.{ranges_of}
 use Rattle.regress_program.specs.Tidy.{IsTidy}
 use Rattle.regress_program.proofs.lemmas.Tidy.{tidy-less}
-use Rattle.regress_tables.specs.Memo.{row_bit}
+use Rattle.regress_tables.specs.Rows.{row_bit}
 use Rattle.regress_tables.specs.Table.{IsFull, IsRight, IsTableOf, cell, has_outcome, index as index_of, number_of}
 use Rattle.regress_tables.specs.Walked.{at_of, Leads}
 use Rattle.regress_program.proofs.lemmas.Solutions.{solution}

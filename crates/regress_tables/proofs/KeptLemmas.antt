@@ -1,10 +1,14 @@
 -- The rows that a memo keeps.
-use Rattle.std.proofs.Common.{zero, suc, ◌≡◌, ℕ, ◌+◌, ◌⊎◌, List, slice_get, replicate, Option, Some, None, sym, ap, ◌∙◌, inl, inr, arith}
+use Rattle.std.proofs.Common.{zero, suc, ◌≡◌, ℕ, ◌+◌, ◌⊎◌, List, slice_get, replicate, Option, Some, None, refl, sym, ap, ◌∙◌, subst, inl, inr, arith}
 use Rattle.std.proofs.lemmas.Option.{none-some, same_Some}
 use Rattle.regress_tables.specs.declared.memo.Entry.{Entry}
 use Rattle.regress_tables.specs.declared.memo.Key.{Key}
 use Rattle.regress_tables.specs.declared.memo.Memo.{Memo}
+use Rattle.regress_tables.specs.declared.repetitions.Repetitions.{Repetitions}
 use Rattle.regress_tables.specs.Memo.{IsDirect, IsKept, SameRows, direct_index}
+use Rattle.regress_tables.specs.Repetitions.{AreRepetitions, IsRepeated, SameRepetitions}
+use Rattle.regress_leaves.specs.declared.test.Test.{Test}
+use Rattle.regress_program.specs.Program.{Op}
 
 -- Nothing is kept where no slot has an entry, and no row is found directly.
 pub kept-none : (slots : List (Option Entry)) (direct : List ℕ) (count : ℕ) →
@@ -27,3 +31,31 @@ kept-same memo memo' same (Some key) n kept = elim kept [
   | inl hashed ↦ inl (hashed.0, ap (λ es. slice_get es hashed.0) (sym same.slots) ∙ hashed.1)
   | inr found ↦ inr (found.0, ap (λ ns. slice_get ns (direct_index key)) (sym same.direct) ∙ found.1)
 ]
+
+-- ---- repetitions
+
+pub repetitions-refl : (r : Repetitions) → SameRepetitions r r
+repetitions-refl r = record { distinct = refl; uses = refl }
+
+pub repetitions-trans : (a b c : Repetitions) → SameRepetitions a b → SameRepetitions b c → SameRepetitions a c
+repetitions-trans a b c ab bc = record { distinct = bc.distinct ∙ ab.distinct; uses = bc.uses ∙ ab.uses }
+
+-- The same are those of the same instructions.
+pub repetitions-same : (leaves : List Test) (ops : List Op) (far far' : List ℕ) (r r' : Repetitions) → far' ≡ far → SameRepetitions r r' →
+    AreRepetitions leaves ops far r → AreRepetitions leaves ops far' r'
+repetitions-same leaves ops far far' r r' far_is same are = record {
+  one = λ k x is. are.one k x (ap (λ xs. slice_get xs k) (sym same.distinct) ∙ is);
+  uses = λ k pc repeated is used.
+      subst (λ xs. IsRepeated leaves ops xs pc repeated) (sym same.distinct)
+      (are.uses k pc repeated (ap (λ xs. slice_get xs k) (sym far_is) ∙ is) (ap (λ xs. slice_get xs k) (sym same.uses) ∙ used));
+}
+
+pub rows-trans : (a b c : Memo) → SameRows a b → SameRows b c → SameRows a c
+rows-trans a b c ab bc = record {
+  far = bc.far ∙ ab.far;
+  direct = bc.direct ∙ ab.direct;
+  slots = bc.slots ∙ ab.slots;
+  bytes = bc.bytes ∙ ab.bytes;
+  tests = bc.tests ∙ ab.tests;
+  repetitions = repetitions-trans a.repetitions b.repetitions c.repetitions ab.repetitions bc.repetitions;
+}

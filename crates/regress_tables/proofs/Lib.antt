@@ -10,6 +10,7 @@ mod KeptLemmas
 mod MemoLemmas
 mod MemoryLemmas
 mod ProbeLemmas
+mod RepetitionLemmas
 mod ResolveLemmas
 mod RowLemmas
 mod RunLemmas

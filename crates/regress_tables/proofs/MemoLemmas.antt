@@ -26,8 +26,10 @@ use Rattle.regress_tables.specs.declared.memo.Memo.{Memo}
 use Rattle.regress_tables.specs.declared.probe.Probe.{Probe}
 use Rattle.regress_tables.specs.declared.probe.Probe.TheVariants as probes
 use Rattle.regress_tables.specs.declared.table.Table.{Table}
-use Rattle.regress_tables.specs.Memo.{AreBytesOf, AreFarBytes, Covers, HasKey, IsEntry, IsKept, IsKnown, IsNear, IsSymbol, Knows, Represents, SameRows, row_bit}
+use Rattle.regress_tables.specs.Memo.{AreBytesOf, AreFarBytes, Covers, HasKey, IsEntry, IsKept, IsKnown, IsNear, IsSymbol, Knows, SameRows}
 use Rattle.regress_tables.specs.Numbers.{numbers_of}
+use Rattle.regress_tables.specs.Repetitions.{AreRepetitions, SameRepetitions}
+use Rattle.regress_tables.specs.Rows.{Represents, row_bit}
 use Rattle.regress_tables.specs.Probes.{CanProbe, Coded, IsProbe, Leads, digit, jumps_if}
 use Rattle.regress_tables.specs.Symbols.{AreAlikeIn}
 use Rattle.regress_program.specs.Tidy.{has_no_back_reference}
@@ -35,7 +37,7 @@ use Rattle.regress_program.proofs.lemmas.Instructions.{no_reference-at}
 use Rattle.regress_tables.specs.Table.{AreRight, Grows, IsRight, SameShape, Tells, cell, evaluated, index, number_of, row_bits}
 use Rattle.regress_tables.proofs.BitLemmas.{bits-len}
 use Rattle.regress_tables.proofs.FillLemmas.{SameShape-trans, same-index, same-row}
-use Rattle.regress_tables.proofs.KeptLemmas.{kept-same}
+use Rattle.regress_tables.proofs.KeptLemmas.{kept-same, repetitions-refl, repetitions-same}
 use Rattle.regress_tables.proofs.ProbeLemmas.{equal_rows, part_fails, part_jumps}
 use Rattle.regress_tables.proofs.RowLemmas.{all-numbered, cell-number, length-evaluated, length-row, next-row, row-stored}
 
@@ -198,15 +200,16 @@ module _ (t t' : Table) (extra : List Bool) (bits : bits_of t'.bits ≡ bits_of 
 
   -- What is known, after more bits, where the new entries have the key of a position and a row that represents it.
   pub known-next : (input : Input) (r : Routine) (memo memo' : Memo) (x : ℕ) → IsKnown input r t memo → memo'.far.items ≡ memo.far.items → memo'.far_bytes ≡ memo.far_bytes →
-      memo'.symbols.tests ≡ memo.symbols.tests → ((outs : ℕ → Out) → IsSolution (subject input.rules input.text.now).setting input.text.now (code_routines input.code.now) outs →
+      memo'.symbols.tests ≡ memo.symbols.tests → SameRepetitions memo.repetitions memo'.repetitions → ((outs : ℕ → Out) → IsSolution (subject input.rules input.text.now).setting input.text.now (code_routines input.code.now) outs →
       AreRight outs input.tables.now → Knows input outs r.ops t memo → IsRight (outs (length input.tables.now)) t'
       × ((key : Key) (row : ℕ) → IsKept memo' (Some key) row → IsKept memo (Some key) row
       ⊎ (Represents (outs (length input.tables.now)) t' row x × HasKey input outs r.ops t memo.far.items x key))) →
       IsKnown input r t' memo'
-  known-next input r memo memo' x known far_is bytes_is tests_is each = record {
+  known-next input r memo memo' x known far_is bytes_is tests_is repeat_is each = record {
     covers = subst (Covers r.ops) (sym far_is) known.covers;
     bytes = far-bytes-same input r memo memo' far_is bytes_is known.bytes;
     tests = ap (λ s. s.now) tests_is ∙ known.tests;
+    repetitions = repetitions-same input.code.now.program.leaves.items r.ops memo.far.items memo'.far.items memo.repetitions memo'.repetitions far_is repeat_is known.repetitions;
     knows = λ outs solution right.
         let knows = known.knows outs solution right in
         let next = each outs solution right knows in
@@ -291,12 +294,13 @@ right-same out t t' bits same right = record {
 
 -- Nothing is known of a table without a row.
 pub known-start : (input : Input) (r : Routine) (t : Table) (memo : Memo) → evaluated t ≡ [] → Covers r.ops memo.far.items → HasFarBytes input r memo →
-    memo.symbols.tests.now ≡ input.code.now.program.leaves.items →
+    memo.symbols.tests.now ≡ input.code.now.program.leaves.items → AreRepetitions input.code.now.program.leaves.items r.ops memo.far.items memo.repetitions →
     ((key : Key) (row : ℕ) → IsKept memo (Some key) row → ⊥) → IsKnown input r t memo
-known-start input r t memo empty covers bytes tests none = record {
+known-start input r t memo empty covers bytes tests repetitions none = record {
   covers = covers;
   bytes = bytes;
   tests = tests;
+  repetitions = repetitions;
   knows = λ outs solution right. record {
     right = record { tells = λ pc moved q lt le before. absurd (omega (arith, before, ap length empty)) };
     entries = λ key row kept. absurd (none key row kept);
@@ -341,13 +345,13 @@ can-probe input r t pc x op can within at lt none is = record {
 }
 
 -- one more digit
-pub coded-more : (setting : Setting) (bytes : List ℕ) (d : Direction) (body_of : ℕ → Matcher) (out : Out) (ops : List Op) (far : List ℕ) (x k code : ℕ) (op : Op) (p : Probe) →
-    0 < k → k ≤ length far → slice_get ops (get_or far (k - 1) 0) ≡ Some op → IsProbe setting bytes d body_of out op x p →
+pub coded-more : (setting : Setting) (bytes : List ℕ) (d : Direction) (body_of : ℕ → Matcher) (out : Out) (ops : List Op) (far : List ℕ) (x k code : ℕ) (p : Probe) →
+    0 < k → k ≤ length far → ((op : Op) → slice_get ops (get_or far (k - 1) 0) ≡ Some op → IsProbe setting bytes d body_of out op x p) →
     Coded setting bytes d body_of out ops (drop k far) x code → Coded setting bytes d body_of out ops (drop (k - 1) far) x (code * 4 + digit p)
-coded-more setting bytes d body_of out ops far x k code op p some within is_op is coded =
+coded-more setting bytes d body_of out ops far x k code p some within is coded =
     subst (λ pcs. Coded setting bytes d body_of out ops pcs x (code * 4 + digit p))
     (sym (drop_more far (k - 1) 0 (omega (arith, some, within)) ∙ ap (λ j. get_or far (k - 1) 0 ∷ drop j far) (let h : (k - 1) + 1 ≡ k = omega (arith, some) in h)))
-    (code, p, refl, (λ op' is'. subst (λ o. IsProbe setting bytes d body_of out o x p) (same_Some op op' (sym is_op ∙ is')) is), coded)
+    (code, p, refl, is, coded)
 
 -- ---- one more row
 
@@ -356,7 +360,7 @@ module _ (input : Input) (r : Routine) (t : Table) (memo : Memo) (x : ℕ) (can 
   -- a row without a number
   pub known-flat : (t' : Table) (extra : List Bool) → Grows t t' extra → (IsFilled input t → IsFilled input t') → IsKnown input r t' memo
   known-flat t' extra grows filled =
-      known-next t t' extra grows.bits grows.shape input r memo memo x known refl refl refl
+      known-next t t' extra grows.bits grows.shape input r memo memo x known refl refl refl (repetitions-refl memo.repetitions)
       (λ outs solution right knows. (filled (λ outs' solution' right'. (known.knows outs' solution' right').right) outs solution right, λ k n kept. inl kept))
 
   module _ (numbered : length (numbers_of t.rows) ≡ row_of (direction_if t.backwards) t.length x) (key : Option Key)
@@ -372,7 +376,7 @@ module _ (input : Input) (r : Routine) (t : Table) (memo : Memo) (x : ℕ) (can 
         evaluated t' ≡ evaluated t ++ row_bits t n → n < t.distinct → IsKept memo key n → IsKnown input r t' memo
     known-hit t' n same rows bits bits-more less kept =
         let bits' : bits_of t'.bits ≡ bits_of t.bits ++ [] = bits ∙ sym (append-nil (bits_of t.bits)) in
-        known-next t t' [] bits' same input r memo memo x known refl refl refl
+        known-next t t' [] bits' same input r memo memo x known refl refl refl (repetitions-refl memo.repetitions)
         (λ outs solution right knows.
         let out = outs (length input.tables.now) in
         let is : Represents out t n x = represents outs solution right knows key kept has in (
@@ -395,9 +399,9 @@ module _ (input : Input) (r : Routine) (t : Table) (memo : Memo) (x : ℕ) (can 
     pub known-miss : (t' u : Table) (memo' : Memo) (n : ℕ) (extra : List Bool) → Grows t t' extra → (IsFilled input t → IsFilled input t') →
         SameShape t' u → numbers_of u.rows ≡ numbers_of t'.rows ++ n ∷ [] → bits_of u.bits ≡ take (u.distinct * (2 * t'.width)) (bits_of t'.bits) →
         t'.distinct ≤ u.distinct → evaluated u ≡ evaluated t' → memo'.far.items ≡ memo.far.items → memo'.far_bytes ≡ memo.far_bytes →
-        memo'.symbols.tests ≡ memo.symbols.tests → ((k : Key) (m : ℕ) → IsKept memo' (Some k) m → IsKept memo (Some k) m ⊎ ((key ≡ Some k) × (m ≡ n))) →
+        memo'.symbols.tests ≡ memo.symbols.tests → SameRepetitions memo.repetitions memo'.repetitions → ((k : Key) (m : ℕ) → IsKept memo' (Some k) m → IsKept memo (Some k) m ⊎ ((key ≡ Some k) × (m ≡ n))) →
         IsKnown input r u memo'
-    known-miss t' u memo' n extra grows filled shared rows bits le same far_is bytes_is tests_is kept_is =
+    known-miss t' u memo' n extra grows filled shared rows bits le same far_is bytes_is tests_is repeat_is kept_is =
         let shape : SameShape t u = SameShape-trans t t' u grows.shape shared in
         let m = u.distinct * (2 * t'.width) in
         let whole : t'.distinct * (2 * t'.width) ≡ length (bits_of t.bits) =
@@ -407,7 +411,7 @@ module _ (input : Input) (r : Routine) (t : Table) (memo : Memo) (x : ℕ) (can 
         let bits' : bits_of u.bits ≡ bits_of t.bits ++ take k extra =
         bits ∙ ap₂ take sum grows.bits ∙ take-append-add (bits_of t.bits) extra k in
         let rows' : numbers_of u.rows ≡ numbers_of t.rows ++ n ∷ [] = rows ∙ ap (λ xs. xs ++ n ∷ []) grows.rows in
-        known-next t u (take k extra) bits' shape input r memo memo' x known far_is bytes_is tests_is
+        known-next t u (take k extra) bits' shape input r memo memo' x known far_is bytes_is tests_is repeat_is
         (λ outs solution right knows.
         let out = outs (length input.tables.now) in
         let right' : IsRight out u = right-same out t' u same shared (filled (λ outs' solution' right'. (known.knows outs' solution' right').right) outs solution right) in
@@ -432,6 +436,7 @@ known-same input r t memo memo' same known = record {
   covers = subst (Covers r.ops) (sym same.far) known.covers;
   bytes = far-bytes-same input r memo memo' same.far same.bytes known.bytes;
   tests = ap (λ s. s.now) same.tests ∙ known.tests;
+  repetitions = repetitions-same input.code.now.program.leaves.items r.ops memo.far.items memo'.far.items memo.repetitions memo'.repetitions same.far same.repetitions known.repetitions;
   knows = λ outs solution right.
       let knows = known.knows outs solution right in
       record {

@@ -10,8 +10,8 @@ use Rattle.regress_tree.specs.Reading.{Direction, forwards, backwards, direction
 use Rattle.regress_program.specs.Below.{column, place, row_of}
 use Rattle.regress_program.proofs.lemmas.Places.{column-less}
 use Rattle.regress_tables.specs.Bits.{bits_of}
-use Rattle.regress_tables.specs.Memo.{row_bit}
 use Rattle.regress_tables.specs.Numbers.{numbers_of}
+use Rattle.regress_tables.specs.Rows.{row_bit}
 use Rattle.regress_tables.specs.declared.table.Table.{Table}
 use Rattle.regress_tables.specs.Table.{Grows, SameShape, cell, evaluated, index, number_of, row_bits}
 use Rattle.regress_tables.proofs.BitLemmas.{bits-len}

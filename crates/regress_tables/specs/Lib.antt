@@ -5,7 +5,9 @@ pub mod Memo
 pub mod Memory
 pub mod Numbers
 pub mod Probes
+pub mod Repetitions
 pub mod RowSets
+pub mod Rows
 pub mod Runs
 pub mod Search
 pub mod Searchable

@@ -4,28 +4,19 @@ use Rattle.regress_prefilter.specs.OneCharacter.{takes_one}
 use Rattle.regress_leaves.specs.Subject.{subject}
 use Rattle.regress_tree.specs.Reading.{Direction, Read, next_character, of_bytes}
 use Rattle.regress_tree.specs.Steps.{Matcher, Setting}
-use Rattle.regress_program.specs.Below.{column}
 use Rattle.regress_program.specs.Program.{At, Op, Out, Routine, IsSolution, part, look, matcher_of, outcomes_by}
 use Rattle.regress_code.specs.Code.{code_routines}
 use Rattle.regress_code.specs.NextBytes.{Bounds}
 use Rattle.regress_code.specs.declared.next_bytes.NextBytes.{NextBytes}
-use Rattle.regress_tables.specs.Bits.{bits_of}
 use Rattle.regress_tables.specs.Probes.{Coded}
+use Rattle.regress_tables.specs.Repetitions.{AreRepetitions, SameRepetitions}
+use Rattle.regress_tables.specs.Rows.{Represents}
 use Rattle.regress_tables.specs.Symbols.{AreAlikeIn}
-use Rattle.regress_tables.specs.Table.{AreRight, IsRight, Tells}
+use Rattle.regress_tables.specs.Table.{AreRight, IsRight}
 use Rattle.regress_tables.specs.declared.evaluate.Input.{Input}
 use Rattle.regress_tables.specs.declared.memo.Key.{Key}
 use Rattle.regress_tables.specs.declared.memo.Memo.{Memo}
 use Rattle.regress_tables.specs.declared.table.Table.{Table}
-
--- a bit of the row with a number
-abbrev pub row_bit : Table → (number pc : ℕ) (moved : Bool) → Bool
-row_bit t number pc moved = slice_index_or (bits_of t.bits) (number * (2 * t.width) + column t.width moved pc) false
-
--- The row with this number is stored, and tells which states at the position have an outcome.
-pub record Represents (out : Out) (t : Table) (number position : ℕ) : Type 0 where
-  pub stored : (number + 1) * (2 * t.width) ≤ length (bits_of t.bits)
-  pub tells : (pc : ℕ) (moved : Bool) → pc < t.width → Tells out pc moved position (row_bit t number pc moved)
 
 -- The symbol is that of a character that the instructions do not tell from the next one, and `from` represents the position
 -- after it.
@@ -76,13 +67,14 @@ IsKept memo None row = ⊥
 IsKept memo (Some key) row = ((k : ℕ) × (slice_get memo.slots.items k ≡ Some (Some (record { key = key; row = row }))))
     ⊎ (IsDirect key × (slice_get memo.direct.items (direct_index key) ≡ Some (row + 1)))
 
--- Only what is known of symbols and of rows with equal bits may differ.
+-- Only what is known of symbols, of rows with equal bits and of where repetitions end may differ.
 pub record SameRows (memo memo' : Memo) : Type 0 where
   pub far : memo'.far.items ≡ memo.far.items
   pub direct : memo'.direct.items ≡ memo.direct.items
   pub slots : memo'.slots.items ≡ memo.slots.items
   pub bytes : memo'.far_bytes ≡ memo.far_bytes
   pub tests : memo'.symbols.tests ≡ memo.symbols.tests
+  pub repetitions : SameRepetitions memo.repetitions memo'.repetitions
 
 -- The row with this number is that of a position with this key.
 pub record IsEntry (input : Input) (outs : ℕ → Out) (ops : List Op) (t : Table) (far : List ℕ) (key : Key) (row : ℕ) : Type 0 where
@@ -100,5 +92,6 @@ pub record IsKnown (input : Input) (r : Routine) (t : Table) (memo : Memo) : Typ
   pub covers : Covers r.ops memo.far.items
   pub bytes : AreFarBytes (subject input.rules input.text.now).setting input.text.now (subject input.rules input.text.now).direction r.ops memo.far.items memo.far_bytes
   pub tests : memo.symbols.tests.now ≡ input.code.now.program.leaves.items
+  pub repetitions : AreRepetitions input.code.now.program.leaves.items r.ops memo.far.items memo.repetitions
   pub knows : (outs : ℕ → Out) → IsSolution (subject input.rules input.text.now).setting input.text.now (code_routines input.code.now) outs →
       AreRight outs input.tables.now → Knows input outs r.ops t memo

@@ -1,16 +1,17 @@
 //! What rows are computed from.
-ghost use Rattle.std.specs.Prelude.{◌≡◌, ◌≤◌, ◌<◌, ◌+◌, ◌*◌, ℕ, IfSome, Some, false, length, true};
+ghost use Rattle.std.specs.Prelude.{◌≡◌, ◌≤◌, ◌<◌, ◌+◌, ◌*◌, ℕ, IfSome, Some, false, length, slice_get, slice_index_or, true};
 ghost use Rattle.regress_leaves.specs.Subject.{subject};
 ghost use Rattle.regress_tree.specs.Reading.{direction_if};
 ghost use Rattle.regress_program.specs.Below.{row_of};
-ghost use Rattle.regress_program.specs.Program.{Out, matcher_of};
+ghost use Rattle.regress_program.specs.Program.{Op, Out, matcher_of};
 ghost use Rattle.regress_program.specs.Tidy.{has_no_back_reference};
 ghost use Rattle.regress_program.specs.Views.{routine_in};
 ghost use Rattle.regress_code.specs.Code.{code_routines};
 ghost use Rattle.regress_tables.specs.Evaluated.{CanFill};
 ghost use Rattle.regress_tables.specs.Memo.{AreFarBytes, HasKey, IsKept, SameRows};
 ghost use Rattle.regress_tables.specs.Numbers.{numbers_of};
-ghost use Rattle.regress_tables.specs.Probes.{Coded, digit};
+ghost use Rattle.regress_tables.specs.Probes.{Coded, IsProbe, digit};
+ghost use Rattle.regress_tables.specs.Repetitions.{AreEnds, AreRepetitions};
 ghost use Rattle.regress_tables.specs.Runs.{AreRuns};
 ghost use Rattle.regress_tables.specs.Table.{AreRight, AreTables, IsRight, evaluated, index};
 
@@ -18,7 +19,6 @@ use crate::cells::row_of;
 use crate::evaluate::Input;
 use crate::memo::{Key, Memo};
 use crate::probe::{Probe, digit, probe_at};
-use crate::runs::Runs;
 use crate::table::Table;
 use regress_leaves::ascii::next_ascii;
 use regress_leaves::reading::next_read;
@@ -38,6 +38,8 @@ pub(crate) fn key_at(
     requires position { position ≤ table.now.length }
     requires at { index table.now 0 false position ≡ length (evaluated table.now) }
     requires tests { memo.old.symbols.tests.now ≡ input.now.code.now.program.leaves.items }
+    requires repetitions { AreRepetitions input.now.code.now.program.leaves.items
+        (routine_in input.now.code.now.program.leaves.items routine.now).ops memo.old.far.items memo.old.repetitions }
     requires runs { AreRuns (subject input.now.rules input.now.text.now) input.now.code.now.program.leaves.items memo.old.runs }
     ensures same { SameRows memo.old memo.new }
     ensures runs { AreRuns (subject input.now.rules input.now.text.now) input.now.code.now.program.leaves.items memo.new.runs }
@@ -45,7 +47,7 @@ pub(crate) fn key_at(
         (let ops = (routine_in input.now.code.now.program.leaves.items routine.now).ops in
         IsRight (outs (length input.now.tables.now)) table.now → HasKey input.now outs ops table.now memo.old.far.items position key)) }
 {
-    let probes = probes_at(input, routine, table, &memo.far, &mut memo.runs, position)?;
+    let probes = probes_at(input, routine, table, memo, position)?;
     match next_read(input.text, input.rules.backwards, position) {
         None => Some(Key {
             symbol: 0,
@@ -117,13 +119,12 @@ pub(crate) fn direct_row(
     Some(next - 1)
 }
 
-/// Returns what these instructions lead to from a position, as digits, or `None` if there are too many.
+/// Returns what the far instructions lead to from a position, as digits, or `None` if there are too many.
 fn probes_at(
     input: &Input<'_, '_>,
     routine: &Routine,
     table: &Table,
-    far: &[usize],
-    runs: &mut Runs,
+    memo: &mut Memo<'_>,
     position: usize,
 ) -> Option<u64>
     requires no_reference { has_no_back_reference (code_routines input.now.code.now) ≡ true }
@@ -131,24 +132,66 @@ fn probes_at(
     requires can { CanFill input.now (routine_in input.now.code.now.program.leaves.items routine.now) table.now }
     requires position { position ≤ table.now.length }
     requires at { index table.now 0 false position ≡ length (evaluated table.now) }
-    requires runs { AreRuns (subject input.now.rules input.now.text.now) input.now.code.now.program.leaves.items runs.old }
-    ensures runs { AreRuns (subject input.now.rules input.now.text.now) input.now.code.now.program.leaves.items runs.new }
+    requires repetitions { AreRepetitions input.now.code.now.program.leaves.items
+        (routine_in input.now.code.now.program.leaves.items routine.now).ops memo.old.far.items memo.old.repetitions }
+    requires runs { AreRuns (subject input.now.rules input.now.text.now) input.now.code.now.program.leaves.items memo.old.runs }
+    ensures same { SameRows memo.old memo.new }
+    ensures runs { AreRuns (subject input.now.rules input.now.text.now) input.now.code.now.program.leaves.items memo.new.runs }
     ensures coded { IfSome result (λ code. (outs : ℕ → Out) → AreRight outs input.now.tables.now → IsRight (outs (length input.now.tables.now)) table.now →
         (let u = subject input.now.rules input.now.text.now in
         Coded u.setting u.bytes u.direction (matcher_of u.setting u.bytes (code_routines input.now.code.now) outs) (outs (length input.now.tables.now))
-        (routine_in input.now.code.now.program.leaves.items routine.now).ops far.now position code)) }
+        (routine_in input.now.code.now.program.leaves.items routine.now).ops memo.old.far.items position code)) }
 {
+    if !memo
+        .repetitions
+        .find_ends(*input, table, &mut memo.runs, position)
+    {
+        return None;
+    }
     let mut code: u64 = 0;
-    for k in (0..far.len()).rev() {
-        let pc = far[k];
-        if pc >= routine.len() {
-            return None;
-        }
-        let probe = probe_at(*input, table, runs, routine.at(pc), position);
+    for k in (0..memo.far.len()).rev() {
+        let probe = far_probe(input, routine, table, memo, k, position)?;
         let next = with_digit(code, probe)?;
         code = next;
     }
     Some(code)
+}
+
+/// Returns what a far instruction leads to from a position, from which the repetitions lead to known rows.
+fn far_probe(
+    input: &Input<'_, '_>,
+    routine: &Routine,
+    table: &Table,
+    memo: &mut Memo<'_>,
+    k: usize,
+    position: usize,
+) -> Option<Probe>
+    requires no_reference { has_no_back_reference (code_routines input.now.code.now) ≡ true }
+    requires tables { AreTables input.now.text.now (code_routines input.now.code.now) input.now.tables.now }
+    requires can { CanFill input.now (routine_in input.now.code.now.program.leaves.items routine.now) table.now }
+    requires position { position ≤ table.now.length }
+    requires at { index table.now 0 false position ≡ length (evaluated table.now) }
+    requires k { k < length memo.old.far.items }
+    requires repetitions { AreRepetitions input.now.code.now.program.leaves.items
+        (routine_in input.now.code.now.program.leaves.items routine.now).ops memo.old.far.items memo.old.repetitions }
+    requires ends { AreEnds (subject input.now.rules input.now.text.now) input.now.code.now.program.leaves.items table.now position memo.old.repetitions }
+    requires runs { AreRuns (subject input.now.rules input.now.text.now) input.now.code.now.program.leaves.items memo.old.runs }
+    ensures same { SameRows memo.old memo.new }
+    ensures repetitions { memo.new.repetitions ≡ memo.old.repetitions }
+    ensures runs { AreRuns (subject input.now.rules input.now.text.now) input.now.code.now.program.leaves.items memo.new.runs }
+    ensures probe { IfSome result (λ probe. (outs : ℕ → Out) → AreRight outs input.now.tables.now → IsRight (outs (length input.now.tables.now)) table.now →
+        (let u = subject input.now.rules input.now.text.now in
+        (op : Op) → slice_get (routine_in input.now.code.now.program.leaves.items routine.now).ops (slice_index_or memo.old.far.items k 0) ≡ Some op →
+        IsProbe u.setting u.bytes u.direction (matcher_of u.setting u.bytes (code_routines input.now.code.now) outs) (outs (length input.now.tables.now)) op position probe)) }
+{
+    if let Some(repeated) = memo.repetitions.use_of(k) {
+        return Some(memo.repetitions.probe(table, repeated));
+    }
+    let pc = memo.far[k];
+    if pc >= routine.len() {
+        return None;
+    }
+    Some(probe_at(*input, table, &mut memo.runs, routine.at(pc), position))
 }
 
 /// Returns a code with one more digit, or `None` if it does not fit.

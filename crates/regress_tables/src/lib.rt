@@ -4,6 +4,7 @@
 mod bits;
 mod cells;
 mod characters;
+mod ends;
 mod evaluate;
 mod fill;
 mod filled;
@@ -16,6 +17,8 @@ mod memo;
 mod memory;
 mod numbers;
 mod probe;
+mod repeated;
+mod repetitions;
 mod resolve;
 mod row_set;
 mod rows;

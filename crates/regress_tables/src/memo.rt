@@ -4,10 +4,12 @@ ghost use Rattle.regress_leaves.specs.Subject.{subject};
 ghost use Rattle.regress_program.specs.Listed.{listed};
 ghost use Rattle.regress_program.specs.Program.{Op};
 ghost use Rattle.regress_program.specs.Views.{op_in, ops_in};
+ghost use Rattle.regress_tables.specs.Repetitions.{AreRepetitions};
 ghost use Rattle.regress_tables.specs.Runs.{AreRuns};
 ghost use Rattle.regress_tables.specs.Memo.{AreBytesOf, AreFarBytes, Covers, IsDirect, IsKept, IsNear, direct_index};
 
 use crate::evaluate::Input;
+use crate::repetitions::Repetitions;
 use crate::runs::Runs;
 use crate::symbols::Symbols;
 use regress_base::bytesearch::ByteBitmap;
@@ -43,6 +45,8 @@ pub(crate) struct Memo<'t> {
     pub(crate) far: Vec<usize>,
     /// The next bytes of all of those.
     pub(crate) far_bytes: NextBytes,
+    /// Those of them that match an exact number of characters.
+    pub(crate) repetitions: Repetitions,
     /// The characters in a row that leaves of those match.
     pub(crate) runs: Runs,
     /// The representatives of characters.
@@ -79,6 +83,8 @@ impl<'t> Memo<'t> {
         ensures bytes { IfOk result (λ memo. (let u = subject input.entry.rules input.entry.text.now in
             AreFarBytes u.setting u.bytes u.direction (ops_in input.entry.code.now.program.leaves.items (listed routine.now)) memo.far.items memo.far_bytes)) }
         ensures tests { IfOk result (λ memo. memo.symbols.tests.now ≡ input.entry.code.now.program.leaves.items) }
+        ensures repetitions { IfOk result (λ memo. AreRepetitions input.entry.code.now.program.leaves.items
+            (ops_in input.entry.code.now.program.leaves.items (listed routine.now)) memo.far.items memo.repetitions) }
         ensures runs { IfOk result (λ memo. AreRuns (subject input.entry.rules input.entry.text.now) input.entry.code.now.program.leaves.items memo.runs) }
         ensures empty { IfOk result (λ memo. (key : Key) (row : ℕ) → IsKept memo (Some key) row → ⊥) }
     {
@@ -86,9 +92,11 @@ impl<'t> Memo<'t> {
         let rows = DIRECT_ROWS.min(input.text.len() / POSITIONS);
         let far = far_of(alloc, input, routine)?;
         let far_bytes = far_bytes_of(input, routine, &far);
+        let repetitions = Repetitions::new(alloc, input, routine, &far)?;
         Ok(Memo {
             far,
             far_bytes,
+            repetitions,
             runs: Runs::new(),
             symbols: Symbols::new(&input.code.program.leaves, rows > 0),
             direct: vec![in alloc; 0; rows * 128]?,
@@ -126,6 +134,7 @@ impl<'t> Memo<'t> {
         ensures far { self.new.far.items ≡ self.old.far.items }
         ensures bytes { self.new.far_bytes ≡ self.old.far_bytes }
         ensures tests { self.new.symbols.tests ≡ self.old.symbols.tests }
+        ensures repetitions { self.new.repetitions ≡ self.old.repetitions }
         ensures runs { self.new.runs ≡ self.old.runs }
         ensures kept { (k : Key) (n : ℕ) → IsKept self.new (Some k) n → IsKept self.old (Some k) n ⊎ ((key ≡ Some k) × (n ≡ row)) }
     {

@@ -48,7 +48,7 @@ loop-row-init c = record {
   rows = ap length c.in_ok-table.ensures.empty ∙ omega arith;
   runs = c.in_ok-memo.ensures.runs;
   stored = λ none. absurd (omega (arith, none));
-  known = known-start _ _ c.in_ok-table.table c.in_ok-memo.memo c.in_ok-table.ensures.empty c.in_ok-memo.ensures.covers c.in_ok-memo.ensures.bytes c.in_ok-memo.ensures.tests c.in_ok-memo.ensures.empty;
+  known = known-start _ _ c.in_ok-table.table c.in_ok-memo.memo c.in_ok-table.ensures.empty c.in_ok-memo.ensures.covers c.in_ok-memo.ensures.bytes c.in_ok-memo.ensures.tests c.in_ok-memo.ensures.repetitions c.in_ok-memo.ensures.empty;
 }
 
 pub returns-clause-full : goal.returns-clause-full

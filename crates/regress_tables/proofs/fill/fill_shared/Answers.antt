@@ -1,10 +1,11 @@
-use Rattle.std.proofs.Common.{◌+◌, ◌<◌, IfSome, Some, length, inl, inr, ap, ◌∙◌, subst, arith, length-append}
+use Rattle.std.proofs.Common.{◌+◌, ◌<◌, IfSome, Some, length, inl, inr, sym, ap, ◌∙◌, subst, arith, length-append}
 use Rattle.regress_tree.specs.Reading.{direction_if}
 use Rattle.regress_program.specs.Views.{routine_in}
 use Rattle.regress_tables.specs.Memo.{IsKept}
+use Rattle.regress_tables.specs.Repetitions.{SameRepetitions}
 use Rattle.regress_tables.specs.Table.{evaluated, row_bits}
 use Rattle.regress_tables.proofs.FillLemmas.{SameShape-trans}
-use Rattle.regress_tables.proofs.KeptLemmas.{kept-same}
+use Rattle.regress_tables.proofs.KeptLemmas.{kept-same, repetitions-trans}
 use Rattle.regress_tables.proofs.MemoLemmas.{known-same, known-flat, known-hit, known-miss}
 use Rattle.regress_tables.proofs.RowLemmas.{all-numbered, length-row, one-row, row-most, row-stored}
 use Rattle.regress_tables.proofs.fill.fill_shared.Goals as goal
@@ -101,6 +102,8 @@ returns-clause-known c =
     known-miss c.args.input.now r t memo c.args.position c.requires.can c.requires.position c.requires.at c.requires.known c.requires.numbered c.key_at-key.result c.key_at-key.ensures.key
     c.fill_both.new.table c.share.new.self c.add.new.self n both.grows.0 both.grows.1 both.filled shared.shape shared.rows shared.bits shared.distinct shared.evaluated
     (c.add.ensures.far ∙ found.far ∙ same.far) (c.add.ensures.bytes ∙ found.bytes ∙ same.bytes) (c.add.ensures.tests ∙ found.tests ∙ same.tests)
+    (subst (SameRepetitions memo.repetitions) (sym c.add.ensures.repetitions)
+    (repetitions-trans memo.repetitions c.key_at-key.new.memo.repetitions c.first_equal-number.new.memo.repetitions same.repetitions found.repetitions))
     (λ k m is. elim (c.add.ensures.kept k m is) [
       | inl old ↦ inl (kept-same memo c.key_at-key.new.memo same (Some k) m (kept-same c.key_at-key.new.memo c.first_equal-number.new.memo found (Some k) m old))
       | inr new ↦ inr new

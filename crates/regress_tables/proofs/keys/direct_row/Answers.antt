@@ -8,7 +8,8 @@ use Rattle.regress_program.specs.Program.{matcher_of, outcomes_by}
 use Rattle.regress_program.specs.Views.{routine_in}
 use Rattle.regress_code.specs.Code.{code_routines}
 use Rattle.regress_code.specs.NextBytes.{Bounds}
-use Rattle.regress_tables.specs.Memo.{Represents, direct_index}
+use Rattle.regress_tables.specs.Memo.{direct_index}
+use Rattle.regress_tables.specs.Rows.{Represents}
 use Rattle.regress_tables.specs.declared.memo.Key.{Key}
 use Rattle.regress_tables.specs.Numbers.{numbers_of}
 use Rattle.regress_tables.specs.Symbols.{AreAlike, AreAlikeIn}

@@ -1,9 +1,10 @@
 -- The code has a digit for each of the last instructions.
-use Rattle.std.proofs.Common.{ℕ, ◌≤◌, drop, length}
+use Rattle.std.proofs.Common.{◌≡◌, ℕ, ◌≤◌, drop, length}
 use Rattle.regress_leaves.specs.Subject.{subject}
 use Rattle.regress_program.specs.Program.{Out, matcher_of}
 use Rattle.regress_program.specs.Views.{routine_in}
 use Rattle.regress_code.specs.Code.{code_routines}
+use Rattle.regress_tables.specs.Memo.{SameRows}
 use Rattle.regress_tables.specs.Probes.{Coded}
 use Rattle.regress_tables.specs.Runs.{AreRuns}
 use Rattle.regress_tables.specs.Table.{AreRight, IsRight}
@@ -11,10 +12,12 @@ use Rattle.regress_tables.proofs.keys.probes_at.Given as goal
 
 abbrev pub invariant-loop-k : goal.invariant-loop-k
 invariant-loop-k l = record {
-  runs : AreRuns (subject l.input.rules l.input.text.now) l.input.code.now.program.leaves.items l.runs;
-  within : l.k ≤ length l.far;
+  runs : AreRuns (subject l.input.rules l.input.text.now) l.input.code.now.program.leaves.items l.memo.runs;
+  same : SameRows l.fn.memo l.memo;
+  repetitions : l.memo.repetitions ≡ l.initial.memo.repetitions;
+  within : l.k ≤ length l.fn.memo.far.items;
   coded : (outs : ℕ → Out) → AreRight outs l.input.tables.now → IsRight (outs (length l.input.tables.now)) l.table →
       (let u = subject l.input.rules l.input.text.now in
       Coded u.setting u.bytes u.direction (matcher_of u.setting u.bytes (code_routines l.input.code.now) outs) (outs (length l.input.tables.now))
-      (routine_in l.input.code.now.program.leaves.items l.routine).ops (drop l.k l.far) l.position l.code);
+      (routine_in l.input.code.now.program.leaves.items l.routine).ops (drop l.k l.fn.memo.far.items) l.position l.code);
 }

@@ -1,0 +1,69 @@
+use Rattle.std.proofs.Common.{◌≡◌, ◌<◌, Some, length, slice_get, slice_index_or, sym, ap, ◌∙◌, subst, arith}
+use Rattle.std.proofs.lemmas.List.{get_or_read, length-map}
+use Rattle.std.proofs.lemmas.Option.{same_Some, slice_get-get_or, slice_get_within}
+use Rattle.regress_leaves.specs.Subject.{subject}
+use Rattle.regress_program.specs.Listed.{listed}
+use Rattle.regress_program.specs.Program.{matcher_of}
+use Rattle.regress_program.specs.Views.{op_in, ops_in, routine_in}
+use Rattle.regress_code.specs.Code.{code_routines}
+use Rattle.regress_tables.specs.Probes.{IsProbe}
+use Rattle.regress_tables.proofs.FirstLemmas.{op-here}
+use Rattle.regress_tables.proofs.MemoLemmas.{can-probe}
+use Rattle.regress_tables.proofs.RepetitionLemmas.{repeated-probe, row-small}
+use Rattle.regress_tables.proofs.keys.far_probe.Goals as goal
+
+pub probe-requires-clause-repetition : goal.probe-requires-clause-repetition
+probe-requires-clause-repetition c =
+    let far = c.args.memo.now.far.items in
+    let used = c.requires.repetitions.uses c.args.k _ c.in-Some.repeated (slice_get-get_or far c.args.k 0 c.requires.k) c.in-Some.ensures in
+    slice_get_within c.args.memo.now.repetitions.distinct.items c.in-Some.repeated.repetition used.repetition used.at
+
+pub probe-requires-clause-next : goal.probe-requires-clause-next
+probe-requires-clause-next c =
+    let far = c.args.memo.now.far.items in
+    let used = c.requires.repetitions.uses c.args.k _ c.in-Some.repeated (slice_get-get_or far c.args.k 0 c.requires.k) c.in-Some.ensures in
+    omega (arith, used.next, c.requires.can.of.width)
+
+pub probe-requires-clause-row : goal.probe-requires-clause-row
+probe-requires-clause-row c =
+    let far = c.args.memo.now.far.items in
+    let used = c.requires.repetitions.uses c.args.k _ c.in-Some.repeated (slice_get-get_or far c.args.k 0 c.requires.k) c.in-Some.ensures in
+    let end = c.requires.ends c.in-Some.repeated.repetition used.repetition used.at in
+    row-small c.args.table.now c.args.position _ end.to end.ends
+
+pub returns-in-Some-clause-probe : goal.returns-in-Some-clause-probe
+returns-in-Some-clause-probe c = λ outs tables right op is_op.
+    let input = c.args.input.now in
+    let u = subject input.rules input.text.now in
+    let memo = c.args.memo.now in
+    let body_of = matcher_of u.setting u.bytes (code_routines input.code.now) outs in
+    let out = outs (length input.tables.now) in
+    let far = memo.far.items in
+    subst (λ p. IsProbe u.setting u.bytes u.direction body_of out op c.args.position p) (sym c.probe.ensures)
+    (repeated-probe u body_of out c.args.table.now right input.code.now.program.leaves.items
+    (routine_in input.code.now.program.leaves.items c.args.routine.now).ops far memo.repetitions c.args.k (slice_index_or far c.args.k 0) c.args.position
+    c.in-Some.repeated op c.requires.can.of.width c.requires.repetitions c.requires.ends (slice_get-get_or far c.args.k 0 c.requires.k) c.in-Some.ensures is_op)
+
+pub probe_at-requires-clause-can : goal.probe_at-requires-clause-can
+probe_at-requires-clause-can c =
+    let leaves = c.args.input.now.code.now.program.leaves.items in
+    let items = listed c.args.routine.now in
+    let r = routine_in leaves c.args.routine.now in
+    let pc = c.index-pc.result.now in
+    can-probe c.args.input.now r c.args.table.now pc c.args.position (op_in leaves c.at.result) c.requires.can c.requires.position c.requires.at
+    (omega (arith, length-map items (op_in leaves), c.if-pc-len.false, c.len.ensures)) c.requires.no_reference
+    (op-here leaves items pc c.at.result c.at.ensures)
+
+pub returns-clause-probe : goal.returns-clause-probe
+returns-clause-probe c = λ outs tables right op is_op.
+    let input = c.args.input.now in
+    let u = subject input.rules input.text.now in
+    let leaves = input.code.now.program.leaves.items in
+    let items = listed c.args.routine.now in
+    let far = c.args.memo.now.far.items in
+    let pc = c.index-pc.result.now in
+    let pc_is : pc ≡ slice_index_or far c.args.k 0 = get_or_read far c.args.k pc c.requires.k c.index-pc.ensures 0 in
+    let here = op-here leaves items pc c.at.result c.at.ensures in
+    let same : op_in leaves c.at.result ≡ op = same_Some _ op (sym here ∙ ap (slice_get (ops_in leaves items)) pc_is ∙ is_op) in
+    subst (λ o. IsProbe u.setting u.bytes u.direction (matcher_of u.setting u.bytes (code_routines input.code.now) outs) (outs (length input.tables.now)) o c.args.position c.probe_at.result) same
+    (c.probe_at.ensures.probe outs tables right)

@@ -1,0 +1,15 @@
+-- The instructions so far match the repetitions so far.
+use Rattle.std.proofs.Common.{◌≡◌, ℕ, ◌<◌, Some, length, slice_get}
+use Rattle.regress_program.specs.Listed.{listed}
+use Rattle.regress_program.specs.Views.{ops_in}
+use Rattle.regress_tables.specs.Repetitions.{IsRepeated, RepeatOne}
+use Rattle.regress_tables.specs.declared.repetitions.Repeated.{Repeated}
+use Rattle.regress_tables.proofs.repetitions.Repetitions.new.Given as goal
+
+abbrev pub invariant-loop-k : goal.invariant-loop-k
+invariant-loop-k l = record {
+  count : length l.uses.items ≡ l.k;
+  one : RepeatOne l.input.code.now.program.leaves.items l.distinct.items;
+  uses : (k pc : ℕ) (repeated : Repeated) → slice_get l.far k ≡ Some pc → slice_get l.uses.items k ≡ Some (Some repeated) →
+      IsRepeated l.input.code.now.program.leaves.items (ops_in l.input.code.now.program.leaves.items (listed l.routine)) l.distinct.items pc repeated;
+}

@@ -1,0 +1,108 @@
+//! Which instructions of a routine match repetitions.
+ghost use Rattle.std.specs.Prelude.{◌≡◌, ◌⊎◌, ℕ, IfOk, IfSome, Some, slice_get, true};
+ghost use Rattle.regress_prefilter.specs.OneCharacter.{takes_one};
+ghost use Rattle.regress_program.specs.Listed.{listed};
+ghost use Rattle.regress_program.specs.Views.{leaf_in, ops_in};
+ghost use Rattle.regress_tables.specs.Repetitions.{AreRepetitions, IsRepeated, RepeatOne};
+
+use crate::evaluate::Input;
+use crate::repetitions::{Repeated, Repetition, Repetitions};
+use regress_leaves::leaves::takes_one;
+use regress_program::instruction::{Instruction, Routine};
+use std::alloc::{AllocError, Global};
+
+/// The largest number of different repetitions of a routine.
+const DISTINCT: usize = 32;
+
+impl Repetitions {
+    /// Returns the repetitions of these instructions of a routine.
+    ///
+    /// # Errors
+    /// Returns [`AllocError`] if an allocation fails.
+    pub(crate) fn new(
+        alloc: Global,
+        input: Input<'_, '_>,
+        routine: &Routine,
+        far: &[usize],
+    ) -> Result<Repetitions, AllocError>
+        ensures { IfOk result (AreRepetitions input.entry.code.now.program.leaves.items
+            (ops_in input.entry.code.now.program.leaves.items (listed routine.now)) far.now) }
+    {
+        let mut distinct = Vec::new(alloc);
+        let mut uses = Vec::with_capacity(alloc, far.len())?;
+        for k in 0..far.len() {
+            uses.push(repeated_at(&mut distinct, input, routine, far[k])?)?;
+        }
+        let ends = vec![in alloc; 0; distinct.len()]?;
+        Ok(Repetitions {
+            distinct,
+            uses,
+            ends,
+        })
+    }
+}
+
+/// Returns which repetition an instruction matches, if any. It is added if it is not there yet.
+///
+/// # Errors
+/// Returns [`AllocError`] if an allocation fails.
+fn repeated_at(
+    distinct: &mut Vec<Repetition>,
+    input: Input<'_, '_>,
+    routine: &Routine,
+    pc: usize,
+) -> Result<Option<Repeated>, AllocError>
+    ensures kept { (k : ℕ) (r : Repetition) → slice_get distinct.old.items k ≡ Some r → slice_get distinct.new.items k ≡ Some r }
+    ensures one { RepeatOne input.entry.code.now.program.leaves.items distinct.old.items → RepeatOne input.entry.code.now.program.leaves.items distinct.new.items }
+    ensures repeated { IfOk result (λ repeated. IfSome repeated (IsRepeated input.entry.code.now.program.leaves.items
+        (ops_in input.entry.code.now.program.leaves.items (listed routine.now)) distinct.new.items pc)) }
+{
+    if pc >= routine.len() {
+        return Ok(None);
+    }
+    let Instruction::Characters { leaf, count, next } = routine.at(pc) else {
+        return Ok(None);
+    };
+    if next >= routine.len() || !is_one(input, leaf) {
+        return Ok(None);
+    }
+    let Some(repetition) = index_in(distinct, Repetition { leaf, count })? else {
+        return Ok(None);
+    };
+    Ok(Some(Repeated { repetition, next }))
+}
+
+/// Returns the index of a repetition. It is added if it is not there yet. The result is `None` if there are too many.
+///
+/// # Errors
+/// Returns [`AllocError`] if an allocation fails.
+fn index_in(
+    distinct: &mut Vec<Repetition>,
+    repetition: Repetition,
+) -> Result<Option<usize>, AllocError>
+    ensures kept { (k : ℕ) (r : Repetition) → slice_get distinct.old.items k ≡ Some r → slice_get distinct.new.items k ≡ Some r }
+    ensures only { (k : ℕ) (r : Repetition) → slice_get distinct.new.items k ≡ Some r → slice_get distinct.old.items k ≡ Some r ⊎ (r ≡ repetition) }
+    ensures at { IfOk result (λ index. IfSome index (λ k. slice_get distinct.new.items k ≡ Some repetition)) }
+{
+    for k in 0..distinct.len() {
+        let other = distinct[k];
+        if other.leaf == repetition.leaf && other.count == repetition.count {
+            return Ok(Some(k));
+        }
+    }
+    if distinct.len() >= DISTINCT {
+        return Ok(None);
+    }
+    distinct.push(repetition)?;
+    Ok(Some(distinct.len() - 1))
+}
+
+/// Returns whether a leaf matches one character.
+fn is_one(input: Input<'_, '_>, leaf: usize) -> bool
+    ensures { result ≡ true → takes_one (leaf_in input.entry.code.now.program.leaves.items leaf) ≡ true }
+{
+    match input.test(leaf) {
+        Some(test) => takes_one(&test.node),
+        None => false,
+    }
+}

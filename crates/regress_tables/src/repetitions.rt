@@ -1,0 +1,45 @@
+//! Repetitions of characters: what instructions match that match an exact number of characters.
+ghost use Rattle.std.specs.Prelude.{◌≡◌, IfSome, Some, slice_get, vec_len};
+
+/// An exact number of characters that each match a leaf.
+#[derive(Clone, Copy)]
+pub struct Repetition {
+    /// The index of the leaf.
+    pub leaf: usize,
+    /// The number of characters.
+    pub count: usize,
+}
+
+/// An instruction that matches a repetition.
+#[derive(Clone, Copy)]
+pub struct Repeated {
+    /// The index of the repetition.
+    pub repetition: usize,
+    /// The instruction after it.
+    pub next: usize,
+}
+
+/// The repetitions of a routine. Several instructions may match the same.
+#[derive(Drop)]
+pub struct Repetitions {
+    /// Each repetition once.
+    pub(crate) distinct: Vec<Repetition>,
+    /// For instructions that look at the text, which repetition they match, if any.
+    pub(crate) uses: Vec<Option<Repeated>>,
+    /// For each repetition where it ends, from the last position: 1 more than the number of the row there, or 0 if it fails.
+    pub(crate) ends: Vec<usize>,
+    ghost long: { vec_len ends ≡ vec_len distinct },
+}
+
+impl Repetitions {
+    /// Returns which repetition an instruction matches, of those that look at the text the one with this index.
+    pub(crate) fn use_of(&self, k: usize) -> Option<Repeated>
+        ensures { IfSome result (λ repeated. slice_get self.now.uses.items k ≡ Some (Some repeated)) }
+    {
+        if k < self.uses.len() {
+            self.uses[k]
+        } else {
+            None
+        }
+    }
+}
