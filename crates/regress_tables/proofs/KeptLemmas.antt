@@ -1,5 +1,5 @@
 -- The rows that a memo keeps.
-use Rattle.std.proofs.Common.{zero, suc, ◌≡◌, ℕ, ◌+◌, ◌⊎◌, List, slice_get, replicate, Option, Some, None, refl, sym, ap, ◌∙◌, subst, inl, inr, arith}
+use Rattle.std.proofs.Common.{zero, suc, ◌≡◌, ℕ, ◌+◌, ◌⊎◌, List, length, slice_get, replicate, Option, Some, None, refl, sym, ap, ◌∙◌, subst, inl, inr, arith}
 use Rattle.std.proofs.lemmas.Option.{none-some, same_Some}
 use Rattle.regress_tables.specs.declared.memo.Entry.{Entry}
 use Rattle.regress_tables.specs.declared.memo.Key.{Key}
@@ -44,6 +44,7 @@ repetitions-trans a b c ab bc = record { distinct = bc.distinct ∙ ab.distinct;
 pub repetitions-same : (leaves : List Test) (ops : List Op) (far far' : List ℕ) (r r' : Repetitions) → far' ≡ far → SameRepetitions r r' →
     AreRepetitions leaves ops far r → AreRepetitions leaves ops far' r'
 repetitions-same leaves ops far far' r r' far_is same are = record {
+  count = ap length same.uses ∙ are.count ∙ sym (ap length far_is);
   one = λ k x is. are.one k x (ap (λ xs. slice_get xs k) (sym same.distinct) ∙ is);
   uses = λ k pc repeated is used.
       subst (λ xs. IsRepeated leaves ops xs pc repeated) (sym same.distinct)

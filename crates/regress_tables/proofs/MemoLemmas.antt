@@ -166,7 +166,7 @@ module _ (t t' : Table) (extra : List Bool) (bits : bits_of t'.bits ≡ bits_of 
   more : length (bits_of t'.bits) ≡ length (bits_of t.bits) + length extra
   more = ap length bits ∙ length-append (bits_of t.bits) extra
 
-  row_bit-more : (number pc : ℕ) (moved : Bool) → (number + 1) * (2 * t.width) ≤ length (bits_of t.bits) → pc < t.width → row_bit t' number pc moved ≡ row_bit t number pc moved
+  pub row_bit-more : (number pc : ℕ) (moved : Bool) → (number + 1) * (2 * t.width) ≤ length (bits_of t.bits) → pc < t.width → row_bit t' number pc moved ≡ row_bit t number pc moved
   row_bit-more number pc moved stored lt =
       ap₂ (λ xs w. get_or xs (number * (2 * w) + column w moved pc) false) bits same.width
       ∙ get_or-append (bits_of t.bits) extra false _ (omega (arith, stored, column-less t.width pc moved lt))
@@ -353,6 +353,18 @@ coded-more setting bytes d body_of out ops far x k code p some within is coded =
     (sym (drop_more far (k - 1) 0 (omega (arith, some, within)) ∙ ap (λ j. get_or far (k - 1) 0 ∷ drop j far) (let h : (k - 1) + 1 ≡ k = omega (arith, some) in h)))
     (code, p, refl, is, coded)
 
+-- The bits of a table that stores a row which was added, or does not.
+pub shared-bits : (t t' u : Table) (x : ℕ) (extra : List Bool) → index t 0 false x ≡ length (evaluated t) →
+    length t.rows.items ≡ row_of (direction_if t.backwards) t.length x → Grows t t' extra → bits_of u.bits ≡ take (u.distinct * (2 * t'.width)) (bits_of t'.bits) →
+    t'.distinct ≤ u.distinct → bits_of u.bits ≡ bits_of t.bits ++ take (u.distinct * (2 * t'.width) - length (bits_of t.bits)) extra
+shared-bits t t' u x extra at numbered grows bits le =
+    let m = u.distinct * (2 * t'.width) in
+    let whole : t'.distinct * (2 * t'.width) ≡ length (bits_of t.bits) =
+    ap₂ (λ d w. d * (2 * w)) grows.distinct grows.shape.width ∙ sym (all-numbered t x at numbered) in
+    let k = m - length (bits_of t.bits) in
+    let sum : m ≡ length (bits_of t.bits) + k = omega (arith, whole, mul-le-mul_right (2 * t'.width) le) in
+    bits ∙ ap₂ take sum grows.bits ∙ take-append-add (bits_of t.bits) extra k
+
 -- ---- one more row
 
 module _ (input : Input) (r : Routine) (t : Table) (memo : Memo) (x : ℕ) (can : CanFill input r t) (within : x ≤ t.length)
@@ -403,13 +415,8 @@ module _ (input : Input) (r : Routine) (t : Table) (memo : Memo) (x : ℕ) (can 
         IsKnown input r u memo'
     known-miss t' u memo' n extra grows filled shared rows bits le same far_is bytes_is tests_is repeat_is kept_is =
         let shape : SameShape t u = SameShape-trans t t' u grows.shape shared in
-        let m = u.distinct * (2 * t'.width) in
-        let whole : t'.distinct * (2 * t'.width) ≡ length (bits_of t.bits) =
-        ap₂ (λ d w. d * (2 * w)) grows.distinct grows.shape.width ∙ sym (all-numbered t x at numbered) in
-        let k = m - length (bits_of t.bits) in
-        let sum : m ≡ length (bits_of t.bits) + k = omega (arith, whole, mul-le-mul_right (2 * t'.width) le) in
-        let bits' : bits_of u.bits ≡ bits_of t.bits ++ take k extra =
-        bits ∙ ap₂ take sum grows.bits ∙ take-append-add (bits_of t.bits) extra k in
+        let k = u.distinct * (2 * t'.width) - length (bits_of t.bits) in
+        let bits' = shared-bits t t' u x extra at numbered grows bits le in
         let rows' : numbers_of u.rows ≡ numbers_of t.rows ++ n ∷ [] = rows ∙ ap (λ xs. xs ++ n ∷ []) grows.rows in
         known-next t u (take k extra) bits' shape input r memo memo' x known far_is bytes_is tests_is repeat_is
         (λ outs solution right knows.

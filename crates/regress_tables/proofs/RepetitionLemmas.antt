@@ -1,6 +1,7 @@
 -- What instructions lead to that match an exact number of characters.
-use Rattle.std.proofs.Common.{◌≡◌, ℕ, ◌+◌, ◌-◌, ◌≤◌, ◌<◌, true, List, length, slice_get, slice_index_or, Option, Some, None, refl, sym, ap, ◌∙◌, subst, arith}
-use Rattle.std.proofs.lemmas.Option.{same_Some}
+use Rattle.std.proofs.Common.{zero, suc, ◌≡◌, ℕ, ◌+◌, ◌-◌, ◌*◌, ◌≤◌, ◌<◌, Bool, true, List, [], ◌∷◌, ◌++◌, length, drop, slice_get, slice_index_or, Option, Some, None, IfSome, refl, sym, ap, ap₂, ◌∙◌, subst, arith, length-append}
+use Rattle.std.proofs.lemmas.List.{drop_more}
+use Rattle.std.proofs.lemmas.Option.{get_or_from_slice_get, same_Some}
 use Rattle.regress_leaves.specs.Leaves.{GoesTo}
 use Rattle.regress_leaves.specs.Subject.{Subject}
 use Rattle.regress_leaves.specs.declared.test.Test.{Test}
@@ -9,15 +10,17 @@ use Rattle.regress_tree.specs.Steps.{Matcher}
 use Rattle.regress_tree.specs.Tree.{Tree}
 use Rattle.regress_program.specs.Below.{row_of}
 use Rattle.regress_program.specs.Program.{Op, Out, part}
+use Rattle.regress_tables.specs.declared.probe.Probe.{Probe}
 use Rattle.regress_tables.specs.declared.repetitions.Repeated.{Repeated}
 use Rattle.regress_tables.specs.declared.repetitions.Repetition.{Repetition}
 use Rattle.regress_tables.specs.declared.repetitions.Repetitions.{Repetitions}
 use Rattle.regress_tables.specs.declared.table.Table.{Table}
-use Rattle.regress_tables.specs.Probes.{IsProbe, Leads}
-use Rattle.regress_tables.specs.Repetitions.{AreEnds, AreRepetitions, IsRowFrom, probe_by, repetition_tree}
+use Rattle.regress_tables.specs.Bits.{bits_of}
+use Rattle.regress_tables.specs.Probes.{Coded, IsProbe, Leads, digit, jumps_if}
+use Rattle.regress_tables.specs.Repetitions.{AreEnds, AreRepetitions, AreStored, EndsIn, IsCode, IsCoded, IsRowFrom, IsStored, SameRepetitions, code_by, probe_by, repetition_tree}
 use Rattle.regress_tables.specs.Rows.{row_bit}
-use Rattle.regress_tables.specs.Table.{IsRight, number_of}
-use Rattle.regress_tables.proofs.MemoLemmas.{represented}
+use Rattle.regress_tables.specs.Table.{IsRight, SameShape, number_of}
+use Rattle.regress_tables.proofs.MemoLemmas.{represented, row_bit-more}
 use Rattle.regress_tables.proofs.ProbeLemmas.{part_fails, part_jumps}
 
 -- The number of a row is at most the length of the text.
@@ -50,3 +53,81 @@ module _ (u : Subject) (body_of : ℕ → Matcher) (out : Out) (table : Table) (
       let row = slice_index_or r.ends.items repeated.repetition 0 in
       subst (λ o. IsProbe u.setting u.bytes u.direction body_of out o x (probe_by table repeated.next row)) (same_Some _ op (sym used.matches ∙ is_op))
       (row-leads (repetition_tree leaves used.repetition) repeated.next x row end.to (omega (arith, used.next, width)) end.goes end.ends)
+
+  -- The digits are those of what the instructions lead to.
+  pub coded-by : (ops : List Op) (x : ℕ) (ends far : List ℕ) (uses : List (Option Repeated)) → length uses ≡ length far → AreStored table ends uses →
+      ((k pc : ℕ) (repeated : Repeated) (op : Op) → slice_get far k ≡ Some pc → slice_get uses k ≡ Some (Some repeated) → slice_get ops pc ≡ Some op →
+      IsProbe u.setting u.bytes u.direction body_of out op x (probe_by table repeated.next (slice_index_or ends repeated.repetition 0))) →
+      Coded u.setting u.bytes u.direction body_of out ops far x (code_by table ends uses)
+  coded-by ops x ends [] [] count stored probes = refl
+  coded-by ops x ends [] (o ∷ uses) count stored probes = absurd (omega (arith, count))
+  coded-by ops x ends (pc ∷ far) [] count stored probes = absurd (omega (arith, count))
+  coded-by ops x ends (pc ∷ far) (None ∷ uses) count stored probes = absurd stored
+  coded-by ops x ends (pc ∷ far) (Some repeated ∷ uses) count stored probes = (
+    code_by table ends uses,
+    probe_by table repeated.next (slice_index_or ends repeated.repetition 0),
+    refl,
+    λ op is. probes 0 pc repeated op refl refl is,
+    coded-by ops x ends far uses (omega (arith, count)) stored.1 (λ k pc' r op at used is. probes (suc k) pc' r op at used is),
+  )
+
+-- one more digit
+pub code-more : (t : Table) (ends : List ℕ) (uses : List (Option Repeated)) (k code : ℕ) (repeated : Repeated) (p : Probe) → 0 < k → k ≤ length uses →
+    slice_get uses (k - 1) ≡ Some (Some repeated) → IsStored t ends repeated → p ≡ probe_by t repeated.next (slice_index_or ends repeated.repetition 0) →
+    AreStored t ends (drop k uses) → code ≡ code_by t ends (drop k uses) →
+    AreStored t ends (drop (k - 1) uses) × (code * 4 + digit p ≡ code_by t ends (drop (k - 1) uses))
+code-more t ends uses k code repeated p some within at stored is all codes =
+    let next : (k - 1) + 1 ≡ k = omega (arith, some) in
+    let e : drop (k - 1) uses ≡ Some repeated ∷ drop k uses =
+    drop_more uses (k - 1) None (omega (arith, some, within))
+    ∙ ap₂ (λ o j. o ∷ drop j uses) (get_or_from_slice_get uses (k - 1) (Some repeated) None at) next in (
+      subst (AreStored t ends) (sym e) (stored, all),
+      ap₂ (λ rest q. rest * 4 + digit q) codes is ∙ ap (code_by t ends) (sym e),
+    )
+
+-- ---- more rows
+
+module _ (t t' : Table) (extra : List Bool) (bits : bits_of t'.bits ≡ bits_of t.bits ++ extra) (same : SameShape t t') where
+  probe-kept : (next row : ℕ) → next < t.width → row * (2 * t.width) ≤ length (bits_of t.bits) → probe_by t' next row ≡ probe_by t next row
+  probe-kept next zero lt stored = refl
+  probe-kept next (suc number) lt stored =
+      ap jumps_if (row_bit-more t t' extra bits same number next true
+      (subst (λ k. k * (2 * t.width) ≤ length (bits_of t.bits)) (let e : suc number ≡ number + 1 = omega arith in e) stored) lt)
+
+  code-kept : (ends : List ℕ) (uses : List (Option Repeated)) → AreStored t ends uses → code_by t' ends uses ≡ code_by t ends uses
+  code-kept ends [] stored = refl
+  code-kept ends (None ∷ uses) stored = absurd stored
+  code-kept ends (Some repeated ∷ uses) stored =
+      ap₂ (λ rest p. rest * 4 + digit p) (code-kept ends uses stored.1)
+      (probe-kept repeated.next (slice_index_or ends repeated.repetition 0) stored.0.0 stored.0.1)
+
+  stored-kept : (ends : List ℕ) (uses : List (Option Repeated)) → AreStored t ends uses → AreStored t' ends uses
+  stored-kept ends [] stored = tt
+  stored-kept ends (None ∷ uses) stored = absurd stored
+  stored-kept ends (Some repeated ∷ uses) stored = (
+    (
+      omega (arith, stored.0.0, same.width),
+      subst (λ w. slice_index_or ends repeated.repetition 0 * (2 * w) ≤ length (bits_of t'.bits)) (sym same.width)
+          (let row = slice_index_or ends repeated.repetition 0 * (2 * t.width) in omega (arith, stored.0.1, ap length bits, length-append (bits_of t.bits) extra)),
+    ),
+    stored-kept ends uses stored.1,
+  )
+
+  -- The digits stay the same while rows are added.
+  pub coded-kept : (r : Repetitions) → IsCoded t r → IsCoded t' r
+  coded-kept r coded = by r.code coded
+    where
+      by : (o : Option ℕ) → IfSome o (IsCode t r) → IfSome o (IsCode t' r)
+      by None is = tt
+      by (Some code) is = record {
+        stored = stored-kept r.ends.items r.uses.items is.stored;
+        is = is.is ∙ sym (code-kept r.ends.items r.uses.items is.stored);
+      }
+
+-- ---- the same repetitions
+
+pub ends-same : (u : Subject) (leaves : List Test) (t : Table) (x : ℕ) (r r' : Repetitions) → SameRepetitions r r' → r'.ends.items ≡ r.ends.items →
+    AreEnds u leaves t x r → AreEnds u leaves t x r'
+ends-same u leaves t x r r' same ends_is ends k rep is =
+    subst (λ xs. EndsIn u t (repetition_tree leaves rep) x (slice_index_or xs k 0)) (sym ends_is)
+    (ends k rep (ap (λ xs. slice_get xs k) (sym same.distinct) ∙ is))

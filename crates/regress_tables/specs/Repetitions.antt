@@ -1,5 +1,5 @@
 -- Instructions that match an exact number of characters.
-use Rattle.std.specs.Prelude.{◌≡◌, ◌≢◌, ℕ, zero, suc, ◌<◌, ◌≤◌, true, List, length, slice_get, slice_index_or, Option, Some, None}
+use Rattle.std.specs.Prelude.{◌≡◌, ◌≢◌, ℕ, zero, suc, ◌+◌, ◌*◌, ◌<◌, ◌≤◌, true, List, [], ◌∷◌, IfSome, length, slice_get, slice_index_or, Option, Some, None}
 use Rattle.regress_prefilter.specs.OneCharacter.{takes_one}
 use Rattle.regress_leaves.specs.Leaves.{GoesTo, exactly}
 use Rattle.regress_leaves.specs.Subject.{Subject}
@@ -9,7 +9,8 @@ use Rattle.regress_tree.specs.Tree.{Tree}
 use Rattle.regress_program.specs.Below.{row_of}
 use Rattle.regress_program.specs.Program.{Op, part}
 use Rattle.regress_program.specs.Views.{leaf_in}
-use Rattle.regress_tables.specs.Probes.{jumps_if}
+use Rattle.regress_tables.specs.Bits.{bits_of}
+use Rattle.regress_tables.specs.Probes.{digit, jumps_if}
 use Rattle.regress_tables.specs.Rows.{row_bit}
 use Rattle.regress_tables.specs.Table.{number_of}
 use Rattle.regress_tables.specs.declared.probe.Probe.{Probe}
@@ -37,6 +38,7 @@ pub record IsRepeated (leaves : List Test) (ops : List Op) (distinct : List Repe
 -- These are repetitions of instructions that look at the text.
 pub record AreRepetitions (leaves : List Test) (ops : List Op) (far : List ℕ) (r : Repetitions) : Type 0 where
   pub one : RepeatOne leaves r.distinct.items
+  pub count : length r.uses.items ≡ length far
   pub uses : (k pc : ℕ) (repeated : Repeated) → slice_get far k ≡ Some pc → slice_get r.uses.items k ≡ Some (Some repeated) →
       IsRepeated leaves ops r.distinct.items pc repeated
 
@@ -66,3 +68,28 @@ AreEnds u leaves table position r = (k : ℕ) (x : Repetition) → slice_get r.d
 abbrev pub probe_by : Table → (next row : ℕ) → Probe
 probe_by t next zero = probes.Fails
 probe_by t next (suc number) = jumps_if (row_bit t number next true)
+
+-- The row where an instruction ends is stored.
+abbrev pub IsStored : Table → (ends : List ℕ) → Repeated → Type 0
+IsStored t ends repeated = (repeated.next < t.width) × (slice_index_or ends repeated.repetition 0 * (2 * t.width) ≤ length (bits_of t.bits))
+
+-- All instructions match repetitions, and so it is with each.
+abbrev pub AreStored : Table → (ends : List ℕ) → List (Option Repeated) → Type 0
+AreStored t ends [] = Unit {0}
+AreStored t ends (None ∷ uses) = ⊥
+AreStored t ends (Some repeated ∷ uses) = IsStored t ends repeated × AreStored t ends uses
+
+-- the digits of what instructions lead to that end in these rows
+abbrev pub code_by : Table → (ends : List ℕ) → List (Option Repeated) → ℕ
+code_by t ends [] = 0
+code_by t ends (None ∷ uses) = code_by t ends uses * 4
+code_by t ends (Some repeated ∷ uses) = code_by t ends uses * 4 + digit (probe_by t repeated.next (slice_index_or ends repeated.repetition 0))
+
+-- These are the digits of all instructions that look at the text.
+pub record IsCode (t : Table) (r : Repetitions) (code : ℕ) : Type 0 where
+  pub stored : AreStored t r.ends.items r.uses.items
+  pub is : code ≡ code_by t r.ends.items r.uses.items
+
+-- So it is with those that are kept.
+abbrev pub IsCoded : Table → Repetitions → Type 0
+IsCoded t r = IfSome r.code (IsCode t r)

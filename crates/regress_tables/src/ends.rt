@@ -1,16 +1,17 @@
 //! Where repetitions end.
-ghost use Rattle.std.specs.Prelude.{◌≡◌, ◌<◌, ◌≤◌, ◌+◌, IfSome, length, slice_index_or, true};
+ghost use Rattle.std.specs.Prelude.{◌≡◌, ◌≢◌, ℕ, ◌<◌, ◌≤◌, ◌+◌, IfSome, None, Some, length, slice_index_or, true};
 ghost use Rattle.regress_leaves.specs.Subject.{subject};
 ghost use Rattle.regress_prefilter.specs.OneCharacter.{takes_one};
 ghost use Rattle.regress_program.specs.Views.{leaf_in};
-ghost use Rattle.regress_tables.specs.Repetitions.{AreEnds, EndsIn, IsRowFrom, RepeatOne, SameRepetitions, probe_by, repetition_tree};
+ghost use Rattle.regress_tables.specs.Repetitions.{AreEnds, EndsIn, IsCode, IsCoded, IsRowFrom, IsStored, RepeatOne, SameRepetitions, probe_by, repetition_tree};
 ghost use Rattle.regress_tables.specs.Rows.{row_bit};
 ghost use Rattle.regress_tables.specs.Runs.{AreRuns};
+ghost use Rattle.regress_tables.specs.declared.table.Table.{Table};
 
 use crate::cells::row_of;
 use crate::characters::characters_end;
 use crate::evaluate::Input;
-use crate::probe::Probe;
+use crate::probe::{Probe, with_digit};
 use crate::repetitions::{Repeated, Repetition, Repetitions};
 use crate::runs::Runs;
 use crate::table::Table;
@@ -29,32 +30,82 @@ impl Repetitions {
         requires runs { AreRuns (subject input.rules input.text.now) input.code.now.program.leaves.items runs.old }
         ensures runs { AreRuns (subject input.entry.rules input.entry.text.now) input.entry.code.now.program.leaves.items runs.new }
         ensures same { SameRepetitions self.old self.new }
+        ensures digits { (t : Table) → IsCoded t self.old → IsCoded t self.new }
         ensures ends { result ≡ true → AreEnds (subject input.entry.rules input.entry.text.now) input.entry.code.now.program.leaves.items table.now position self.new }
     {
         for k in 0..self.distinct.len() {
             let Some(row) = end_of(input, table, runs, self.distinct[k], position) else {
                 return false;
             };
-            self.ends[k] = row;
+            self.set_end(k, row);
         }
         true
     }
 
-    /// Returns what an instruction leads to that matches a repetition, from the last position.
-    pub(crate) fn probe(&self, table: &Table, repeated: Repeated) -> Probe
-        requires repetition { repeated.repetition < length self.now.distinct.items }
-        requires next { repeated.next < table.now.width }
-        requires row { slice_index_or self.now.ends.items repeated.repetition 0 ≤ table.now.length + 1 }
-        ensures { result ≡ probe_by table.now repeated.next (slice_index_or self.now.ends.items repeated.repetition 0) }
+    /// Stores where a repetition ends. If it ended elsewhere before, the digits are no longer known.
+    fn set_end(&mut self, k: usize, row: usize)
+        requires { k < length self.old.distinct.items }
+        ensures same { SameRepetitions self.old self.new }
+        ensures digits { (t : Table) → IsCoded t self.old → IsCoded t self.new }
+        ensures at { slice_index_or self.new.ends.items k 0 ≡ row }
+        ensures others { (j : ℕ) → j ≢ k → slice_index_or self.new.ends.items j 0 ≡ slice_index_or self.old.ends.items j 0 }
     {
+        if self.ends[k] == row {
+            return;
+        }
+        self.ends[k] = row;
+        self.code = None;
+    }
+
+    /// Returns the digits of what the instructions lead to that look at the text, from the last position. It is `None` if some
+    /// match no repetition, or if there are too many.
+    pub(crate) fn code(&mut self, table: &Table) -> Option<u64>
+        requires digits { IsCoded table.now self.old }
+        ensures same { SameRepetitions self.old self.new }
+        ensures ends { self.new.ends.items ≡ self.old.ends.items }
+        ensures digits { IsCoded table.now self.new }
+        ensures code { IfSome result (IsCode table.now self.new) }
+    {
+        if self.code.is_none() {
+            self.code = self.code_by(table);
+        }
+        self.code
+    }
+
+    /// Returns these digits by the rows where the repetitions end.
+    fn code_by(&self, table: &Table) -> Option<u64>
+        ensures { IfSome result (IsCode table.now self.now) }
+    {
+        let mut code: u64 = 0;
+        for k in (0..self.uses.len()).rev() {
+            let repeated = self.uses[k]?;
+            let probe = self.probe(table, repeated)?;
+            let next = with_digit(code, probe)?;
+            code = next;
+        }
+        Some(code)
+    }
+
+    /// Returns what an instruction leads to that matches a repetition, from the last position. It is `None` if that row is not
+    /// stored.
+    pub(crate) fn probe(&self, table: &Table, repeated: Repeated) -> Option<Probe>
+        ensures probe { IfSome result (λ probe. probe ≡ probe_by table.now repeated.next (slice_index_or self.now.ends.items repeated.repetition 0)) }
+        ensures stored { IfSome result (λ _. IsStored table.now self.now.ends.items repeated) }
+    {
+        if repeated.repetition >= self.ends.len() || repeated.next >= table.width {
+            return None;
+        }
         let row = self.ends[repeated.repetition];
         if row == 0 {
-            return Probe::Fails;
+            return Some(Probe::Fails);
+        }
+        if row > table.distinct {
+            return None;
         }
         if row_bit(table, row - 1, repeated.next) {
-            Probe::Jumps
+            Some(Probe::Jumps)
         } else {
-            Probe::Fails
+            Some(Probe::Fails)
         }
     }
 }

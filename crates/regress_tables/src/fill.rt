@@ -12,6 +12,7 @@ ghost use Rattle.regress_tables.specs.Evaluated.{CanFill, IsFilled};
 ghost use Rattle.regress_tables.specs.Memo.{IsKnown, SameRows};
 ghost use Rattle.regress_tables.specs.Memory.{stored_in};
 ghost use Rattle.regress_tables.specs.Numbers.{numbers_of};
+ghost use Rattle.regress_tables.specs.Repetitions.{IsCoded};
 ghost use Rattle.regress_tables.specs.Runs.{AreRuns};
 ghost use Rattle.regress_tables.specs.Table.{AreTables, Grows, IsFull, IsTableOf, SameShape, evaluated, index, row_bits};
 
@@ -85,10 +86,12 @@ fn fill_row(
     requires position { position ≤ table.old.length }
     requires at { index table.old 0 false position ≡ length (evaluated table.old) }
     requires known { IsKnown input.now (routine_in input.now.code.now.program.leaves.items routine.now) table.old memo.old }
+    requires digits { IsCoded table.old memo.old.repetitions }
     requires runs { AreRuns (subject input.now.rules input.now.text.now) input.now.code.now.program.leaves.items memo.old.runs }
     ensures shape { IfOk result (λ _. SameShape table.old table.new) }
     ensures more { IfOk result (λ _. length (evaluated table.new) ≡ length (evaluated table.old) + 2 * table.old.width) }
     ensures known { IfOk result (λ _. IsKnown input.now (routine_in input.now.code.now.program.leaves.items routine.now) table.new memo.new) }
+    ensures digits { IfOk result (λ _. IsCoded table.new memo.new.repetitions) }
     ensures runs { AreRuns (subject input.now.rules input.now.text.now) input.now.code.now.program.leaves.items memo.new.runs }
 {
     if table.rows.len() == row_of(table.backwards, table.length, position) {
@@ -120,10 +123,12 @@ fn fill_shared(
     requires at { index table.old 0 false position ≡ length (evaluated table.old) }
     requires numbered { length (numbers_of table.old.rows) ≡ row_of (direction_if table.old.backwards) table.old.length position }
     requires known { IsKnown input.now (routine_in input.now.code.now.program.leaves.items routine.now) table.old memo.old }
+    requires digits { IsCoded table.old memo.old.repetitions }
     requires runs { AreRuns (subject input.now.rules input.now.text.now) input.now.code.now.program.leaves.items memo.old.runs }
     ensures shape { IfOk result (λ _. SameShape table.old table.new) }
     ensures more { IfOk result (λ _. length (evaluated table.new) ≡ length (evaluated table.old) + 2 * table.old.width) }
     ensures known { IfOk result (λ _. IsKnown input.now (routine_in input.now.code.now.program.leaves.items routine.now) table.new memo.new) }
+    ensures digits { IfOk result (λ _. IsCoded table.new memo.new.repetitions) }
     ensures runs { AreRuns (subject input.now.rules input.now.text.now) input.now.code.now.program.leaves.items memo.new.runs }
 {
     let key = key_at(input, routine, table, memo, position);
@@ -146,6 +151,7 @@ fn first_equal(table: &Table, memo: &mut Memo<'_>) -> usize
     requires one { length (bits_of table.now.bits) ≡ (table.now.distinct + 1) * (2 * table.now.width) }
     requires inside { table.now.distinct ≤ table.now.length }
     ensures rows { SameRows memo.old memo.new }
+    ensures repetitions { memo.new.repetitions ≡ memo.old.repetitions }
     ensures runs { memo.new.runs ≡ memo.old.runs }
     ensures earlier { result ≤ table.now.distinct }
     ensures same { row_bits table.now result ≡ row_bits table.now table.now.distinct }

@@ -1,5 +1,5 @@
 //! What rows are computed from.
-ghost use Rattle.std.specs.Prelude.{◌≡◌, ◌≤◌, ◌<◌, ◌+◌, ◌*◌, ℕ, IfSome, Some, false, length, slice_get, slice_index_or, true};
+ghost use Rattle.std.specs.Prelude.{◌≡◌, ◌≤◌, ◌<◌, ℕ, IfSome, Some, false, length, slice_get, slice_index_or, true};
 ghost use Rattle.regress_leaves.specs.Subject.{subject};
 ghost use Rattle.regress_tree.specs.Reading.{direction_if};
 ghost use Rattle.regress_program.specs.Below.{row_of};
@@ -10,15 +10,15 @@ ghost use Rattle.regress_code.specs.Code.{code_routines};
 ghost use Rattle.regress_tables.specs.Evaluated.{CanFill};
 ghost use Rattle.regress_tables.specs.Memo.{AreFarBytes, HasKey, IsKept, SameRows};
 ghost use Rattle.regress_tables.specs.Numbers.{numbers_of};
-ghost use Rattle.regress_tables.specs.Probes.{Coded, IsProbe, digit};
-ghost use Rattle.regress_tables.specs.Repetitions.{AreEnds, AreRepetitions};
+ghost use Rattle.regress_tables.specs.Probes.{Coded, IsProbe};
+ghost use Rattle.regress_tables.specs.Repetitions.{AreEnds, AreRepetitions, IsCoded};
 ghost use Rattle.regress_tables.specs.Runs.{AreRuns};
 ghost use Rattle.regress_tables.specs.Table.{AreRight, AreTables, IsRight, evaluated, index};
 
 use crate::cells::row_of;
 use crate::evaluate::Input;
 use crate::memo::{Key, Memo};
-use crate::probe::{Probe, digit, probe_at};
+use crate::probe::{Probe, probe_at, with_digit};
 use crate::table::Table;
 use regress_leaves::ascii::next_ascii;
 use regress_leaves::reading::next_read;
@@ -40,8 +40,10 @@ pub(crate) fn key_at(
     requires tests { memo.old.symbols.tests.now ≡ input.now.code.now.program.leaves.items }
     requires repetitions { AreRepetitions input.now.code.now.program.leaves.items
         (routine_in input.now.code.now.program.leaves.items routine.now).ops memo.old.far.items memo.old.repetitions }
+    requires digits { IsCoded table.now memo.old.repetitions }
     requires runs { AreRuns (subject input.now.rules input.now.text.now) input.now.code.now.program.leaves.items memo.old.runs }
     ensures same { SameRows memo.old memo.new }
+    ensures digits { IsCoded table.now memo.new.repetitions }
     ensures runs { AreRuns (subject input.now.rules input.now.text.now) input.now.code.now.program.leaves.items memo.new.runs }
     ensures key { IfSome result (λ key. (outs : ℕ → Out) → AreRight outs input.now.tables.now →
         (let ops = (routine_in input.now.code.now.program.leaves.items routine.now).ops in
@@ -134,8 +136,10 @@ fn probes_at(
     requires at { index table.now 0 false position ≡ length (evaluated table.now) }
     requires repetitions { AreRepetitions input.now.code.now.program.leaves.items
         (routine_in input.now.code.now.program.leaves.items routine.now).ops memo.old.far.items memo.old.repetitions }
+    requires digits { IsCoded table.now memo.old.repetitions }
     requires runs { AreRuns (subject input.now.rules input.now.text.now) input.now.code.now.program.leaves.items memo.old.runs }
     ensures same { SameRows memo.old memo.new }
+    ensures digits { IsCoded table.now memo.new.repetitions }
     ensures runs { AreRuns (subject input.now.rules input.now.text.now) input.now.code.now.program.leaves.items memo.new.runs }
     ensures coded { IfSome result (λ code. (outs : ℕ → Out) → AreRight outs input.now.tables.now → IsRight (outs (length input.now.tables.now)) table.now →
         (let u = subject input.now.rules input.now.text.now in
@@ -147,6 +151,9 @@ fn probes_at(
         .find_ends(*input, table, &mut memo.runs, position)
     {
         return None;
+    }
+    if let Some(code) = memo.repetitions.code(table) {
+        return Some(code);
     }
     let mut code: u64 = 0;
     for k in (0..memo.far.len()).rev() {
@@ -185,19 +192,11 @@ fn far_probe(
         IsProbe u.setting u.bytes u.direction (matcher_of u.setting u.bytes (code_routines input.now.code.now) outs) (outs (length input.now.tables.now)) op position probe)) }
 {
     if let Some(repeated) = memo.repetitions.use_of(k) {
-        return Some(memo.repetitions.probe(table, repeated));
+        return memo.repetitions.probe(table, repeated);
     }
     let pc = memo.far[k];
     if pc >= routine.len() {
         return None;
     }
     Some(probe_at(*input, table, &mut memo.runs, routine.at(pc), position))
-}
-
-/// Returns a code with one more digit, or `None` if it does not fit.
-fn with_digit(code: u64, probe: Probe) -> Option<u64>
-    ensures { IfSome result (λ next. next ≡ code * 4 + digit probe) }
-{
-    let shifted = code.checked_mul(4)?;
-    shifted.checked_add(digit(probe))
 }

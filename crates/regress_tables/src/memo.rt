@@ -4,8 +4,9 @@ ghost use Rattle.regress_leaves.specs.Subject.{subject};
 ghost use Rattle.regress_program.specs.Listed.{listed};
 ghost use Rattle.regress_program.specs.Program.{Op};
 ghost use Rattle.regress_program.specs.Views.{op_in, ops_in};
-ghost use Rattle.regress_tables.specs.Repetitions.{AreRepetitions};
+ghost use Rattle.regress_tables.specs.Repetitions.{AreRepetitions, IsCoded};
 ghost use Rattle.regress_tables.specs.Runs.{AreRuns};
+ghost use Rattle.regress_tables.specs.declared.table.Table.{Table};
 ghost use Rattle.regress_tables.specs.Memo.{AreBytesOf, AreFarBytes, Covers, IsDirect, IsKept, IsNear, direct_index};
 
 use crate::evaluate::Input;
@@ -85,6 +86,7 @@ impl<'t> Memo<'t> {
         ensures tests { IfOk result (λ memo. memo.symbols.tests.now ≡ input.entry.code.now.program.leaves.items) }
         ensures repetitions { IfOk result (λ memo. AreRepetitions input.entry.code.now.program.leaves.items
             (ops_in input.entry.code.now.program.leaves.items (listed routine.now)) memo.far.items memo.repetitions) }
+        ensures digits { IfOk result (λ memo. (t : Table) → IsCoded t memo.repetitions) }
         ensures runs { IfOk result (λ memo. AreRuns (subject input.entry.rules input.entry.text.now) input.entry.code.now.program.leaves.items memo.runs) }
         ensures empty { IfOk result (λ memo. (key : Key) (row : ℕ) → IsKept memo (Some key) row → ⊥) }
     {

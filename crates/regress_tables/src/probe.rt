@@ -1,5 +1,5 @@
 //! What the instructions that look at the text lead to.
-ghost use Rattle.std.specs.Prelude.{◌≡◌, ℕ, ◌<◌, ◌≤◌, IfSome, length};
+ghost use Rattle.std.specs.Prelude.{◌≡◌, ℕ, ◌<◌, ◌≤◌, ◌+◌, ◌*◌, IfSome, length};
 ghost use Rattle.regress_leaves.specs.Subject.{subject};
 ghost use Rattle.regress_program.specs.Program.{Out, matcher_of};
 ghost use Rattle.regress_program.specs.Views.{op_in};
@@ -95,7 +95,7 @@ fn stays_if(holds: bool) -> Probe
 }
 
 /// Returns the number of a probe, below 4.
-pub(crate) fn digit(probe: Probe) -> u64
+fn digit(probe: Probe) -> u64
     ensures { result ≡ digit probe }
 {
     match probe {
@@ -103,4 +103,12 @@ pub(crate) fn digit(probe: Probe) -> u64
         Probe::Stays => 1,
         Probe::Jumps => 2,
     }
+}
+
+/// Returns a code with one more digit, or `None` if it does not fit.
+pub(crate) fn with_digit(code: u64, probe: Probe) -> Option<u64>
+    ensures { IfSome result (λ next. next ≡ code * 4 + digit probe) }
+{
+    let shifted = code.checked_mul(4)?;
+    shifted.checked_add(digit(probe))
 }

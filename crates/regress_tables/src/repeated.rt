@@ -3,7 +3,8 @@ ghost use Rattle.std.specs.Prelude.{◌≡◌, ◌⊎◌, ℕ, IfOk, IfSome, Som
 ghost use Rattle.regress_prefilter.specs.OneCharacter.{takes_one};
 ghost use Rattle.regress_program.specs.Listed.{listed};
 ghost use Rattle.regress_program.specs.Views.{leaf_in, ops_in};
-ghost use Rattle.regress_tables.specs.Repetitions.{AreRepetitions, IsRepeated, RepeatOne};
+ghost use Rattle.regress_tables.specs.Repetitions.{AreRepetitions, IsCoded, IsRepeated, RepeatOne};
+ghost use Rattle.regress_tables.specs.declared.table.Table.{Table};
 
 use crate::evaluate::Input;
 use crate::repetitions::{Repeated, Repetition, Repetitions};
@@ -25,8 +26,9 @@ impl Repetitions {
         routine: &Routine,
         far: &[usize],
     ) -> Result<Repetitions, AllocError>
-        ensures { IfOk result (AreRepetitions input.entry.code.now.program.leaves.items
+        ensures are { IfOk result (AreRepetitions input.entry.code.now.program.leaves.items
             (ops_in input.entry.code.now.program.leaves.items (listed routine.now)) far.now) }
+        ensures digits { IfOk result (λ r. (t : Table) → IsCoded t r) }
     {
         let mut distinct = Vec::new(alloc);
         let mut uses = Vec::with_capacity(alloc, far.len())?;
@@ -38,6 +40,7 @@ impl Repetitions {
             distinct,
             uses,
             ends,
+            code: None,
         })
     }
 }

@@ -28,6 +28,8 @@ pub struct Repetitions {
     pub(crate) uses: Vec<Option<Repeated>>,
     /// For each repetition where it ends, from the last position: 1 more than the number of the row there, or 0 if it fails.
     pub(crate) ends: Vec<usize>,
+    /// The digits of what these instructions lead to, in order, from any position from where the repetitions end so, if that is known.
+    pub(crate) code: Option<u64>,
     ghost long: { vec_len ends ≡ vec_len distinct },
 }
 

@@ -30,6 +30,7 @@ loop-row-preserved c =
       };
       backwards = same.backwards ∙ so_far.backwards;
       rows = more ∙ ap (λ w. (c.loop-row.row + 1) * (2 * w)) (sym same.width);
+      coded = c.in_ok-fill_row.ensures.digits;
       runs = c.in_ok-fill_row.ensures.runs;
       stored = λ some. c.in_ok-test_room.ensures.fits;
       known = c.in_ok-fill_row.ensures.known;
@@ -46,6 +47,7 @@ loop-row-init c = record {
   };
   backwards = c.in_ok-table.ensures.backwards;
   rows = ap length c.in_ok-table.ensures.empty ∙ omega arith;
+  coded = c.in_ok-memo.ensures.digits c.in_ok-table.table;
   runs = c.in_ok-memo.ensures.runs;
   stored = λ none. absurd (omega (arith, none));
   known = known-start _ _ c.in_ok-table.table c.in_ok-memo.memo c.in_ok-table.ensures.empty c.in_ok-memo.ensures.covers c.in_ok-memo.ensures.bytes c.in_ok-memo.ensures.tests c.in_ok-memo.ensures.repetitions c.in_ok-memo.ensures.empty;

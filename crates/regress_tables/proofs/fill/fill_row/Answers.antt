@@ -1,8 +1,11 @@
-use Rattle.std.proofs.Common.{◌+◌, ◌<◌, IfSome, Some, length, ap, ◌∙◌, subst, arith, length-append}
+use Rattle.std.proofs.Common.{◌+◌, ◌<◌, [], IfSome, Some, length, sym, ap, ◌∙◌, subst, arith, length-append}
+use Rattle.std.proofs.lemmas.List.{append-nil}
 use Rattle.regress_tree.specs.Reading.{direction_if}
 use Rattle.regress_program.specs.Views.{routine_in}
+use Rattle.regress_tables.specs.Bits.{bits_of}
 use Rattle.regress_tables.specs.Table.{evaluated, row_bits}
 use Rattle.regress_tables.proofs.MemoLemmas.{known-flat, known-hit}
+use Rattle.regress_tables.proofs.RepetitionLemmas.{coded-kept}
 use Rattle.regress_tables.proofs.RowLemmas.{all-numbered, length-row, row-most, row-stored}
 use Rattle.regress_tables.proofs.fill.fill_row.Goals as goal
 
@@ -40,3 +43,14 @@ returns-in-Some-clause-known c =
     let next = c.in_ok-repeat.ensures in
     known-hit c.args.input.now r t memo c.args.position c.requires.can c.requires.position c.requires.at c.requires.known (omega arith) (Some kept.0) kept.2
     c.repeat.new.self c.in-Some.number next.shape next.rows next.bits next.evaluated c.in-Some.ensures.number kept.1
+
+pub returns-in-Some-clause-digits : goal.returns-in-Some-clause-digits
+returns-in-Some-clause-digits c =
+    let t = c.args.table.now in
+    let next = c.in_ok-repeat.ensures in
+    coded-kept t c.repeat.new.self [] (next.bits ∙ sym (append-nil (bits_of t.bits))) next.shape c.args.memo.now.repetitions c.requires.digits
+
+pub returns-clause-digits : goal.returns-clause-digits
+returns-clause-digits c =
+    let grows = c.in_ok-fill_both.ensures.grows in
+    coded-kept c.args.table.now c.fill_both.new.table grows.0 grows.1.bits grows.1.shape c.args.memo.now.repetitions c.requires.digits

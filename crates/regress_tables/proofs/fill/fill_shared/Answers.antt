@@ -1,12 +1,15 @@
-use Rattle.std.proofs.Common.{◌+◌, ◌<◌, IfSome, Some, length, inl, inr, sym, ap, ◌∙◌, subst, arith, length-append}
+use Rattle.std.proofs.Common.{◌+◌, ◌-◌, ◌*◌, ◌<◌, [], IfSome, Some, length, take, inl, inr, sym, ap, ◌∙◌, subst, arith, length-append}
+use Rattle.std.proofs.lemmas.List.{append-nil}
 use Rattle.regress_tree.specs.Reading.{direction_if}
 use Rattle.regress_program.specs.Views.{routine_in}
+use Rattle.regress_tables.specs.Bits.{bits_of}
 use Rattle.regress_tables.specs.Memo.{IsKept}
-use Rattle.regress_tables.specs.Repetitions.{SameRepetitions}
+use Rattle.regress_tables.specs.Repetitions.{IsCoded, SameRepetitions}
 use Rattle.regress_tables.specs.Table.{evaluated, row_bits}
 use Rattle.regress_tables.proofs.FillLemmas.{SameShape-trans}
 use Rattle.regress_tables.proofs.KeptLemmas.{kept-same, repetitions-trans}
-use Rattle.regress_tables.proofs.MemoLemmas.{known-same, known-flat, known-hit, known-miss}
+use Rattle.regress_tables.proofs.MemoLemmas.{known-same, known-flat, known-hit, known-miss, shared-bits}
+use Rattle.regress_tables.proofs.RepetitionLemmas.{coded-kept}
 use Rattle.regress_tables.proofs.RowLemmas.{all-numbered, length-row, one-row, row-most, row-stored}
 use Rattle.regress_tables.proofs.fill.fill_shared.Goals as goal
 
@@ -28,6 +31,29 @@ returns-in-Some-clause-more c =
     let less = subst (λ o. IfSome o (λ row. row < t.distinct)) c.in-Some.is c.find.ensures.row in
     ap length c.in_ok-repeat.ensures.evaluated ∙ length-append (evaluated t) (row_bits t n)
     ∙ ap (λ k. length (evaluated t) + k) (length-row t n (row-stored t n less))
+
+pub returns-in-Some-clause-digits : goal.returns-in-Some-clause-digits
+returns-in-Some-clause-digits c =
+    let t = c.args.table.now in
+    let next = c.in_ok-repeat.ensures in
+    coded-kept t c.repeat.new.self [] (next.bits ∙ sym (append-nil (bits_of t.bits))) next.shape c.key_at-key.new.memo.repetitions c.key_at-key.ensures.digits
+
+pub returns-then-table-clause-digits : goal.returns-then-table-clause-digits
+returns-then-table-clause-digits c =
+    let grows = c.in_ok-fill_both.ensures.grows in
+    coded-kept c.args.table.now c.fill_both.new.table grows.0 grows.1.bits grows.1.shape c.key_at-key.new.memo.repetitions c.key_at-key.ensures.digits
+
+pub returns-clause-digits : goal.returns-clause-digits
+returns-clause-digits c =
+    let t = c.args.table.now in
+    let t' = c.fill_both.new.table in
+    let u = c.share.new.self in
+    let grows = c.in_ok-fill_both.ensures.grows in
+    let shared = c.in_ok-share.ensures in
+    subst (IsCoded u) (sym (c.add.ensures.repetitions ∙ c.first_equal-number.ensures.repetitions))
+    (coded-kept t u (take (u.distinct * (2 * t'.width) - length (bits_of t.bits)) grows.0)
+    (shared-bits t t' u c.args.position grows.0 c.requires.at c.requires.numbered grows.1 shared.bits shared.distinct)
+    (SameShape-trans t t' u grows.1.shape shared.shape) c.key_at-key.new.memo.repetitions c.key_at-key.ensures.digits)
 
 pub returns-in-Some-clause-known : goal.returns-in-Some-clause-known
 returns-in-Some-clause-known c =

@@ -1,48 +1,45 @@
-use Rattle.std.proofs.Common.{◌≡◌, ◌<◌, Some, length, slice_get, slice_index_or, sym, ap, ◌∙◌, subst, arith}
+use Rattle.std.proofs.Common.{◌≡◌, ℕ, Option, None, IfSome, Some, length, slice_get, slice_index_or, sym, ap, ◌∙◌, subst, arith}
 use Rattle.std.proofs.lemmas.List.{get_or_read, length-map}
-use Rattle.std.proofs.lemmas.Option.{same_Some, slice_get-get_or, slice_get_within}
+use Rattle.std.proofs.lemmas.Option.{same_Some, slice_get-get_or}
 use Rattle.regress_leaves.specs.Subject.{subject}
 use Rattle.regress_program.specs.Listed.{listed}
-use Rattle.regress_program.specs.Program.{matcher_of}
+use Rattle.regress_program.specs.Program.{Op, Out, matcher_of}
 use Rattle.regress_program.specs.Views.{op_in, ops_in, routine_in}
 use Rattle.regress_code.specs.Code.{code_routines}
+use Rattle.regress_tables.specs.declared.probe.Probe.{Probe}
 use Rattle.regress_tables.specs.Probes.{IsProbe}
+use Rattle.regress_tables.specs.Repetitions.{probe_by}
+use Rattle.regress_tables.specs.Table.{AreRight, IsRight}
 use Rattle.regress_tables.proofs.FirstLemmas.{op-here}
 use Rattle.regress_tables.proofs.MemoLemmas.{can-probe}
-use Rattle.regress_tables.proofs.RepetitionLemmas.{repeated-probe, row-small}
+use Rattle.regress_tables.proofs.RepetitionLemmas.{repeated-probe}
 use Rattle.regress_tables.proofs.keys.far_probe.Goals as goal
 
-pub probe-requires-clause-repetition : goal.probe-requires-clause-repetition
-probe-requires-clause-repetition c =
-    let far = c.args.memo.now.far.items in
-    let used = c.requires.repetitions.uses c.args.k _ c.in-Some.repeated (slice_get-get_or far c.args.k 0 c.requires.k) c.in-Some.ensures in
-    slice_get_within c.args.memo.now.repetitions.distinct.items c.in-Some.repeated.repetition used.repetition used.at
-
-pub probe-requires-clause-next : goal.probe-requires-clause-next
-probe-requires-clause-next c =
-    let far = c.args.memo.now.far.items in
-    let used = c.requires.repetitions.uses c.args.k _ c.in-Some.repeated (slice_get-get_or far c.args.k 0 c.requires.k) c.in-Some.ensures in
-    omega (arith, used.next, c.requires.can.of.width)
-
-pub probe-requires-clause-row : goal.probe-requires-clause-row
-probe-requires-clause-row c =
-    let far = c.args.memo.now.far.items in
-    let used = c.requires.repetitions.uses c.args.k _ c.in-Some.repeated (slice_get-get_or far c.args.k 0 c.requires.k) c.in-Some.ensures in
-    let end = c.requires.ends c.in-Some.repeated.repetition used.repetition used.at in
-    row-small c.args.table.now c.args.position _ end.to end.ends
+some-map : (P Q : Probe → Type 0) (o : Option Probe) → ((p : Probe) → P p → Q p) → IfSome o P → IfSome o Q
+some-map P Q None f is = tt
+some-map P Q (Some p) f is = f p is
 
 pub returns-in-Some-clause-probe : goal.returns-in-Some-clause-probe
-returns-in-Some-clause-probe c = λ outs tables right op is_op.
+returns-in-Some-clause-probe c =
     let input = c.args.input.now in
     let u = subject input.rules input.text.now in
     let memo = c.args.memo.now in
+    let leaves = input.code.now.program.leaves.items in
+    let ops = (routine_in leaves c.args.routine.now).ops in
+    let far = memo.far.items in
+    let repeated = c.in-Some.repeated in
+    some-map (λ p. p ≡ probe_by c.args.table.now repeated.next (slice_index_or memo.repetitions.ends.items repeated.repetition 0))
+    (λ p. (outs : ℕ → Out) → AreRight outs input.tables.now → IsRight (outs (length input.tables.now)) c.args.table.now → (op : Op) →
+    slice_get ops (slice_index_or far c.args.k 0) ≡ Some op →
+    IsProbe u.setting u.bytes u.direction (matcher_of u.setting u.bytes (code_routines input.code.now) outs) (outs (length input.tables.now)) op c.args.position p)
+    c.probe.result
+    (λ p is outs tables right op is_op.
     let body_of = matcher_of u.setting u.bytes (code_routines input.code.now) outs in
     let out = outs (length input.tables.now) in
-    let far = memo.far.items in
-    subst (λ p. IsProbe u.setting u.bytes u.direction body_of out op c.args.position p) (sym c.probe.ensures)
-    (repeated-probe u body_of out c.args.table.now right input.code.now.program.leaves.items
-    (routine_in input.code.now.program.leaves.items c.args.routine.now).ops far memo.repetitions c.args.k (slice_index_or far c.args.k 0) c.args.position
-    c.in-Some.repeated op c.requires.can.of.width c.requires.repetitions c.requires.ends (slice_get-get_or far c.args.k 0 c.requires.k) c.in-Some.ensures is_op)
+    subst (λ q. IsProbe u.setting u.bytes u.direction body_of out op c.args.position q) (sym is)
+    (repeated-probe u body_of out c.args.table.now right leaves ops far memo.repetitions c.args.k (slice_index_or far c.args.k 0) c.args.position
+    repeated op c.requires.can.of.width c.requires.repetitions c.requires.ends (slice_get-get_or far c.args.k 0 c.requires.k) c.in-Some.ensures is_op))
+    c.probe.ensures.probe
 
 pub probe_at-requires-clause-can : goal.probe_at-requires-clause-can
 probe_at-requires-clause-can c =
