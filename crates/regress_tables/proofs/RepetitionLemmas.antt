@@ -12,7 +12,6 @@ use Rattle.regress_program.specs.Below.{row_of}
 use Rattle.regress_program.specs.Program.{Op, Out, part}
 use Rattle.regress_tables.specs.declared.probe.Probe.{Probe}
 use Rattle.regress_tables.specs.declared.repetitions.Repeated.{Repeated}
-use Rattle.regress_tables.specs.declared.repetitions.Repetition.{Repetition}
 use Rattle.regress_tables.specs.declared.repetitions.Repetitions.{Repetitions}
 use Rattle.regress_tables.specs.declared.table.Table.{Table}
 use Rattle.regress_tables.specs.Bits.{bits_of}
@@ -22,13 +21,6 @@ use Rattle.regress_tables.specs.Rows.{row_bit}
 use Rattle.regress_tables.specs.Table.{IsRight, SameShape, number_of}
 use Rattle.regress_tables.proofs.MemoLemmas.{represented, row_bit-more}
 use Rattle.regress_tables.proofs.ProbeLemmas.{part_fails, part_jumps}
-
--- The number of a row is at most the length of the text.
-pub row-small : (t : Table) (from row : ℕ) (to : Option ℕ) → IsRowFrom t from to row → row ≤ t.length + 1
-row-small t from row None is = omega (arith, is)
-row-small t from row (Some to) is =
-    let r = row_of (direction_if t.backwards) t.length to in
-    omega (arith, is.3, t.numbers r (t.distinct + (r - length t.rows.items)) is.2, t.few, t.inside)
 
 module _ (u : Subject) (body_of : ℕ → Matcher) (out : Out) (table : Table) (right : IsRight out table) where
   -- A tree leads to what the row tells where it ends.

@@ -1,5 +1,5 @@
 -- The instructions so far match the repetitions so far.
-use Rattle.std.proofs.Common.{◌≡◌, ℕ, ◌<◌, Some, length, slice_get}
+use Rattle.std.proofs.Common.{◌≡◌, ℕ, Some, length, slice_get}
 use Rattle.regress_program.specs.Listed.{listed}
 use Rattle.regress_program.specs.Views.{ops_in}
 use Rattle.regress_tables.specs.Repetitions.{IsRepeated, RepeatOne}
