@@ -1,7 +1,6 @@
 -- Searches.
-use Rattle.std.proofs.Common.{◌≡◌, ℕ, ◌+◌, ◌*◌, ◌≤◌, ◌-◌, Bool, true, false, List, [], ◌∷◌, length, replicate, Option, None, inl, inr, refl, sym, ap, ◌∙◌, subst, arith}
+use Rattle.std.proofs.Common.{◌≡◌, ℕ, ◌+◌, ◌*◌, ◌≤◌, ◌-◌, List, [], ◌∷◌, length, replicate, Option, None, inl, inr, refl, sym, ap, ◌∙◌, subst, arith}
 use Rattle.std.proofs.lemmas.Bool.{cases_eq}
-use Rattle.std.specs.Bool.{IsTrue}
 use Rattle.std.specs.Str.{IsCharBoundary}
 use Rattle.regress_tree.specs.Steps.{CaptureSpan, MatchState}
 use Rattle.regress_leaves.specs.Subject.{subject}
@@ -127,9 +126,6 @@ none_more text at origin k none here = λ p low high on.
       | inl same ↦ ap at same ∙ here (subst (IsCharBoundary text) same on)
       | inr other ↦ none p low (omega (arith, high, other)) on
     ]
-
-pub not_true : (b : Bool) → b ≡ false → IsTrue b → ⊥
-not_true b is h = let bad : true ≡ false = sym h ∙ is in cc
 
 -- the result at a position
 pub is_first : (k end : ℕ) (states : List MatchState) (m : Machine) (found : Match) → start_of found ≡ k → state_of found ≡ state m.captures.items end →
