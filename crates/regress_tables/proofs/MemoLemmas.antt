@@ -355,7 +355,7 @@ coded-more setting bytes d body_of out ops far x k code p some within is coded =
 
 -- The bits of a table that stores a row which was added, or does not.
 pub shared-bits : (t t' u : Table) (x : ℕ) (extra : List Bool) → index t 0 false x ≡ length (evaluated t) →
-    length t.rows.items ≡ row_of (direction_if t.backwards) t.length x → Grows t t' extra → bits_of u.bits ≡ take (u.distinct * (2 * t'.width)) (bits_of t'.bits) →
+    length (numbers_of t.rows) ≡ row_of (direction_if t.backwards) t.length x → Grows t t' extra → bits_of u.bits ≡ take (u.distinct * (2 * t'.width)) (bits_of t'.bits) →
     t'.distinct ≤ u.distinct → bits_of u.bits ≡ bits_of t.bits ++ take (u.distinct * (2 * t'.width) - length (bits_of t.bits)) extra
 shared-bits t t' u x extra at numbered grows bits le =
     let m = u.distinct * (2 * t'.width) in

@@ -10,6 +10,7 @@ use Rattle.regress_program.specs.Below.{row_of}
 use Rattle.regress_program.specs.Program.{Op, part}
 use Rattle.regress_program.specs.Views.{leaf_in}
 use Rattle.regress_tables.specs.Bits.{bits_of}
+use Rattle.regress_tables.specs.Numbers.{numbers_of}
 use Rattle.regress_tables.specs.Probes.{digit, jumps_if}
 use Rattle.regress_tables.specs.Rows.{row_bit}
 use Rattle.regress_tables.specs.Table.{number_of}
@@ -50,7 +51,7 @@ pub record SameRepetitions (r r' : Repetitions) : Type 0 where
 -- It is 1 more than the number of the row at a position, which is another one than `from`, or 0 if there is no position.
 abbrev pub IsRowFrom : Table → (from : ℕ) → Option ℕ → (row : ℕ) → Type 0
 IsRowFrom t from None row = row ≡ 0
-IsRowFrom t from (Some to) row = (to ≢ from) × (to ≤ t.length) × (row_of (direction_if t.backwards) t.length to < length t.rows.items)
+IsRowFrom t from (Some to) row = (to ≢ from) × (to ≤ t.length) × (row_of (direction_if t.backwards) t.length to < length (numbers_of t.rows))
     × (row ≡ suc (number_of t (row_of (direction_if t.backwards) t.length to)))
 
 -- A tree leads from a position to this row.
