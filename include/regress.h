@@ -103,7 +103,7 @@ typedef struct regress_searcher {
    - linear_instructions: the number of instructions up to which a search may be linear, where one character always counts
      about m / 64 times; by default a thousand. It takes up to two bits of memory for each instruction and byte of the
      text.
-   - memory: by default 256 MiB: the bytes that the tables of one search may take, a quarter of a byte for each
+   - memory: by default 256 MiB: the bytes that the tables of one search may take, at most a quarter of a byte for each
      instruction, and 8 bytes, for each byte of the text, and once more; those of its backtrack stack, and of one more for
      each level of nested lookarounds; and those of a list of all matches, also of one by which a text is replaced or
      split, where a match counts 56 bytes, and 24 for each group. A lookaround takes up to 4 bytes more for each byte of

@@ -140,9 +140,9 @@ def compile(pattern, flags='', *, dialect='ecma', steps=None, nodes=None, instru
                       the instructions up to which a search may take linear time, where one character always counts
                       about m / 64 times; a thousand by default. It takes up to two bits of memory for each
                       instruction and byte of the text
-        memory        the bytes that the tables of one search may take, 256 MiB by default: a quarter of a byte for each
-                      instruction, and 8 bytes, for each byte of the text in UTF-8, and once more; 4 bytes more for each
-                      lookaround do not count. The same limit holds for each backtrack stack, one for the pattern and
+        memory        the bytes that the tables of one search may take, 256 MiB by default: at most a quarter of a byte
+                      for each instruction, and 8 bytes, for each byte of the text in UTF-8, and once more; 4 bytes more
+                      for each lookaround do not count. The same limit holds for each backtrack stack, one for the pattern and
                       one for each level of nested lookarounds, and for a list of all matches, of findall, finditer,
                       sub and split: 56 bytes for a match, and 24 for each group
         linear_steps  the steps of one search that takes linear time; no limit by default. If its bound exceeds that

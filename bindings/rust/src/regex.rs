@@ -89,7 +89,7 @@ pub struct Options {
     /// The number of instructions up to which a search may be linear, where one character always counts about m / 64 times.
     /// By default a thousand. It takes up to two bits of memory for each instruction and byte of the text.
     pub linear_instructions: usize,
-    /// The memory in bytes that the tables of one search may take: a quarter of a byte for each instruction, and 8
+    /// The memory in bytes that the tables of one search may take: at most a quarter of a byte for each instruction, and 8
     /// bytes, for each byte of the text, and once more. The same limit holds for each backtrack stack, one for the pattern
     /// and one for each level of nested lookarounds, and for all matches of one call: 56 bytes for each, and 24 for each
     /// group. By default 256 MiB. Of tables, up to 4 bytes more for each lookaround and byte of the text do not count.
