@@ -2,6 +2,7 @@
 //! near which there is a byte that each match contains.
 
 use super::parsed;
+use regress_front::optimizer::optimize;
 use regress_prefilter::{candidates_of, next_candidate_from};
 use std::test::Fail;
 
@@ -32,7 +33,8 @@ fn a_match_begins_near_a_byte_that_it_contains(rt: HostRuntime) -> Result<(), Fa
         ("(?<=a-)b", "b -b ab a-b", Some(10)),
         ("\\d{1,3}\\(", "123 456", None),
     ] {
-        let regex = parsed(rt.alloc(), pattern, false)?;
+        let mut regex = parsed(rt.alloc(), pattern, false)?;
+        optimize(rt.alloc(), &mut regex)?;
         let found = next_candidate_from(&candidates_of(&regex.node), text, 0);
         assert!(rt; found == *wanted, "{}", pattern);
     }
