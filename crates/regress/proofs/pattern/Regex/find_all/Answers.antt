@@ -1,13 +1,13 @@
-use Rattle.std.proofs.Common.{Some, inl, inr, [], ◌∷◌, map, arith, subst, sym, ◌∙◌}
+use Rattle.std.proofs.Common.{◌≡◌, None, Some, inl, inr, [], ◌∷◌, map, arith, subst, sym, ◌∙◌}
 use Rattle.std.proofs.lemmas.Result.{err_from_is_err_and}
 use Rattle.std.proofs.lemmas.List.{length-map, map-append}
 use Rattle.std.specs.Vec.{vec_capacity}
 use Rattle.regress_match.proofs.lemmas.Memory.{is_held, matches_need_more}
-use Rattle.regress.specs.Costs.{factor_in, matcher_of}
+use Rattle.regress.specs.Costs.{AllCostLimit, factor_in, matcher_of}
 use Rattle.regress.specs.Compiled.{groups_of, outcomes_of, match_of}
 use Rattle.regress.specs.Memory.{AllNeedMore, match_bytes, memory_of}
 use Rattle.regress.specs.Searched.{Advances, next_from}
-use Rattle.regress.proofs.FaultLemmas.{if_too_much}
+use Rattle.regress.proofs.FaultLemmas.{if_too_much, no_steps}
 use Rattle.regress.proofs.FoundLemmas.{HasFoundWith, all_found, begins_with, inside_each, one_more, one_more_with}
 use Rattle.regress.proofs.lemmas.Paid.{HasPaid, none_paid, one_more_paid, out_of_steps, too_much_memory}
 use Rattle.regress.proofs.pattern.Regex.find_all.Goals as goal
@@ -66,6 +66,16 @@ returns-in_err-found-clause-too_much c =
     let new = c.next.new.self in
     rw p.1 (λ is. inl (too_much_memory c.args.self.now c.args.text.now 0 now (map match_of c.loop-found.all.items) so_far.paid so_far.has.found.found new _
     (subst (λ r. Advances now (Some r) new) c.in_err-found.was c.in-Some.ensures.steps) (sym p.2 ∙ is)))
+
+pub returns-in_err-push_within-clause-linear : goal.returns-in_err-push_within-clause-linear
+returns-in_err-push_within-clause-linear c =
+    no_steps (factor_in c.args.self.now c.args.text.now ≡ None) c.from_residual-in_err-push_within.result c.in_err-push_within.field-0.0
+    c.from_residual-in_err-push_within.ensures
+
+pub returns-in_err-push_within-clause-costs : goal.returns-in_err-push_within-clause-costs
+returns-in_err-push_within-clause-costs c =
+    no_steps (AllCostLimit c.args.self.now c.args.text.now 0) c.from_residual-in_err-push_within.result c.in_err-push_within.field-0.0
+    c.from_residual-in_err-push_within.ensures
 
 pub returns-in_err-push_within-clause-too_much : goal.returns-in_err-push_within-clause-too_much
 returns-in_err-push_within-clause-too_much c =
