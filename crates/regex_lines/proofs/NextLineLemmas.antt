@@ -17,7 +17,7 @@ use Rattle.regex_lines.specs.Window.{IsInFront, IsNextLine, IsOther, IsShownBy, 
 use Rattle.regex_lines.specs.declared.failure.Failure.{Failure}
 use Rattle.regex_lines.proofs.FoundReplyLemmas.{no_context, none_written, whatever_end}
 use Rattle.regex_lines.proofs.WindowLemmas.{nothing_in_front}
-use Rattle.regex_lines.proofs.lemmas.Failures.{after_any, or_output}
+use Rattle.regex_lines.proofs.lemmas.Failures.{after_any, after_search, or_output}
 
 pub appends_nothing : (known : Option (List ℕ)) → Appends known known []
 appends_nothing None = tt

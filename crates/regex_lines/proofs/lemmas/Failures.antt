@@ -89,6 +89,20 @@ after_any P Q more Incomplete known = or_output P Q Incomplete known more
 after_any P Q more (PatternNotUtf8 name offset) known = or_output P Q (PatternNotUtf8 name offset) known more
 after_any P Q more (TooLong name) known = or_output P Q (TooLong name) known more
 
+-- What is known after a failure of a search.
+pub after_search : (costly P Q : Type 0) (failure : Failure) → IsSearchFailure costly failure → OrOutput Q failure → AfterFailure P Q failure
+after_search costly P Q Argument may known = known
+after_search costly P Q Memory may known = known
+after_search costly P Q Output may known = known
+after_search costly P Q Closed may known = known
+after_search costly P Q (Syntax pattern text position) may known = known
+after_search costly P Q TooLarge may known = known
+after_search costly P Q OutOfSteps may known = known
+after_search costly P Q (Unreadable unread) may known = absurd may
+after_search costly P Q Incomplete may known = known
+after_search costly P Q (PatternNotUtf8 name offset) may known = known
+after_search costly P Q (TooLong name) may known = known
+
 -- Less is known.
 pub after_less : (P Q R S : Type 0) → (P → R) → (Q → S) → (failure : Failure) → AfterFailure P Q failure → AfterFailure R S failure
 after_less P Q R S first part Argument known = or_output Q S Argument known part
