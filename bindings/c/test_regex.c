@@ -318,8 +318,10 @@ static void memory_is_limited(void) {
         strcat(groups, "()");
     }
     strcat(groups, "){0}");
-    /* backtracking alone would take 3.3 KB for each letter: tables take over, if there is memory for them */
-    CHECK(within_memory(mib, optional, 'a', 200000, 0, 2 * mib) == REGRESS_TOO_MUCH_MEMORY);
+    /* backtracking alone would take 3.3 KB for each letter: tables take over, if there is memory for them, a byte for each
+       letter and what differs */
+    CHECK(within_memory(100000, optional, 'a', 200000, 0, mib) == REGRESS_TOO_MUCH_MEMORY);
+    CHECK(within_memory(mib, optional, 'a', 200000, 0, 2 * mib) == REGRESS_NO_MATCH);
     CHECK(within_memory(16 * mib, optional, 'a', 200000, 0, 17 * mib) == REGRESS_NO_MATCH);
     /* without tables */
     CHECK(within_memory(mib, "(?:a|b|(c))*\\1[de]", 'a', 1000000, 0, 2 * mib) == REGRESS_TOO_MUCH_MEMORY);
@@ -759,12 +761,12 @@ static void limits(void) {
     CHECK(regress_nonlinear(&regex) == REGRESS_NONLINEAR_TOO_MANY_INSTRUCTIONS);
     CHECK(found(&regex, "aaaaaaaaaaaaaaaaaaaaaaaaaaaaaaaa", 0, ROOM) == REGRESS_OUT_OF_STEPS);
     regress_free(&regex);
-    /* tables that are too large are not made */
+    /* tables are limited, which have at least a byte for each letter */
     CHECK(compiled_within(&memory, "(a*)*b", &regex) == REGRESS_OK);
     CHECK(found(&regex, "aab", 0, ROOM) == REGRESS_OK && ARE(0, 3, 0, 2));
-    CHECK(found(&regex, "aaaaaaaaaaaaaaaaaaaaaaaaaaaaaaaa", 0, ROOM) == REGRESS_TOO_MUCH_MEMORY && needed == 0
-          && spans[0] == MARK);
-    CHECK(found_all(&regex, "aaaaaaaaaaaaaaaaaaaaaaaaaaaaaaaa", ROOM) == REGRESS_TOO_MUCH_MEMORY);
+    memset(many, 'a', sizeof many - 1);
+    CHECK(found(&regex, many, 0, ROOM) == REGRESS_TOO_MUCH_MEMORY && needed == 0 && spans[0] == MARK);
+    CHECK(found_all(&regex, many, ROOM) == REGRESS_TOO_MUCH_MEMORY);
     regress_free(&regex);
     memory.memory = 1000;
     CHECK(compiled_within(&memory, "(a*)*b", &regex) == REGRESS_OK);
