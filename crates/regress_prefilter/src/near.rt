@@ -198,7 +198,7 @@ fn reach_of(node: &Node) -> Reach
     all.or(reach_of_other(last))
 }
 
-/// Returns the same for a sequence of parts. Stops after a part without a maximum length.
+/// Returns the same for a sequence of parts.
 #[cycle(reach_of)]
 fn reach_of_list(parts: &[Node]) -> Reach
     ensures { IsReach result (cat (trees parts.now)) }
