@@ -1,6 +1,6 @@
-// count_pcre2 FILE PATTERN all|first|compile: prints the number of matches, and the CPU seconds and the seconds of the
-// search, by PCRE2's interpreter; with `compile` of compiling and of the first match together, each the mean of many
-// runs. The status is 2 if a limit of PCRE2 is reached.
+// count_pcre2 interpreter|jit FILE PATTERN all|first|compile: prints the number of matches, and the CPU seconds and the
+// seconds of the search, by PCRE2's interpreter or by its compiler; with `compile` of compiling and of the first match
+// together, each the mean of many runs. The status is 2 if a limit of PCRE2 is reached.
 #define PCRE2_CODE_UNIT_WIDTH 8
 #include <chrono>
 #include <cstdio>
@@ -15,17 +15,27 @@
 // How long a pattern is compiled again and again, in seconds.
 const double SPENT = 0.05;
 
-// Compiles the pattern and searches for its first match, and prints the mean time.
-static int compile(const char *pattern, const std::string &text, uint32_t options) {
-    int error, groups = 0;
+// Returns the compiled pattern, or NULL if PCRE2 rejects it.
+static pcre2_code *compiled(const char *pattern, bool jit) {
+    uint32_t options = PCRE2_UTF | PCRE2_DOLLAR_ENDONLY | PCRE2_MATCH_UNSET_BACKREF | PCRE2_ALLOW_EMPTY_CLASS;
+    int error;
     PCRE2_SIZE at;
+    pcre2_code *code = pcre2_compile((PCRE2_SPTR)pattern, PCRE2_ZERO_TERMINATED, options, &error, &at, NULL);
+    if (!code || !jit || !pcre2_jit_compile(code, PCRE2_JIT_COMPLETE)) return code;
+    pcre2_code_free(code);
+    return NULL;
+}
+
+// Compiles the pattern and searches for its first match, and prints the mean time.
+static int compile(const char *pattern, const std::string &text, bool jit) {
+    int groups = 0;
     size_t runs = 0;
     double used = 0;
     for (clock_t before = clock(); used < SPENT; used = double(clock() - before) / CLOCKS_PER_SEC, runs++) {
-        pcre2_code *code = pcre2_compile((PCRE2_SPTR)pattern, PCRE2_ZERO_TERMINATED, options, &error, &at, NULL);
+        pcre2_code *code = compiled(pattern, jit);
         if (!code) return 1;
         pcre2_match_data *data = pcre2_match_data_create_from_pattern(code, NULL);
-        groups = pcre2_match(code, (PCRE2_SPTR)text.data(), text.size(), 0, PCRE2_NO_JIT, data, NULL);
+        groups = pcre2_match(code, (PCRE2_SPTR)text.data(), text.size(), 0, jit ? 0 : PCRE2_NO_JIT, data, NULL);
         pcre2_match_data_free(data);
         pcre2_code_free(code);
         if (groups < 0 && groups != PCRE2_ERROR_NOMATCH) return 2;
@@ -35,18 +45,17 @@ static int compile(const char *pattern, const std::string &text, uint32_t option
 }
 
 int main(int, char **argv) {
-    std::ifstream file(argv[1]);
+    bool jit = !strcmp(argv[1], "jit");
+    std::ifstream file(argv[2]);
     std::string text((std::istreambuf_iterator<char>(file)), std::istreambuf_iterator<char>());
-    uint32_t options = PCRE2_UTF | PCRE2_DOLLAR_ENDONLY | PCRE2_MATCH_UNSET_BACKREF | PCRE2_ALLOW_EMPTY_CLASS;
-    if (!strcmp(argv[3], "compile")) return compile(argv[2], text, options);
-    int error;
-    PCRE2_SIZE at;
-    pcre2_code *code = pcre2_compile((PCRE2_SPTR)argv[2], PCRE2_ZERO_TERMINATED, options, &error, &at, NULL);
+    const char *pattern = argv[3], *mode = argv[4];
+    if (!strcmp(mode, "compile")) return compile(pattern, text, jit);
+    pcre2_code *code = compiled(pattern, jit);
     if (!code) return 1;
-    bool all = !strcmp(argv[3], "all");
+    bool all = !strcmp(mode, "all");
     pcre2_match_data *data = pcre2_match_data_create_from_pattern(code, NULL);
     size_t count = 0, from = 0;
-    uint32_t unchecked = PCRE2_NO_JIT;
+    uint32_t unchecked = jit ? 0 : PCRE2_NO_JIT;
     auto started = std::chrono::steady_clock::now();
     clock_t before = clock();
     while (from <= text.size()) {

@@ -180,13 +180,13 @@ def others(folder, kit, crates=None):
     else:
         skip("V8", "there is no node")
     engines["Python"] = Timed([sys.executable, str(HERE / "count.py")], inline)
-    for label, name, library, package in (
-        ("PCRE2 interpreter", "count_pcre2", "pcre2-8", "libpcre2-dev"),
-        ("RE2", "count_re2", "re2", "libre2-dev"),
-    ):
-        program = compiled(folder, name, library, package)
-        if program:
-            engines[label] = Timed([program], inline)
+    program = compiled(folder, "count_pcre2", "pcre2-8", "libpcre2-dev")
+    if program:
+        engines["PCRE2 interpreter"] = Timed([program, "interpreter"], inline)
+        engines["PCRE2 JIT"] = Timed([program, "jit"], inline)
+    program = compiled(folder, "count_re2", "re2", "libre2-dev")
+    if program:
+        engines["RE2"] = Timed([program], inline)
     program = built_crate(folder, crates)
     if program:
         engines[RUST] = Timed([program], for_crate)
