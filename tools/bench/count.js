@@ -1,16 +1,32 @@
-// node count.js FILE PATTERN FLAGS all|first|compile: prints the number of matches, and the CPU seconds and the seconds
-// of the search; with `compile` of compiling and of the first match together, each the mean of many runs.
+// node count.js FILE PATTERN FLAGS all|first|again|compile: prints the number of matches, and the CPU seconds and the
+// seconds of the search; with `again` of the first match, with `compile` of compiling and of the first match together,
+// each the mean of many runs.
 const [file, pattern, flags, mode] = process.argv.slice(2);
 const text = require('fs').readFileSync(file, 'utf8');
 // JavaScript has v or u, not both
 const letters = flags.includes('v') ? flags.replace('u', '') : flags;
-// How long a pattern is compiled again and again, in microseconds.
+// How long it is run again and again, in microseconds.
 const SPENT = 5e4;
+// How often a search is repeated between two looks at the clock.
+const REPEATED = 100;
 let regex;
 try {
   regex = new RegExp(pattern, letters + 'g');
 } catch {
   process.exit(1);
+}
+if (mode === 'again') {
+  const once = new RegExp(pattern, letters);
+  let used = 0, runs = 0, found;
+  const before = process.cpuUsage();
+  while (used < SPENT) {
+    for (let i = 0; i < REPEATED; i++) found = once.exec(text);
+    runs += REPEATED;
+    const { user, system } = process.cpuUsage(before);
+    used = user + system;
+  }
+  console.log(found ? 1 : 0, used / runs / 1e6, used / runs / 1e6);
+  process.exit();
 }
 if (mode === 'compile') {
   const before = process.cpuUsage();

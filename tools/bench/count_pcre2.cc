@@ -1,6 +1,7 @@
-// count_pcre2 interpreter|jit FILE PATTERN all|first|compile: prints the number of matches, and the CPU seconds and the
-// seconds of the search, by PCRE2's interpreter or by its compiler; with `compile` of compiling and of the first match
-// together, each the mean of many runs. The status is 2 if a limit of PCRE2 is reached.
+// count_pcre2 interpreter|jit FILE PATTERN all|first|again|compile: prints the number of matches, and the CPU seconds and
+// the seconds of the search, by PCRE2's interpreter or by its compiler; with `again` of the first match, with `compile`
+// of compiling and of the first match together, each the mean of many runs. The status is 2 if a limit of PCRE2 is
+// reached.
 #define PCRE2_CODE_UNIT_WIDTH 8
 #include <chrono>
 #include <cstdio>
@@ -12,8 +13,10 @@
 
 #include <pcre2.h>
 
-// How long a pattern is compiled again and again, in seconds.
+// How long it is run again and again, in seconds.
 const double SPENT = 0.05;
+// How often a search is repeated between two looks at the clock.
+const size_t REPEATED = 100;
 
 // Returns the compiled pattern, or NULL if PCRE2 rejects it.
 static pcre2_code *compiled(const char *pattern, bool jit) {
@@ -44,6 +47,22 @@ static int compile(const char *pattern, const std::string &text, bool jit) {
     return 0;
 }
 
+// Searches for the first match, and prints the mean time. That the text is UTF-8 is tested once.
+static int again(const pcre2_code *code, const std::string &text, bool jit) {
+    pcre2_match_data *data = pcre2_match_data_create_from_pattern(code, NULL);
+    uint32_t unchecked = jit ? 0 : PCRE2_NO_JIT;
+    int groups = pcre2_match(code, (PCRE2_SPTR)text.data(), text.size(), 0, unchecked, data, NULL);
+    unchecked |= PCRE2_NO_UTF_CHECK;
+    size_t runs = 0;
+    double used = 0;
+    for (clock_t before = clock(); used < SPENT; used = double(clock() - before) / CLOCKS_PER_SEC, runs += REPEATED)
+        for (size_t i = 0; i < REPEATED; i++)
+            groups = pcre2_match(code, (PCRE2_SPTR)text.data(), text.size(), 0, unchecked, data, NULL);
+    if (groups < 0 && groups != PCRE2_ERROR_NOMATCH) return 2;
+    printf("%d %.9f %.9f\n", groups > 0, used / runs, used / runs);
+    return 0;
+}
+
 int main(int, char **argv) {
     bool jit = !strcmp(argv[1], "jit");
     std::ifstream file(argv[2]);
@@ -52,6 +71,7 @@ int main(int, char **argv) {
     if (!strcmp(mode, "compile")) return compile(pattern, text, jit);
     pcre2_code *code = compiled(pattern, jit);
     if (!code) return 1;
+    if (!strcmp(mode, "again")) return again(code, text, jit);
     bool all = !strcmp(mode, "all");
     pcre2_match_data *data = pcre2_match_data_create_from_pattern(code, NULL);
     size_t count = 0, from = 0;

@@ -1,5 +1,6 @@
-// count_re2 FILE PATTERN all|first|compile: prints the number of matches, and the CPU seconds and the seconds of the
-// search; with `compile` of compiling and of the first match together, each the mean of many runs.
+// count_re2 FILE PATTERN all|first|again|compile: prints the number of matches, and the CPU seconds and the seconds of
+// the search; with `again` of the first match and its groups, with `compile` of compiling and of the first match
+// together, each the mean of many runs.
 #include <chrono>
 #include <cstdio>
 #include <cstring>
@@ -7,11 +8,14 @@
 #include <fstream>
 #include <iterator>
 #include <string>
+#include <vector>
 
 #include <re2/re2.h>
 
-// How long a pattern is compiled again and again, in seconds.
+// How long it is run again and again, in seconds.
 const double SPENT = 0.05;
+// How often a search is repeated between two looks at the clock.
+const size_t REPEATED = 100;
 
 // Compiles the pattern and searches for its first match, and prints the mean time.
 static int compile(const char *pattern, const std::string &text, const RE2::Options &options) {
@@ -28,6 +32,19 @@ static int compile(const char *pattern, const std::string &text, const RE2::Opti
     return 0;
 }
 
+// Searches for the first match and its groups, and prints the mean time.
+static int again(const RE2 &regex, const std::string &text) {
+    std::vector<re2::StringPiece> groups(regex.NumberOfCapturingGroups() + 1);
+    bool matches = false;
+    size_t runs = 0;
+    double used = 0;
+    for (clock_t before = clock(); used < SPENT; used = double(clock() - before) / CLOCKS_PER_SEC, runs += REPEATED)
+        for (size_t i = 0; i < REPEATED; i++)
+            matches = regex.Match(text, 0, text.size(), RE2::UNANCHORED, groups.data(), groups.size());
+    printf("%d %.9f %.9f\n", matches, used / runs, used / runs);
+    return 0;
+}
+
 int main(int, char **argv) {
     std::ifstream file(argv[1]);
     std::string text((std::istreambuf_iterator<char>(file)), std::istreambuf_iterator<char>());
@@ -36,6 +53,7 @@ int main(int, char **argv) {
     if (!strcmp(argv[3], "compile")) return compile(argv[2], text, options);
     RE2 regex(argv[2], options);
     if (!regex.ok()) return 1;
+    if (!strcmp(argv[3], "again")) return again(regex, text);
     bool all = !strcmp(argv[3], "all");
     re2::StringPiece found;
     size_t count = 0, from = 0;

@@ -1,6 +1,6 @@
-//! count_regex FILE PATTERN all|first|compile: prints the number of matches, and the CPU seconds and the seconds of the
-//! search, by the crate `regex`; with `compile` of compiling and of the first match together, each the mean of many
-//! runs. The status is 1 if the pattern is rejected.
+//! count_regex FILE PATTERN all|first|again|compile: prints the number of matches, and the CPU seconds and the seconds
+//! of the search, by the crate `regex`; with `again` of the first match and its groups, with `compile` of compiling and
+//! of the first match together, each the mean of many runs. The status is 1 if the pattern is rejected.
 use std::ffi::c_long;
 use std::process::ExitCode;
 use std::time::Instant;
@@ -15,8 +15,11 @@ fn used() -> f64 {
     clock() as f64 / 1e6
 }
 
-/// How long a pattern is compiled again and again, in seconds.
+/// How long it is run again and again, in seconds.
 const SPENT: f64 = 0.05;
+
+/// How often a search is repeated between two looks at the clock.
+const REPEATED: u32 = 100;
 
 /// Compiles the pattern and searches for its first match. Returns whether there is one, and the mean time.
 fn compile(pattern: &str, text: &str) -> Result<(bool, f64), regex::Error> {
@@ -27,6 +30,22 @@ fn compile(pattern: &str, text: &str) -> Result<(bool, f64), regex::Error> {
         let spent = used() - before;
         if spent >= SPENT {
             return Ok((found, spent / runs));
+        }
+    }
+}
+
+/// Searches for the first match and its groups. Returns whether there is one, and the mean time.
+fn again(regex: &regex::Regex, text: &str) -> (bool, f64) {
+    let mut groups = regex.capture_locations();
+    let (before, mut runs, mut found) = (used(), 0.0, false);
+    loop {
+        for _ in 0..REPEATED {
+            found = regex.captures_read(&mut groups, text).is_some();
+        }
+        runs += f64::from(REPEATED);
+        let spent = used() - before;
+        if spent >= SPENT {
+            return (found, spent / runs);
         }
     }
 }
@@ -42,6 +61,11 @@ fn main() -> ExitCode {
     let Ok(regex) = regex::Regex::new(pattern) else {
         return ExitCode::from(1);
     };
+    if mode == "again" {
+        let (found, mean) = again(&regex, &text);
+        println!("{} {mean:.9} {mean:.9}", u8::from(found));
+        return ExitCode::SUCCESS;
+    }
     if mode == "compile" {
         let Ok((found, mean)) = compile(pattern, &text) else {
             return ExitCode::from(1);

@@ -1,7 +1,7 @@
-/* regress FILE PATTERN FLAGS all|first|compile: prints the number of matches, and the CPU seconds and the seconds
-   of the search, by the C library of this repository; with `compile` of compiling and of the first match together,
-   each the mean of many runs. FLAGS are letters as in JavaScript. The status is 1 if the pattern is rejected, 2 if
-   the search takes too many steps, and 3 if something else fails. */
+/* regress FILE PATTERN FLAGS all|first|again|compile: prints the number of matches, and the CPU seconds and the seconds
+   of the search, by the C library of this repository; with `again` of the first match by a searcher, with `compile` of
+   compiling and of the first match together, each the mean of many runs. FLAGS are letters as in JavaScript. The status
+   is 1 if the pattern is rejected, 2 if the search takes too many steps, and 3 if something else fails. */
 
 #include <stdio.h>
 #include <stdlib.h>
@@ -10,8 +10,11 @@
 
 #include <regress.h>
 
-/* How long a pattern is compiled again and again. */
+/* How long it is run again and again, in seconds. */
 #define SPENT 0.05
+
+/* How often a search is repeated between two looks at the clock. */
+#define REPEATED 100
 
 struct text {
     uint8_t *bytes;
@@ -115,6 +118,29 @@ static uint32_t compile(const char *pattern, uint32_t flags, const struct text *
     return status;
 }
 
+/* Searches for the first match with a searcher until SPENT seconds are used. Prints the number of matches and the mean
+   time. Returns the library's status. */
+static uint32_t again(const regress_regex *regex, const struct text *text) {
+    regress_searcher searcher;
+    size_t spans[256], needed, runs = 0;
+    uint32_t status = regress_searcher_new(&searcher);
+    if (status != REGRESS_OK) {
+        return status;
+    }
+    clock_t before = clock();
+    double used = 0;
+    while (used < SPENT && (status == REGRESS_OK || status == REGRESS_NO_MATCH)) {
+        for (int i = 0; i < REPEATED; i++) {
+            status = regress_searcher_find(&searcher, regex, text->bytes, text->length, 0, spans, 256, &needed);
+        }
+        runs += REPEATED;
+        used = (double)(clock() - before) / CLOCKS_PER_SEC;
+    }
+    regress_searcher_free(&searcher);
+    printf("%d %.9f %.9f\n", status == REGRESS_OK, used / (double)runs, used / (double)runs);
+    return status;
+}
+
 int main(int count, char **arguments) {
     struct text text;
     regress_regex regex;
@@ -126,6 +152,9 @@ int main(int count, char **arguments) {
     }
     if (!is_compiled(arguments[2], flags_of(arguments[3]), &regex)) {
         return 1;
+    }
+    if (!strcmp(arguments[4], "again")) {
+        return result_of(again(&regex, &text));
     }
     return result_of(search(&regex, &text, !strcmp(arguments[4], "all")));
 }
