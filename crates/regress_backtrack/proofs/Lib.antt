@@ -15,3 +15,4 @@ pub mod LeadLemmas
 pub mod LeaveLemmas
 pub mod BeginningLemmas
 pub mod BoundaryLemmas
+pub mod LeafLemmas

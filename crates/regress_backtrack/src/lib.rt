@@ -8,6 +8,7 @@ mod boundary;
 mod cache;
 mod input;
 mod lead;
+mod leaf_body;
 mod machine;
 mod run;
 mod search;

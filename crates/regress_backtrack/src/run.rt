@@ -17,6 +17,7 @@ ghost use Rattle.regress_backtrack.specs.declared.step.Next.TheVariants as nexts
 
 use crate::alternatives::{fails, next_choice};
 use crate::input::{Input, input_for, instruction_at, routine_fails};
+use crate::leaf_body::{leaf_response, sole_leaf_of};
 use crate::machine::{Machine, Place};
 use crate::step::{Next, step};
 use crate::sweep::points_that_may_match;
@@ -263,6 +264,10 @@ fn look(
         looking.routine,
         input.room,
     );
+    if let Some(test) = sole_leaf_of(&inside) {
+        let response = leaf_response(&inside, test, here.position, machine, remaining);
+        return Ok(next_after(response, looking.negate, after));
+    }
     let outer = machine.enter(alloc);
     let response = run(alloc, &inside, here.position, machine, remaining)?;
     machine.leave(outer, input.room)?;

@@ -184,7 +184,7 @@ fn match_leaf(
 /// # Preconditions
 /// It is a set of strings only if it has exactly one string.
 #[inline(always)]
-fn test_end(
+pub(crate) fn test_end(
     input: &Input<'_, '_>,
     test: &Test,
     position: usize,

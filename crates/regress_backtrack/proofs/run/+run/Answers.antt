@@ -19,6 +19,7 @@ use Rattle.regress_backtrack.specs.Memory.{IsStackWithin, entry_count}
 use Rattle.regress_backtrack.specs.Next.{Inside, Leads}
 use Rattle.regress_backtrack.specs.Run.{IsResponseOf}
 use Rattle.regress_backtrack.proofs.CostLemmas.{costed}
+use Rattle.regress_backtrack.proofs.LeafLemmas.{after-goes}
 use Rattle.regress_backtrack.proofs.MachineLemmas.{left-lookaround, rewound-none}
 use Rattle.regress_backtrack.proofs.StepLemmas.{Goes, err_map, not_look, ok_map}
 use Rattle.regress_backtrack.proofs.RunLemmas.{can_step, advanced, look_fits, on_same, back_same, accept_same, on_all, back_all, begins-inside, begins-same, begins_cost, same_response, same_cost, same_entries, same_within, look_cost, look_goes, look_inside}
@@ -176,6 +177,46 @@ look-returns-then-routine_fails-clause-inside t c = λ lt.
     let m = c.args.machine.now in
     look_inside c.args.input.now m m responses.NoMatch c.args.looking.negate _ c.on_if.result refl c.on_if.ensures lt c.requires.inside.position
 
+pub look-sole_leaf_of-requires : goal.look-sole_leaf_of-requires
+look-sole_leaf_of-requires t c =
+    let inside = c.input_for-inside.ensures in
+    record { program = subst (λ code. IsProgram (code_routines code)) (sym inside.code) c.requires.program; input = inside.input }
+
+pub look-leaf_response-response-requires : goal.look-leaf_response-response-requires
+look-leaf_response-response-requires t c =
+    let inside = c.input_for-inside.ensures in
+    record {
+      program = subst (λ code. IsProgram (code_routines code)) (sym inside.code) c.requires.program;
+      input = inside.input;
+      body = c.in-Some.ensures;
+      position = omega (arith, ap length inside.text, c.requires.inside.position);
+    }
+
+pub look-returns-in-Some-clause-leads : goal.look-returns-in-Some-clause-leads
+look-returns-in-Some-clause-leads t c = λ outs out solution.
+    let input = c.args.input.now in
+    let u = subject input.rules input.text.now in
+    let m = c.args.machine.now in
+    let inside = c.input_for-inside.ensures in
+    let responds : IsResponseOf (matcher_of u.setting u.bytes (code_routines input.code.now) outs c.args.looking.routine
+    (state m.captures.items c.args.here.position)) m c.leaf_response-response.result =
+    same_response m c.leaf_response-response.result outs c.args.here.position _ _ _ _ _ _ _ _ _ _ (c.leaf_response-response.ensures.responds outs) inside.setting
+    inside.text (ap code_routines inside.code) inside.index refl solution in
+    look_goes out m m refl refl c.args.here c.args.looking.next
+    c.args.looking.negate (matcher_of u.setting u.bytes (code_routines input.code.now) outs c.args.looking.routine) m c.leaf_response-response.result
+    c.next_after.result responds refl (λ none. refl) c.next_after.ensures
+
+pub look-returns-in-Some-clause-inside : goal.look-returns-in-Some-clause-inside
+look-returns-in-Some-clause-inside t c = λ lt.
+    let m = c.args.machine.now in
+    look_inside c.args.input.now m m c.leaf_response-response.result c.args.looking.negate _ c.next_after.result refl c.next_after.ensures lt
+    c.requires.inside.position
+
+pub look-returns-in-Some-clause-spent : goal.look-returns-in-Some-clause-spent
+look-returns-in-Some-clause-spent t c = λ out.
+    absurd (after-goes c.leaf_response-response.result c.args.looking.negate _ c.next_after.result c.leaf_response-response.ensures.goes
+    c.next_after.ensures out)
+
 pub look-returns-clause-leads : goal.look-returns-clause-leads
 look-returns-clause-leads t c = λ outs out solution.
     let input = c.args.input.now in
@@ -196,8 +237,8 @@ look-returns-clause-leads t c = λ outs out solution.
     look_goes out m m' kept.points (ap reverse (c.in_ok-leave.ensures.begins ∙ ap (λ s. s.begins.items) c.enter-outer.ensures.stack)) c.args.here
     c.args.looking.next
     c.args.looking.negate (matcher_of u.setting u.bytes (code_routines input.code.now) outs c.args.looking.routine) inner c.in_ok-response.response
-    c.next_after.result responds c.in_ok-leave.ensures.captures (λ none. c.in_ok-response.ensures.none none ∙ c.enter-outer.ensures.captures)
-    c.next_after.ensures
+    c.next_after-2.result responds c.in_ok-leave.ensures.captures (λ none. c.in_ok-response.ensures.none none ∙ c.enter-outer.ensures.captures)
+    c.next_after-2.ensures
 
 pub look-returns-clause-inside : goal.look-returns-clause-inside
 look-returns-clause-inside t c = λ lt.
@@ -207,7 +248,7 @@ look-returns-clause-inside t c = λ lt.
     let kept = left-lookaround m inner m' (c.in_ok-response.ensures.undo ∙ c.enter-outer.ensures.captures)
     (c.in_ok-leave.ensures.entries ∙ ap (λ s. s.entries.items ++ changes_of inner.stack.entries.items) c.enter-outer.ensures.stack)
     (c.in_ok-leave.ensures.begins ∙ ap (λ s. s.begins.items) c.enter-outer.ensures.stack) c.in_ok-leave.ensures.captures in
-    look_inside c.args.input.now m m' c.in_ok-response.response c.args.looking.negate _ c.next_after.result kept.points c.next_after.ensures lt
+    look_inside c.args.input.now m m' c.in_ok-response.response c.args.looking.negate _ c.next_after-2.result kept.points c.next_after-2.ensures lt
     c.requires.inside.position
 
 pub look-returns-clause-rewound : goal.look-returns-clause-rewound
@@ -409,6 +450,27 @@ look-returns-then-routine_fails-clause-costs t c = λ outs costs has.
     c.on_if.result responds refl (λ none. refl) c.on_if.ensures in
     omega (arith, ahead)
 
+pub look-returns-in-Some-clause-costs : goal.look-returns-in-Some-clause-costs
+look-returns-in-Some-clause-costs t c = λ outs costs has.
+    let input = c.args.input.now in
+    let u = subject input.rules input.text.now in
+    let m = c.args.machine.now in
+    let inside = c.input_for-inside.ensures in
+    let body = matcher_of u.setting u.bytes (code_routines input.code.now) outs c.args.looking.routine in
+    let responds : IsResponseOf (body (state m.captures.items c.args.here.position)) m c.leaf_response-response.result =
+    same_response m c.leaf_response-response.result outs c.args.here.position _ _ _ _ _ _ _ _ _ _ (c.leaf_response-response.ensures.responds outs) inside.setting
+    inside.text (ap code_routines inside.code) inside.index refl has.outcomes in
+    let ahead = look_cost (outs input.index) m m refl refl c.args.here c.args.looking.next (costs input.index) c.args.looking.negate body m
+    c.leaf_response-response.result c.next_after.result responds refl (λ none. refl) c.next_after.ensures in
+    let taken = same_cost c.args.remaining.now c.leaf_response-response.new.remaining outs costs c.args.here.position _ _ _ _ _ _ _ _ _ _
+    (c.leaf_response-response.ensures.costs outs costs) inside.setting inside.text (ap code_routines inside.code) inside.index refl has in
+    omega (arith, ahead, taken)
+
+pub look-returns-in-Some-clause-grows : goal.look-returns-in-Some-clause-grows
+look-returns-in-Some-clause-grows t c = λ outs costs has.
+    let taken = look-returns-in-Some-clause-costs t c outs costs has in
+    omega (arith, taken, c.leaf_response-response.ensures.remaining)
+
 pub look-returns-clause-costs : goal.look-returns-clause-costs
 look-returns-clause-costs t c = λ outs costs has.
     let input = c.args.input.now in
@@ -427,8 +489,8 @@ look-returns-clause-costs t c = λ outs costs has.
     (ap code_routines inside.code) inside.index c.enter-outer.ensures.captures has.outcomes in
     let ahead = look_cost (outs input.index) m m' kept.points (ap reverse (c.in_ok-leave.ensures.begins ∙ ap (λ s. s.begins.items) c.enter-outer.ensures.stack))
     c.args.here c.args.looking.next (costs input.index) c.args.looking.negate body inner c.in_ok-response.response
-    c.next_after.result responds c.in_ok-leave.ensures.captures (λ none. c.in_ok-response.ensures.none none ∙ c.enter-outer.ensures.captures)
-    c.next_after.ensures in
+    c.next_after-2.result responds c.in_ok-leave.ensures.captures (λ none. c.in_ok-response.ensures.none none ∙ c.enter-outer.ensures.captures)
+    c.next_after-2.ensures in
     let taken = same_cost c.args.remaining.now c.run.new.remaining outs costs c.args.here.position _ _ _ _ _ _ _ _ _ _ (c.in_ok-response.ensures.costs outs costs)
     inside.setting inside.text (ap code_routines inside.code) inside.index c.enter-outer.ensures.captures has in
     omega (arith, ahead, taken)
@@ -538,8 +600,8 @@ look-returns-clause-grows t c = λ outs costs has.
     (ap code_routines inside.code) inside.index c.enter-outer.ensures.captures has.outcomes in
     let ahead = look_cost (outs input.index) m m' kept.points (ap reverse (c.in_ok-leave.ensures.begins ∙ ap (λ s. s.begins.items) c.enter-outer.ensures.stack))
     c.args.here c.args.looking.next (costs input.index) c.args.looking.negate body inner c.in_ok-response.response
-    c.next_after.result responds c.in_ok-leave.ensures.captures (λ none. c.in_ok-response.ensures.none none ∙ c.enter-outer.ensures.captures)
-    c.next_after.ensures in
+    c.next_after-2.result responds c.in_ok-leave.ensures.captures (λ none. c.in_ok-response.ensures.none none ∙ c.enter-outer.ensures.captures)
+    c.next_after-2.ensures in
     let grown = same_entries (entry_count inner) outs costs c.args.here.position _ _ _ _ _ _ _ _ _ _ (c.in_ok-response.ensures.grows outs costs)
     inside.setting inside.text (ap code_routines inside.code) inside.index c.enter-outer.ensures.captures has in
     let outer = ap (λ s. length s.entries.items) c.enter-outer.ensures.stack in
