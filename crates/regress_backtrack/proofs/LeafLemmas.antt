@@ -1,14 +1,14 @@
 -- Routines that match one leaf.
-use Rattle.std.proofs.Common.{◌≡◌, ℕ, ◌+◌, ◌≤◌, ◌<◌, Bool, true, false, List, [], ◌∷◌, flat_map, length, take, All, Option, Some, None, IfSome, MatchOption, slice_get, refl, sym, ap, ◌∙◌, subst, append-nil, arith}
+use Rattle.std.proofs.Common.{◌≡◌, ℕ, ◌+◌, ◌≤◌, ◌<◌, Bool, true, false, List, [], flat_map, length, take, All, Option, Some, None, IfSome, MatchOption, slice_get, refl, sym, ap, ◌∙◌, subst, append-nil, arith}
 use Rattle.regress_tree.specs.Matching.{steps}
-use Rattle.regress_tree.specs.Steps.{CaptureSpan, MatchState, Setting}
+use Rattle.regress_tree.specs.Steps.{CaptureSpan, Setting}
 use Rattle.regress_tree.specs.Tree.{tree}
 use Rattle.regress_leaves.specs.Leaves.{put}
 use Rattle.regress_leaves.specs.Subject.{subject}
 use Rattle.regress_leaves.specs.declared.test.Test.{Test}
 use Rattle.regress_found.specs.Found.{state}
 use Rattle.regress_program.specs.Cost.{Cost, bytes_ahead, compared, cost_after, cost_of}
-use Rattle.regress_program.specs.Program.{Out, matcher_of, outcomes_by, reach, start}
+use Rattle.regress_program.specs.Program.{Out, matcher_of, reach, start}
 use Rattle.regress_program.specs.Shape.{Fits, IsPart, IsProgram}
 use Rattle.regress_program.specs.Stays.{IsReached}
 use Rattle.regress_program.specs.Views.{leaf_tree, op_in, part_of}
@@ -20,7 +20,7 @@ use Rattle.std.proofs.lemmas.List.Elements.{All-head}
 use Rattle.regress_backtrack.specs.Costs.{HasCost, op_cost}
 use Rattle.regress_backtrack.specs.Machine.{Groups, at}
 use Rattle.regress_backtrack.specs.Next.{CanStep, IsInput, Solve, instructions_in, routine_of}
-use Rattle.regress_backtrack.specs.Run.{IsAfter, IsLeafBody, on_if}
+use Rattle.regress_backtrack.specs.Run.{IsAfter, IsLeafBody}
 use Rattle.regress_backtrack.specs.declared.input.Input.{Input}
 use Rattle.regress_backtrack.specs.declared.machine.Place.{Place}
 use Rattle.regress_backtrack.specs.declared.run.Response.{Response}

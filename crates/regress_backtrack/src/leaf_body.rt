@@ -28,6 +28,10 @@ pub(crate) fn sole_leaf_of<'c>(input: &Input<'c, '_>) -> Option<&'c Test>
     requires input { IsInput input.now }
     ensures { IfSome result (λ test. IsLeafBody input.now test.now) }
 {
+    // a leaf follows the instruction that accepts, and longer routines start later
+    if input.first > 1 {
+        return None;
+    }
     let (leaf, next) = leaf_at(input, input.first)?;
     match instruction_in(input, next)? {
         Instruction::Accept => test_at(input, leaf),
@@ -42,6 +46,7 @@ pub(crate) fn sole_leaf_of<'c>(input: &Input<'c, '_>) -> Option<&'c Test>
 ///
 /// # Complexity
 /// It subtracts from `remaining` one for each instruction, and what a back reference is compared with.
+#[inline(never)]
 pub(crate) fn leaf_response(
     input: &Input<'_, '_>,
     test: &Test,

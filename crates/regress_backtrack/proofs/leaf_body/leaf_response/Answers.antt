@@ -1,10 +1,9 @@
-use Rattle.std.proofs.Common.{◌≡◌, ◌+◌, ◌≤◌, ℕ, List, Option, None, Some, [], length, subst, arith}
+use Rattle.std.proofs.Common.{◌≡◌, ◌+◌, ◌≤◌, None, Some, [], length, subst, arith}
 use Rattle.regress_leaves.specs.Leaves.{put}
 use Rattle.regress_leaves.specs.Subject.{subject}
 use Rattle.regress_found.specs.Found.{state}
 use Rattle.regress_program.specs.Cost.{bytes_ahead, compared}
 use Rattle.regress_tree.specs.Matching.{steps}
-use Rattle.regress_tree.specs.Steps.{CaptureSpan}
 use Rattle.regress_tree.specs.Tree.{tree}
 use Rattle.regress_backtrack.proofs.LeafLemmas.{leaf_outcomes, leaf_part, leaf_steps}
 use Rattle.regress_backtrack.proofs.leaf_body.leaf_response.Goals as goal
