@@ -1,5 +1,5 @@
 -- The rows that a memo keeps.
-use Rattle.std.proofs.Common.{zero, suc, ◌≡◌, ℕ, ◌+◌, ◌⊎◌, List, length, slice_get, replicate, Option, Some, None, refl, sym, ap, ◌∙◌, subst, inl, inr, arith}
+use Rattle.std.proofs.Common.{zero, suc, ◌≡◌, ℕ, ◌+◌, ◌-◌, ◌⊎◌, List, drop, length, slice_get, replicate, Option, Some, None, refl, sym, ap, ap₂, ◌∙◌, subst, inl, inr, arith}
 use Rattle.std.proofs.lemmas.Option.{none-some, same_Some}
 use Rattle.regress_tables.specs.declared.memo.Entry.{Entry}
 use Rattle.regress_tables.specs.declared.memo.Key.{Key}
@@ -44,11 +44,12 @@ repetitions-trans a b c ab bc = record { distinct = bc.distinct ∙ ab.distinct;
 pub repetitions-same : (leaves : List Test) (ops : List Op) (far far' : List ℕ) (r r' : Repetitions) → far' ≡ far → SameRepetitions r r' →
     AreRepetitions leaves ops far r → AreRepetitions leaves ops far' r'
 repetitions-same leaves ops far far' r r' far_is same are = record {
-  count = ap length same.uses ∙ are.count ∙ sym (ap length far_is);
+  count = omega (arith, are.count, ap length same.uses, ap length far_is);
   one = λ k x is. are.one k x (ap (λ xs. slice_get xs k) (sym same.distinct) ∙ is);
   uses = λ k pc repeated is used.
       subst (λ xs. IsRepeated leaves ops xs pc repeated) (sym same.distinct)
-      (are.uses k pc repeated (ap (λ xs. slice_get xs k) (sym far_is) ∙ is) (ap (λ xs. slice_get xs k) (sym same.uses) ∙ used));
+      (are.uses k pc repeated (ap₂ (λ xs us. slice_get (drop (length xs - length us) xs) k) (sym far_is) (sym same.uses) ∙ is)
+      (ap (λ xs. slice_get xs k) (sym same.uses) ∙ used));
 }
 
 pub rows-trans : (a b c : Memo) → SameRows a b → SameRows b c → SameRows a c

@@ -9,6 +9,7 @@ mod FollowLemmas
 mod KeptLemmas
 mod MemoLemmas
 mod MemoryLemmas
+mod OrderLemmas
 mod ProbeLemmas
 mod RepetitionLemmas
 mod ResolveLemmas

@@ -16,7 +16,7 @@ use Rattle.regress_tables.specs.declared.repetitions.Repetitions.{Repetitions}
 use Rattle.regress_tables.specs.declared.table.Table.{Table}
 use Rattle.regress_tables.specs.Bits.{bits_of}
 use Rattle.regress_tables.specs.Probes.{Coded, IsProbe, Leads, digit, jumps_if}
-use Rattle.regress_tables.specs.Repetitions.{AreEnds, AreRepetitions, AreStored, EndsIn, IsCode, IsCoded, IsRowFrom, IsStored, SameRepetitions, code_by, probe_by, repetition_tree}
+use Rattle.regress_tables.specs.Repetitions.{AreEnds, AreRepetitions, AreStored, EndsIn, IsCode, IsCoded, IsRowFrom, IsStored, SameRepetitions, code_by, others_in, probe_by, repetition_tree}
 use Rattle.regress_tables.specs.Rows.{row_bit}
 use Rattle.regress_tables.specs.Table.{IsRight, SameShape, number_of}
 use Rattle.regress_tables.proofs.MemoLemmas.{represented, row_bit-more}
@@ -36,8 +36,8 @@ module _ (u : Subject) (body_of : ℕ → Matcher) (out : Out) (table : Table) (
       ((represented out table r to right refl is.1 is.2).tells next true lt) goes)
 
   pub repeated-probe : (leaves : List Test) (ops : List Op) (far : List ℕ) (r : Repetitions) (k pc x : ℕ) (repeated : Repeated) (op : Op) →
-      table.width ≡ length ops → AreRepetitions leaves ops far r → AreEnds u leaves table x r → slice_get far k ≡ Some pc →
-      slice_get r.uses.items k ≡ Some (Some repeated) → slice_get ops pc ≡ Some op →
+      table.width ≡ length ops → AreRepetitions leaves ops far r → AreEnds u leaves table x r → slice_get (drop (others_in far r) far) k ≡ Some pc →
+      slice_get r.uses.items k ≡ Some repeated → slice_get ops pc ≡ Some op →
       IsProbe u.setting u.bytes u.direction body_of out op x (probe_by table repeated.next (slice_index_or r.ends.items repeated.repetition 0))
   repeated-probe leaves ops far r k pc x repeated op width are ends at uses is_op =
       let used = are.uses k pc repeated at uses in
@@ -47,15 +47,14 @@ module _ (u : Subject) (body_of : ℕ → Matcher) (out : Out) (table : Table) (
       (row-leads (repetition_tree leaves used.repetition) repeated.next x row end.to (omega (arith, used.next, width)) end.goes end.ends)
 
   -- The digits are those of what the instructions lead to.
-  pub coded-by : (ops : List Op) (x : ℕ) (ends far : List ℕ) (uses : List (Option Repeated)) → length uses ≡ length far → AreStored table ends uses →
-      ((k pc : ℕ) (repeated : Repeated) (op : Op) → slice_get far k ≡ Some pc → slice_get uses k ≡ Some (Some repeated) → slice_get ops pc ≡ Some op →
+  pub coded-by : (ops : List Op) (x : ℕ) (ends far : List ℕ) (uses : List Repeated) → length uses ≡ length far → AreStored table ends uses →
+      ((k pc : ℕ) (repeated : Repeated) (op : Op) → slice_get far k ≡ Some pc → slice_get uses k ≡ Some repeated → slice_get ops pc ≡ Some op →
       IsProbe u.setting u.bytes u.direction body_of out op x (probe_by table repeated.next (slice_index_or ends repeated.repetition 0))) →
       Coded u.setting u.bytes u.direction body_of out ops far x (code_by table ends uses)
   coded-by ops x ends [] [] count stored probes = refl
-  coded-by ops x ends [] (o ∷ uses) count stored probes = absurd (omega (arith, count))
+  coded-by ops x ends [] (repeated ∷ uses) count stored probes = absurd (omega (arith, count))
   coded-by ops x ends (pc ∷ far) [] count stored probes = absurd (omega (arith, count))
-  coded-by ops x ends (pc ∷ far) (None ∷ uses) count stored probes = absurd stored
-  coded-by ops x ends (pc ∷ far) (Some repeated ∷ uses) count stored probes = (
+  coded-by ops x ends (pc ∷ far) (repeated ∷ uses) count stored probes = (
     code_by table ends uses,
     probe_by table repeated.next (slice_index_or ends repeated.repetition 0),
     refl,
@@ -64,15 +63,15 @@ module _ (u : Subject) (body_of : ℕ → Matcher) (out : Out) (table : Table) (
   )
 
 -- one more digit
-pub code-more : (t : Table) (ends : List ℕ) (uses : List (Option Repeated)) (k code : ℕ) (repeated : Repeated) (p : Probe) → 0 < k → k ≤ length uses →
-    slice_get uses (k - 1) ≡ Some (Some repeated) → IsStored t ends repeated → p ≡ probe_by t repeated.next (slice_index_or ends repeated.repetition 0) →
+pub code-more : (t : Table) (ends : List ℕ) (uses : List Repeated) (k code : ℕ) (repeated : Repeated) (p : Probe) → 0 < k → k ≤ length uses →
+    slice_get uses (k - 1) ≡ Some repeated → IsStored t ends repeated → p ≡ probe_by t repeated.next (slice_index_or ends repeated.repetition 0) →
     AreStored t ends (drop k uses) → code ≡ code_by t ends (drop k uses) →
     AreStored t ends (drop (k - 1) uses) × (code * 4 + digit p ≡ code_by t ends (drop (k - 1) uses))
 code-more t ends uses k code repeated p some within at stored is all codes =
     let next : (k - 1) + 1 ≡ k = omega (arith, some) in
-    let e : drop (k - 1) uses ≡ Some repeated ∷ drop k uses =
-    drop_more uses (k - 1) None (omega (arith, some, within))
-    ∙ ap₂ (λ o j. o ∷ drop j uses) (get_or_from_slice_get uses (k - 1) (Some repeated) None at) next in (
+    let e : drop (k - 1) uses ≡ repeated ∷ drop k uses =
+    drop_more uses (k - 1) repeated (omega (arith, some, within))
+    ∙ ap₂ (λ r j. r ∷ drop j uses) (get_or_from_slice_get uses (k - 1) repeated repeated at) next in (
       subst (AreStored t ends) (sym e) (stored, all),
       ap₂ (λ rest q. rest * 4 + digit q) codes is ∙ ap (code_by t ends) (sym e),
     )
@@ -86,17 +85,15 @@ module _ (t t' : Table) (extra : List Bool) (bits : bits_of t'.bits ≡ bits_of 
       ap jumps_if (row_bit-more t t' extra bits same number next true
       (subst (λ k. k * (2 * t.width) ≤ length (bits_of t.bits)) (let e : suc number ≡ number + 1 = omega arith in e) stored) lt)
 
-  code-kept : (ends : List ℕ) (uses : List (Option Repeated)) → AreStored t ends uses → code_by t' ends uses ≡ code_by t ends uses
+  code-kept : (ends : List ℕ) (uses : List Repeated) → AreStored t ends uses → code_by t' ends uses ≡ code_by t ends uses
   code-kept ends [] stored = refl
-  code-kept ends (None ∷ uses) stored = absurd stored
-  code-kept ends (Some repeated ∷ uses) stored =
+  code-kept ends (repeated ∷ uses) stored =
       ap₂ (λ rest p. rest * 4 + digit p) (code-kept ends uses stored.1)
       (probe-kept repeated.next (slice_index_or ends repeated.repetition 0) stored.0.0 stored.0.1)
 
-  stored-kept : (ends : List ℕ) (uses : List (Option Repeated)) → AreStored t ends uses → AreStored t' ends uses
+  stored-kept : (ends : List ℕ) (uses : List Repeated) → AreStored t ends uses → AreStored t' ends uses
   stored-kept ends [] stored = tt
-  stored-kept ends (None ∷ uses) stored = absurd stored
-  stored-kept ends (Some repeated ∷ uses) stored = (
+  stored-kept ends (repeated ∷ uses) stored = (
     (
       omega (arith, stored.0.0, same.width),
       subst (λ w. slice_index_or ends repeated.repetition 0 * (2 * w) ≤ length (bits_of t'.bits)) (sym same.width)

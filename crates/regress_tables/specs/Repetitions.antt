@@ -1,5 +1,5 @@
 -- Instructions that match an exact number of characters.
-use Rattle.std.specs.Prelude.{◌≡◌, ◌≢◌, ℕ, zero, suc, ◌+◌, ◌*◌, ◌<◌, ◌≤◌, true, List, [], ◌∷◌, IfSome, length, slice_get, slice_index_or, Option, Some, None}
+use Rattle.std.specs.Prelude.{◌≡◌, ◌≢◌, ℕ, zero, suc, ◌+◌, ◌-◌, ◌*◌, ◌<◌, ◌≤◌, true, List, [], ◌∷◌, IfSome, drop, length, slice_get, slice_index_or, Option, Some, None}
 use Rattle.regress_prefilter.specs.OneCharacter.{takes_one}
 use Rattle.regress_leaves.specs.Leaves.{GoesTo, exactly}
 use Rattle.regress_leaves.specs.Subject.{Subject}
@@ -36,11 +36,15 @@ pub record IsRepeated (leaves : List Test) (ops : List Op) (distinct : List Repe
   pub matches : slice_get ops pc ≡ Some (part (repetition_tree leaves repetition) repeated.next)
   pub next : repeated.next < length ops
 
--- These are repetitions of instructions that look at the text.
+-- how many of the instructions that look at the text match no repetition
+abbrev pub others_in : (far : List ℕ) → Repetitions → ℕ
+others_in far r = length far - length r.uses.items
+
+-- The last of the instructions that look at the text match these repetitions.
 pub record AreRepetitions (leaves : List Test) (ops : List Op) (far : List ℕ) (r : Repetitions) : Type 0 where
   pub one : RepeatOne leaves r.distinct.items
-  pub count : length r.uses.items ≡ length far
-  pub uses : (k pc : ℕ) (repeated : Repeated) → slice_get far k ≡ Some pc → slice_get r.uses.items k ≡ Some (Some repeated) →
+  pub count : length r.uses.items ≤ length far
+  pub uses : (k pc : ℕ) (repeated : Repeated) → slice_get (drop (others_in far r) far) k ≡ Some pc → slice_get r.uses.items k ≡ Some repeated →
       IsRepeated leaves ops r.distinct.items pc repeated
 
 -- Only where they end may differ.
@@ -74,19 +78,17 @@ probe_by t next (suc number) = jumps_if (row_bit t number next true)
 abbrev pub IsStored : Table → (ends : List ℕ) → Repeated → Type 0
 IsStored t ends repeated = (repeated.next < t.width) × (slice_index_or ends repeated.repetition 0 * (2 * t.width) ≤ length (bits_of t.bits))
 
--- All instructions match repetitions, and so it is with each.
-abbrev pub AreStored : Table → (ends : List ℕ) → List (Option Repeated) → Type 0
+-- So it is with each of these.
+abbrev pub AreStored : Table → (ends : List ℕ) → List Repeated → Type 0
 AreStored t ends [] = Unit {0}
-AreStored t ends (None ∷ uses) = ⊥
-AreStored t ends (Some repeated ∷ uses) = IsStored t ends repeated × AreStored t ends uses
+AreStored t ends (repeated ∷ uses) = IsStored t ends repeated × AreStored t ends uses
 
 -- the digits of what instructions lead to that end in these rows
-abbrev pub code_by : Table → (ends : List ℕ) → List (Option Repeated) → ℕ
+abbrev pub code_by : Table → (ends : List ℕ) → List Repeated → ℕ
 code_by t ends [] = 0
-code_by t ends (None ∷ uses) = code_by t ends uses * 4
-code_by t ends (Some repeated ∷ uses) = code_by t ends uses * 4 + digit (probe_by t repeated.next (slice_index_or ends repeated.repetition 0))
+code_by t ends (repeated ∷ uses) = code_by t ends uses * 4 + digit (probe_by t repeated.next (slice_index_or ends repeated.repetition 0))
 
--- These are the digits of all instructions that look at the text.
+-- These are the digits of the instructions that match repetitions.
 pub record IsCode (t : Table) (r : Repetitions) (code : ℕ) : Type 0 where
   pub stored : AreStored t r.ends.items r.uses.items
   pub is : code ≡ code_by t r.ends.items r.uses.items

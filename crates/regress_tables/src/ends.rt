@@ -57,8 +57,8 @@ impl Repetitions {
         self.code = None;
     }
 
-    /// Returns the digits of what the instructions lead to that look at the text, from the last position. It is `None` if some
-    /// match no repetition, or if there are too many.
+    /// Returns the digits of what the instructions lead to that match repetitions, from the last position. It is `None` if
+    /// there are too many, or if a row is not stored.
     pub(crate) fn code(&mut self, table: &Table) -> Option<u64>
         requires digits { IsCoded table.now self.old }
         ensures same { SameRepetitions self.old self.new }
@@ -78,8 +78,7 @@ impl Repetitions {
     {
         let mut code: u64 = 0;
         for k in (0..self.uses.len()).rev() {
-            let repeated = self.uses[k]?;
-            let probe = self.probe(table, repeated)?;
+            let probe = self.probe(table, self.uses[k])?;
             let next = with_digit(code, probe)?;
             code = next;
         }
@@ -88,7 +87,7 @@ impl Repetitions {
 
     /// Returns what an instruction leads to that matches a repetition, from the last position. It is `None` if that row is not
     /// stored.
-    pub(crate) fn probe(&self, table: &Table, repeated: Repeated) -> Option<Probe>
+    fn probe(&self, table: &Table, repeated: Repeated) -> Option<Probe>
         ensures probe { IfSome result (λ probe. probe ≡ probe_by table.now repeated.next (slice_index_or self.now.ends.items repeated.repetition 0)) }
         ensures stored { IfSome result (λ _. IsStored table.now self.now.ends.items repeated) }
     {

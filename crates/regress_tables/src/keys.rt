@@ -1,5 +1,5 @@
 //! What rows are computed from.
-ghost use Rattle.std.specs.Prelude.{◌≡◌, ◌≤◌, ◌<◌, ℕ, IfSome, Some, false, length, slice_get, slice_index_or, true};
+ghost use Rattle.std.specs.Prelude.{◌≡◌, ◌≤◌, ◌<◌, ℕ, IfSome, Some, false, length, slice_get, true};
 ghost use Rattle.regress_leaves.specs.Subject.{subject};
 ghost use Rattle.regress_tree.specs.Reading.{direction_if};
 ghost use Rattle.regress_program.specs.Below.{row_of};
@@ -11,7 +11,7 @@ ghost use Rattle.regress_tables.specs.Evaluated.{CanFill};
 ghost use Rattle.regress_tables.specs.Memo.{AreFarBytes, HasKey, IsKept, SameRows};
 ghost use Rattle.regress_tables.specs.Numbers.{numbers_of};
 ghost use Rattle.regress_tables.specs.Probes.{Coded, IsProbe};
-ghost use Rattle.regress_tables.specs.Repetitions.{AreEnds, AreRepetitions, IsCoded};
+ghost use Rattle.regress_tables.specs.Repetitions.{AreRepetitions, IsCoded};
 ghost use Rattle.regress_tables.specs.Runs.{AreRuns};
 ghost use Rattle.regress_tables.specs.Table.{AreRight, AreTables, IsRight, evaluated, index};
 
@@ -19,6 +19,7 @@ use crate::cells::row_of;
 use crate::evaluate::Input;
 use crate::memo::{Key, Memo};
 use crate::probe::{Probe, probe_at, with_digit};
+use crate::runs::Runs;
 use crate::table::Table;
 use regress_leaves::ascii::next_ascii;
 use regress_leaves::reading::next_read;
@@ -152,25 +153,24 @@ fn probes_at(
     {
         return None;
     }
-    if let Some(code) = memo.repetitions.code(table) {
-        return Some(code);
-    }
-    let mut code: u64 = 0;
-    for k in (0..memo.far.len()).rev() {
-        let probe = far_probe(input, routine, table, memo, k, position)?;
+    let mut code = memo.repetitions.code(table)?;
+    let others = memo.far.len() - memo.repetitions.uses.len();
+    for k in (0..others).rev() {
+        let pc = memo.far[k];
+        let probe = far_probe(input, routine, table, &mut memo.runs, pc, position)?;
         let next = with_digit(code, probe)?;
         code = next;
     }
     Some(code)
 }
 
-/// Returns what a far instruction leads to from a position, from which the repetitions lead to known rows.
+/// Returns what a far instruction leads to from a position, or `None` if there is no instruction with this index.
 fn far_probe(
     input: &Input<'_, '_>,
     routine: &Routine,
     table: &Table,
-    memo: &mut Memo<'_>,
-    k: usize,
+    runs: &mut Runs,
+    pc: usize,
     position: usize,
 ) -> Option<Probe>
     requires no_reference { has_no_back_reference (code_routines input.now.code.now) ≡ true }
@@ -178,25 +178,15 @@ fn far_probe(
     requires can { CanFill input.now (routine_in input.now.code.now.program.leaves.items routine.now) table.now }
     requires position { position ≤ table.now.length }
     requires at { index table.now 0 false position ≡ length (evaluated table.now) }
-    requires k { k < length memo.old.far.items }
-    requires repetitions { AreRepetitions input.now.code.now.program.leaves.items
-        (routine_in input.now.code.now.program.leaves.items routine.now).ops memo.old.far.items memo.old.repetitions }
-    requires ends { AreEnds (subject input.now.rules input.now.text.now) input.now.code.now.program.leaves.items table.now position memo.old.repetitions }
-    requires runs { AreRuns (subject input.now.rules input.now.text.now) input.now.code.now.program.leaves.items memo.old.runs }
-    ensures same { SameRows memo.old memo.new }
-    ensures repetitions { memo.new.repetitions ≡ memo.old.repetitions }
-    ensures runs { AreRuns (subject input.now.rules input.now.text.now) input.now.code.now.program.leaves.items memo.new.runs }
+    requires runs { AreRuns (subject input.now.rules input.now.text.now) input.now.code.now.program.leaves.items runs.old }
+    ensures runs { AreRuns (subject input.now.rules input.now.text.now) input.now.code.now.program.leaves.items runs.new }
     ensures probe { IfSome result (λ probe. (outs : ℕ → Out) → AreRight outs input.now.tables.now → IsRight (outs (length input.now.tables.now)) table.now →
         (let u = subject input.now.rules input.now.text.now in
-        (op : Op) → slice_get (routine_in input.now.code.now.program.leaves.items routine.now).ops (slice_index_or memo.old.far.items k 0) ≡ Some op →
+        (op : Op) → slice_get (routine_in input.now.code.now.program.leaves.items routine.now).ops pc ≡ Some op →
         IsProbe u.setting u.bytes u.direction (matcher_of u.setting u.bytes (code_routines input.now.code.now) outs) (outs (length input.now.tables.now)) op position probe)) }
 {
-    if let Some(repeated) = memo.repetitions.use_of(k) {
-        return memo.repetitions.probe(table, repeated);
-    }
-    let pc = memo.far[k];
     if pc >= routine.len() {
         return None;
     }
-    Some(probe_at(*input, table, &mut memo.runs, routine.at(pc), position))
+    Some(probe_at(*input, table, runs, routine.at(pc), position))
 }

@@ -42,7 +42,8 @@ pub struct Entry {
 /// The rows that were filled so far.
 #[derive(Drop)]
 pub(crate) struct Memo<'t> {
-    /// The instructions that look at the text, but for those that match one character.
+    /// The instructions that look at the text, but for those that match one character. Those that match an exact number of
+    /// characters are last.
     pub(crate) far: Vec<usize>,
     /// The next bytes of all of those.
     pub(crate) far_bytes: NextBytes,
@@ -92,9 +93,9 @@ impl<'t> Memo<'t> {
     {
         let count = SLOTS.min(input.text.len() + 1);
         let rows = DIRECT_ROWS.min(input.text.len() / POSITIONS);
-        let far = far_of(alloc, input, routine)?;
+        let listed = far_of(alloc, input, routine)?;
+        let (far, repetitions) = Repetitions::new(alloc, input, routine, &listed)?;
         let far_bytes = far_bytes_of(input, routine, &far);
-        let repetitions = Repetitions::new(alloc, input, routine, &far)?;
         Ok(Memo {
             far,
             far_bytes,

@@ -16,7 +16,7 @@ use std::alloc::{AllocError, Global};
 const DISTINCT: usize = 32;
 
 impl Repetitions {
-    /// Returns the repetitions of these instructions of a routine.
+    /// Returns these instructions of a routine, those last that match repetitions, and the repetitions.
     ///
     /// # Errors
     /// Returns [`AllocError`] if an allocation fails.
@@ -25,23 +25,35 @@ impl Repetitions {
         input: Input<'_, '_>,
         routine: &Routine,
         far: &[usize],
-    ) -> Result<Repetitions, AllocError>
-        ensures are { IfOk result (AreRepetitions input.entry.code.now.program.leaves.items
-            (ops_in input.entry.code.now.program.leaves.items (listed routine.now)) far.now) }
-        ensures digits { IfOk result (λ r. (t : Table) → IsCoded t r) }
+    ) -> Result<(Vec<usize>, Repetitions), AllocError>
+        ensures all { IfOk result (λ both. (k pc : ℕ) → slice_get far.now k ≡ Some pc → (j : ℕ) × (slice_get both.0.items j ≡ Some pc)) }
+        ensures are { IfOk result (λ both. AreRepetitions input.entry.code.now.program.leaves.items
+            (ops_in input.entry.code.now.program.leaves.items (listed routine.now)) both.0.items both.1) }
+        ensures digits { IfOk result (λ both. (t : Table) → IsCoded t both.1) }
     {
         let mut distinct = Vec::new(alloc);
-        let mut uses = Vec::with_capacity(alloc, far.len())?;
+        let mut uses = Vec::new(alloc);
+        let mut ordered = Vec::new(alloc);
+        let mut last = Vec::new(alloc);
         for k in 0..far.len() {
-            uses.push(repeated_at(&mut distinct, input, routine, far[k])?)?;
+            let pc = far[k];
+            match repeated_at(&mut distinct, input, routine, pc)? {
+                Some(repeated) => {
+                    uses.push(repeated)?;
+                    last.push(pc)?;
+                }
+                None => ordered.push(pc)?,
+            }
         }
+        ordered.append(&mut last)?;
         let ends = vec![in alloc; 0; distinct.len()]?;
-        Ok(Repetitions {
+        let repetitions = Repetitions {
             distinct,
             uses,
             ends,
             code: None,
-        })
+        };
+        Ok((ordered, repetitions))
     }
 }
 

@@ -1,5 +1,5 @@
 //! Repetitions of characters: what instructions match that match an exact number of characters.
-ghost use Rattle.std.specs.Prelude.{◌≡◌, IfSome, Some, slice_get, vec_len};
+ghost use Rattle.std.specs.Prelude.{◌≡◌, vec_len};
 
 /// An exact number of characters that each match a leaf.
 #[derive(Clone, Copy)]
@@ -24,24 +24,11 @@ pub struct Repeated {
 pub struct Repetitions {
     /// Each repetition once.
     pub(crate) distinct: Vec<Repetition>,
-    /// For instructions that look at the text, which repetition they match, if any.
-    pub(crate) uses: Vec<Option<Repeated>>,
+    /// For the last instructions that look at the text, which repetition they match. The others match none.
+    pub(crate) uses: Vec<Repeated>,
     /// For each repetition where it ends, from the last position: 1 more than the number of the row there, or 0 if it fails.
     pub(crate) ends: Vec<usize>,
     /// The digits of what these instructions lead to, in order, from any position from where the repetitions end so, if that is known.
     pub(crate) code: Option<u64>,
     ghost long: { vec_len ends ≡ vec_len distinct },
-}
-
-impl Repetitions {
-    /// Returns which repetition an instruction matches, of those that look at the text the one with this index.
-    pub(crate) fn use_of(&self, k: usize) -> Option<Repeated>
-        ensures { IfSome result (λ repeated. slice_get self.now.uses.items k ≡ Some (Some repeated)) }
-    {
-        if k < self.uses.len() {
-            self.uses[k]
-        } else {
-            None
-        }
-    }
 }

@@ -6,7 +6,7 @@ use Rattle.regress_program.specs.Views.{routine_in}
 use Rattle.regress_code.specs.Code.{code_routines}
 use Rattle.regress_tables.specs.Memo.{SameRows}
 use Rattle.regress_tables.specs.Probes.{Coded}
-use Rattle.regress_tables.specs.Repetitions.{AreEnds, IsCoded}
+use Rattle.regress_tables.specs.Repetitions.{IsCoded}
 use Rattle.regress_tables.specs.Runs.{AreRuns}
 use Rattle.regress_tables.specs.Table.{AreRight, IsRight}
 use Rattle.regress_tables.proofs.keys.probes_at.Given as goal
@@ -15,7 +15,6 @@ abbrev pub invariant-loop-k : goal.invariant-loop-k
 invariant-loop-k l = record {
   runs : AreRuns (subject l.input.rules l.input.text.now) l.input.code.now.program.leaves.items l.memo.runs;
   same : SameRows l.fn.memo l.memo;
-  ends : AreEnds (subject l.input.rules l.input.text.now) l.input.code.now.program.leaves.items l.table l.position l.memo.repetitions;
   rows : IsCoded l.table l.memo.repetitions;
   within : l.k ≤ length l.fn.memo.far.items;
   coded : (outs : ℕ → Out) → AreRight outs l.input.tables.now → IsRight (outs (length l.input.tables.now)) l.table →
