@@ -10,12 +10,12 @@ ghost use Rattle.regress_tables.specs.declared.table.Table.{Table};
 ghost use Rattle.regress_tables.specs.Memo.{AreBytesOf, AreFarBytes, Covers, IsDirect, IsKept, IsNear, direct_index};
 
 use crate::evaluate::Input;
+use crate::repeated::is_one;
 use crate::repetitions::Repetitions;
 use crate::runs::Runs;
 use crate::symbols::Symbols;
 use regress_base::bytesearch::ByteBitmap;
 use regress_code::next_bytes::{NextBytes, instruction_next_bytes};
-use regress_leaves::leaves::takes_one;
 use regress_program::instruction::{Instruction, Routine};
 use std::alloc::{AllocError, Global};
 
@@ -242,10 +242,7 @@ fn is_far(input: Input<'_, '_>, instruction: Instruction) -> bool
     ensures { result ≡ false → IsNear (op_in input.entry.code.now.program.leaves.items instruction) }
 {
     match instruction {
-        Instruction::Leaf { leaf, .. } => match input.test(leaf) {
-            Some(test) => !takes_one(&test.node),
-            None => true,
-        },
+        Instruction::Leaf { leaf, .. } => !is_one(input, leaf),
         Instruction::Characters { .. } | Instruction::Look { .. } => true,
         _ => false,
     }

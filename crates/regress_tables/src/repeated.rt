@@ -112,8 +112,8 @@ fn index_in(
     Ok(Some(distinct.len() - 1))
 }
 
-/// Returns whether a leaf matches one character.
-fn is_one(input: Input<'_, '_>, leaf: usize) -> bool
+/// Returns whether there is a leaf with this index, and it matches one character.
+pub(crate) fn is_one(input: Input<'_, '_>, leaf: usize) -> bool
     ensures { result ≡ true → takes_one (leaf_in input.entry.code.now.program.leaves.items leaf) ≡ true }
 {
     match input.test(leaf) {
