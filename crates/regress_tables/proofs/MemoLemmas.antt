@@ -34,7 +34,7 @@ use Rattle.regress_tables.specs.Probes.{CanProbe, Coded, IsProbe, Leads, digit, 
 use Rattle.regress_tables.specs.Symbols.{AreAlikeIn}
 use Rattle.regress_program.specs.Tidy.{has_no_back_reference}
 use Rattle.regress_program.proofs.lemmas.Instructions.{no_reference-at}
-use Rattle.regress_tables.specs.Table.{AreRight, Grows, IsRight, SameShape, Tells, cell, evaluated, index, number_of, row_bits}
+use Rattle.regress_tables.specs.Table.{IsNumberAt, AreRight, Grows, IsRight, SameShape, Tells, cell, evaluated, index, number_of, row_bits}
 use Rattle.regress_tables.proofs.BitLemmas.{bits-len}
 use Rattle.regress_tables.proofs.FillLemmas.{SameShape-trans, same-index, same-row}
 use Rattle.regress_tables.proofs.KeptLemmas.{kept-same, repetitions-refl, repetitions-same}
@@ -237,6 +237,10 @@ represented out t row x right is within numbered = record {
       (omega (arith, index-row t row x pc moved is, column-less t.width pc moved lt, rows, length-evaluated t, t.filled, bits-len t.bits)) a e m p
       ∙ cell-number t pc moved x lt ∙ ap (λ k. row_bit t (number_of t k) pc moved) is;
 }
+
+pub represented-at : (out : Out) (t : Table) (x number : ℕ) → IsRight out t → IsNumberAt t x number → Represents out t number x
+represented-at out t x number right is =
+    subst (λ k. Represents out t k x) (sym is.2) (represented out t (row_of (direction_if t.backwards) t.length x) x right refl is.0 is.1)
 
 same-row_of : (t t' : Table) (x : ℕ) → SameShape t t' → row_of (direction_if t'.backwards) t'.length x ≡ row_of (direction_if t.backwards) t.length x
 same-row_of t t' x same = ap₂ (λ b n. row_of (direction_if b) n x) same.backwards same.length

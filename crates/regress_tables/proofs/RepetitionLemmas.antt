@@ -19,7 +19,7 @@ use Rattle.regress_tables.specs.Probes.{Coded, IsProbe, Leads, digit, jumps_if}
 use Rattle.regress_tables.specs.Repetitions.{AreEnds, AreRepetitions, AreStored, EndsIn, IsCode, IsCoded, IsRowFrom, IsStored, SameRepetitions, code_by, others_in, probe_by, repetition_tree}
 use Rattle.regress_tables.specs.Rows.{row_bit}
 use Rattle.regress_tables.specs.Table.{IsRight, SameShape, number_of}
-use Rattle.regress_tables.proofs.MemoLemmas.{represented, row_bit-more}
+use Rattle.regress_tables.proofs.MemoLemmas.{represented-at, row_bit-more}
 use Rattle.regress_tables.proofs.ProbeLemmas.{part_fails, part_jumps}
 
 module _ (u : Subject) (body_of : ℕ → Matcher) (out : Out) (table : Table) (right : IsRight out table) where
@@ -30,10 +30,10 @@ module _ (u : Subject) (body_of : ℕ → Matcher) (out : Out) (table : Table) (
       subst (λ k. Leads u.setting u.bytes u.direction body_of out (part t next) next position (probe_by table next k)) (sym is)
       (part_fails u.setting u.bytes u.direction body_of out t next position goes)
   row-leads t next position row (Some to) lt goes is =
-      let r = row_of (direction_if table.backwards) table.length to in
-      subst (λ k. Leads u.setting u.bytes u.direction body_of out (part t next) next position (probe_by table next k)) (sym is.3)
-      (part_jumps u.setting u.bytes u.direction body_of out t next position to (row_bit table (number_of table r) next true) is.0
-      ((represented out table r to right refl is.1 is.2).tells next true lt) goes)
+      let number = is.1.0 in
+      subst (λ k. Leads u.setting u.bytes u.direction body_of out (part t next) next position (probe_by table next k)) (sym is.1.2)
+      (part_jumps u.setting u.bytes u.direction body_of out t next position to (row_bit table number next true) is.0
+      ((represented-at out table to number right is.1.1).tells next true lt) goes)
 
   pub repeated-probe : (leaves : List Test) (ops : List Op) (far : List ℕ) (r : Repetitions) (k pc x : ℕ) (repeated : Repeated) (op : Op) →
       table.width ≡ length ops → AreRepetitions leaves ops far r → AreEnds u leaves table x r → slice_get (drop (others_in far r) far) k ≡ Some pc →

@@ -4,16 +4,13 @@ use Rattle.regress_prefilter.specs.OneCharacter.{takes_one}
 use Rattle.regress_leaves.specs.Leaves.{GoesTo, exactly}
 use Rattle.regress_leaves.specs.Subject.{Subject}
 use Rattle.regress_leaves.specs.declared.test.Test.{Test}
-use Rattle.regress_tree.specs.Reading.{direction_if}
 use Rattle.regress_tree.specs.Tree.{Tree}
-use Rattle.regress_program.specs.Below.{row_of}
 use Rattle.regress_program.specs.Program.{Op, part}
 use Rattle.regress_program.specs.Views.{leaf_in}
 use Rattle.regress_tables.specs.Bits.{bits_of}
-use Rattle.regress_tables.specs.Numbers.{numbers_of}
 use Rattle.regress_tables.specs.Probes.{digit, jumps_if}
 use Rattle.regress_tables.specs.Rows.{row_bit}
-use Rattle.regress_tables.specs.Table.{number_of}
+use Rattle.regress_tables.specs.Table.{IsNumberAt}
 use Rattle.regress_tables.specs.declared.probe.Probe.{Probe}
 use Rattle.regress_tables.specs.declared.probe.Probe.TheVariants as probes
 use Rattle.regress_tables.specs.declared.repetitions.Repeated.{Repeated}
@@ -55,8 +52,7 @@ pub record SameRepetitions (r r' : Repetitions) : Type 0 where
 -- It is 1 more than the number of the row at a position, which is another one than `from`, or 0 if there is no position.
 abbrev pub IsRowFrom : Table → (from : ℕ) → Option ℕ → (row : ℕ) → Type 0
 IsRowFrom t from None row = row ≡ 0
-IsRowFrom t from (Some to) row = (to ≢ from) × (to ≤ t.length) × (row_of (direction_if t.backwards) t.length to < length (numbers_of t.rows))
-    × (row ≡ suc (number_of t (row_of (direction_if t.backwards) t.length to)))
+IsRowFrom t from (Some to) row = (to ≢ from) × ((number : ℕ) × IsNumberAt t to number × (row ≡ suc number))
 
 -- A tree leads from a position to this row.
 pub record EndsIn (u : Subject) (table : Table) (t : Tree) (position row : ℕ) : Type 0 where

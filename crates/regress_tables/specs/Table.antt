@@ -2,7 +2,7 @@
 use Rattle.std.specs.Prelude.{◌≡◌, ℕ, ◌+◌, ◌-◌, ◌*◌, ◌≤◌, ◌<◌, Bool, true, false, List, [], ◌∷◌, ◌++◌, length, take, drop, flat_map, slice_get, slice_index_or, Some}
 use Rattle.regress_tree.specs.Reading.{direction_if}
 use Rattle.regress_tree.specs.Steps.{MatchState}
-use Rattle.regress_program.specs.Below.{place}
+use Rattle.regress_program.specs.Below.{place, row_of}
 use Rattle.regress_program.specs.Program.{Routine, At, Out}
 use Rattle.regress_tables.specs.Bits.{bits_of}
 use Rattle.regress_tables.specs.Numbers.{numbers_of}
@@ -33,6 +33,11 @@ evaluated t = flat_map (row_bits t) (numbers_of t.rows) ++ drop (t.distinct * (2
 -- The number of a row. Those that have none yet are stored in order.
 abbrev pub number_of : Table → (row : ℕ) → ℕ
 number_of t row = slice_index_or (numbers_of t.rows) row (t.distinct + (row - length (numbers_of t.rows)))
+
+-- The row at a position has a number, and this is it.
+abbrev pub IsNumberAt : Table → (position number : ℕ) → Type 0
+IsNumberAt t position number = (position ≤ t.length) × (row_of (direction_if t.backwards) t.length position < length (numbers_of t.rows))
+    × (number ≡ number_of t (row_of (direction_if t.backwards) t.length position))
 
 -- the bit of a state
 unfoldable pub cell : Table → (pc : ℕ) (moved : Bool) (position : ℕ) → Bool

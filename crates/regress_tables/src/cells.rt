@@ -1,8 +1,8 @@
 //! The bits of a table.
-ghost use Rattle.std.specs.Prelude.{◌≡◌, ◌<◌, ◌≤◌, ◌*◌, ◌^◌, [], ◌∷◌, IfOk, length};
+ghost use Rattle.std.specs.Prelude.{◌≡◌, ◌<◌, ◌≤◌, ◌*◌, ◌^◌, [], ◌∷◌, IfOk, IfSome, length};
 ghost use Rattle.regress_tree.specs.Reading.{direction_if};
 ghost use Rattle.regress_program.specs.Below.{column, row_of};
-ghost use Rattle.regress_tables.specs.Table.{Grows, cell, evaluated, number_of, size};
+ghost use Rattle.regress_tables.specs.Table.{Grows, IsNumberAt, cell, evaluated, number_of, size};
 
 use crate::bits::Bits;
 use crate::memory::most_words;
@@ -85,6 +85,21 @@ impl Table {
         } else {
             false
         }
+    }
+
+    /// Returns the number of the row at a position, or `None` if that row has none.
+    pub(crate) fn number_at(&self, position: usize) -> Option<usize>
+        ensures number { IfSome result (IsNumberAt self.now position) }
+        ensures within { IfSome result (λ number. number ≤ self.now.length) }
+    {
+        if position > self.length {
+            return None;
+        }
+        let row = row_of(self.backwards, self.length, position);
+        if row >= self.rows.len() {
+            return None;
+        }
+        Some(self.number_of(row))
     }
 
     /// Returns the number of a row, or the number that it would have if none of the rows after those with a number were equal.

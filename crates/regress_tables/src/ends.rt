@@ -8,7 +8,6 @@ ghost use Rattle.regress_tables.specs.Rows.{row_bit};
 ghost use Rattle.regress_tables.specs.Runs.{AreRuns};
 ghost use Rattle.regress_tables.specs.declared.table.Table.{Table};
 
-use crate::cells::row_of;
 use crate::characters::characters_end;
 use crate::evaluate::Input;
 use crate::probe::{Probe, with_digit};
@@ -160,12 +159,9 @@ fn row_from(table: &Table, from: usize, to: Option<usize>) -> Option<usize>
     let Some(to) = to else {
         return Some(0);
     };
-    if to == from || to > table.length {
+    if to == from {
         return None;
     }
-    let row = row_of(table.backwards, table.length, to);
-    if row >= table.rows.len() {
-        return None;
-    }
-    Some(table.number_of(row) + 1)
+    let number = table.number_at(to)?;
+    Some(number + 1)
 }

@@ -15,7 +15,6 @@ ghost use Rattle.regress_tables.specs.Repetitions.{AreRepetitions, IsCoded};
 ghost use Rattle.regress_tables.specs.Runs.{AreRuns};
 ghost use Rattle.regress_tables.specs.Table.{AreRight, AreTables, IsRight, evaluated, index};
 
-use crate::cells::row_of;
 use crate::evaluate::Input;
 use crate::memo::{Key, Memo};
 use crate::probe::{Probe, probe_at, with_digit};
@@ -58,17 +57,10 @@ pub(crate) fn key_at(
             probes,
         }),
         Some((c, to)) => {
-            if to > table.length {
-                return None;
-            }
             if to == position {
                 return None;
             }
-            let row = row_of(table.backwards, table.length, to);
-            if row >= table.rows.len() {
-                return None;
-            }
-            let from = table.number_of(row);
+            let from = table.number_at(to)?;
             Some(Key {
                 symbol: u64::from(memo.symbols.symbol_of(c)) + 1,
                 from,
