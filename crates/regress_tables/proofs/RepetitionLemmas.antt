@@ -5,10 +5,8 @@ use Rattle.std.proofs.lemmas.Option.{get_or_from_slice_get, same_Some}
 use Rattle.regress_leaves.specs.Leaves.{GoesTo}
 use Rattle.regress_leaves.specs.Subject.{Subject}
 use Rattle.regress_leaves.specs.declared.test.Test.{Test}
-use Rattle.regress_tree.specs.Reading.{direction_if}
 use Rattle.regress_tree.specs.Steps.{Matcher}
 use Rattle.regress_tree.specs.Tree.{Tree}
-use Rattle.regress_program.specs.Below.{row_of}
 use Rattle.regress_program.specs.Program.{Op, Out, part}
 use Rattle.regress_tables.specs.declared.probe.Probe.{Probe}
 use Rattle.regress_tables.specs.declared.repetitions.Repeated.{Repeated}
@@ -18,7 +16,7 @@ use Rattle.regress_tables.specs.Bits.{bits_of}
 use Rattle.regress_tables.specs.Probes.{Coded, IsProbe, Leads, digit, jumps_if}
 use Rattle.regress_tables.specs.Repetitions.{AreEnds, AreRepetitions, AreStored, EndsIn, IsCode, IsCoded, IsRowFrom, IsStored, SameRepetitions, code_by, others_in, probe_by, repetition_tree}
 use Rattle.regress_tables.specs.Rows.{row_bit}
-use Rattle.regress_tables.specs.Table.{IsRight, SameShape, number_of}
+use Rattle.regress_tables.specs.Table.{IsRight, SameShape}
 use Rattle.regress_tables.proofs.MemoLemmas.{represented-at, row_bit-more}
 use Rattle.regress_tables.proofs.ProbeLemmas.{part_fails, part_jumps}
 

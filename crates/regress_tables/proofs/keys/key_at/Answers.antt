@@ -1,13 +1,8 @@
-use Rattle.std.proofs.Common.{◌≡◌, ◌≤◌, ◌<◌, ◌+◌, ◌-◌, length, option_map, refl, sym, ap, ◌∙◌, subst, arith}
+use Rattle.std.proofs.Common.{◌≡◌, ◌+◌, ◌-◌, length, option_map, refl, sym, ap, ◌∙◌, subst, arith}
 use Rattle.regress_leaves.specs.Leaves.{read_of}
-use Rattle.regress_tree.specs.Reading.{direction_if}
-use Rattle.regress_program.specs.Below.{row_of}
 use Rattle.regress_program.specs.Listed.{listed}
 use Rattle.regress_program.specs.Views.{routine_in}
-use Rattle.regress_tables.specs.Numbers.{numbers_of}
-use Rattle.regress_tables.specs.Rows.{Represents}
 use Rattle.regress_tables.specs.Symbols.{AreAlike, AreAlikeIn}
-use Rattle.regress_tables.specs.Table.{number_of}
 use Rattle.regress_tables.proofs.MemoLemmas.{key-none, key-some, represented-at}
 use Rattle.regress_tables.proofs.SymbolLemmas.{alike-in}
 use Rattle.regress_tables.proofs.keys.key_at.Goals as goal
