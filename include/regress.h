@@ -101,7 +101,7 @@ typedef struct regress_searcher {
    - instructions: those of its program that are stored, where the body of a loop {n,m} counts m times, or if it is one
      character, about m / 64 times; but if that is too much, a few times; by default 250,000.
    - linear_instructions: the number of instructions up to which a search may be linear, where one character always counts
-     about m / 64 times; by default a thousand. It takes up to two bits of memory for each instruction and byte of the
+     about m / 64 times; by default 4,000. It takes up to two bits of memory for each instruction and byte of the
      text.
    - memory: by default 256 MiB: the bytes that the tables of one search may take, at most a quarter of a byte for each
      instruction, and 8 bytes, for each byte of the text, and once more; those of its backtrack stack, and of one more for

@@ -32,7 +32,7 @@ A backslash is an ordinary character there: what is \2 and \g<name> in re is $2 
 A pattern is a str or, in UTF-8, bytes, and searches for matches in texts of the same type. Positions are code points of
 a str or bytes of a bytes. A lone surrogate in a str, or bytes that are not UTF-8, raise error of the kind 'Unicode'.
 
-A search takes linear time, unless the pattern has a back reference or more than a thousand instructions, or a group in
+A search takes linear time, unless the pattern has a back reference or more than 4,000 instructions, or a group in
 a lookaround that is not negated, for a search for all matches (Pattern.nonlinear, Pattern.is_find_linear). Then it
 backtracks within a limit of steps, so that it also ends for untrusted patterns and texts: at the limit it raises the
 exception error of the kind 'OutOfSteps'. Its tables, each backtrack stack and a list of all matches may take 256 MiB
@@ -138,7 +138,7 @@ def compile(pattern, flags='', *, dialect='ecma', steps=None, nodes=None, instru
                       one character, about m / 64 times; but if that is too much, a few times; 250,000 by default
         linear_instructions
                       the instructions up to which a search may take linear time, where one character always counts
-                      about m / 64 times; a thousand by default. It takes up to two bits of memory for each
+                      about m / 64 times; 4,000 by default. It takes up to two bits of memory for each
                       instruction and byte of the text
         memory        the bytes that the tables of one search may take, 256 MiB by default: at most a quarter of a byte
                       for each instruction, and 8 bytes, for each byte of the text in UTF-8, and once more; 4 bytes more

@@ -87,7 +87,7 @@ pub struct Options {
     /// times, or if it is one character, about m / 64 times; but if that is too much, a few times. By default 250,000.
     pub instructions: usize,
     /// The number of instructions up to which a search may be linear, where one character always counts about m / 64 times.
-    /// By default a thousand. It takes up to two bits of memory for each instruction and byte of the text.
+    /// By default 4,000. It takes up to two bits of memory for each instruction and byte of the text.
     pub linear_instructions: usize,
     /// The memory in bytes that the tables of one search may take: at most a quarter of a byte for each instruction, and 8
     /// bytes, for each byte of the text, and once more. The same limit holds for each backtrack stack, one for the pattern
@@ -108,7 +108,7 @@ impl Default for Options {
             steps: 1_000_000_000,
             nodes: 1_000_000,
             instructions: 250_000,
-            linear_instructions: 1_000,
+            linear_instructions: 4_000,
             memory: 256 << 20,
             linear_steps: None,
             table: Table::Whole,

@@ -37,7 +37,7 @@ name_of ManyInstructions = codes "too-many-instructions"
 name_of TooLarge = codes "too-large"
 
 abbrev pub text_of : SizeWarning → List ℕ
-text_of ManyInstructions = codes "with more than 1,000 instructions a search may take more than linear time, and stop at a step limit: (?:ab?){500} has 1,501"
+text_of ManyInstructions = codes "with more than 4,000 instructions a search may take more than linear time, and stop at a step limit: (?:ab?){2000} has 6,001"
 text_of TooLarge = codes "the pattern is too large for a search: more than 250,000 instructions are stored, or there are 2^64 with all iterations, as in (?:(?:ab){9999999999}){9999999999}, or it may have more than 1,000,000 nodes"
 
 -- what is said of the whole pattern, which has this number of code points

@@ -94,8 +94,8 @@ impl SizeWarning {
     {
         match self {
             SizeWarning::ManyInstructions =>
-                "with more than 1,000 instructions a search may take more than linear time, and stop at a step limit: \
-                 (?:ab?){500} has 1,501",
+                "with more than 4,000 instructions a search may take more than linear time, and stop at a step limit: \
+                 (?:ab?){2000} has 6,001",
             SizeWarning::TooLarge =>
                 "the pattern is too large for a search: more than 250,000 instructions are stored, or there are 2^64 with all \
                  iterations, as in (?:(?:ab){9999999999}){9999999999}, or it may have more than 1,000,000 nodes",

@@ -21,7 +21,7 @@ pub struct Options {
     pub instructions: usize,
     /// The number of instructions up to which a program is searched in linear time, where it can be. A body of one character
     /// always counts about m / 64 times here. The tables that this needs take up to two bits for each instruction and byte
-    /// of the text. A thousand by default, so at most 250 times the length of the text.
+    /// of the text. 4,000 by default, so at most 1,000 times the length of the text.
     pub linear_instructions: usize,
     /// The number of steps that a search may take that takes linear time; `None` by default: no limit. Where the bound for
     /// a text exceeds it ([`Regex::steps_per_byte`](crate::Regex::steps_per_byte) for each byte and once more, for one match
@@ -52,7 +52,7 @@ impl Default for Options {
             steps: 1_000_000_000,
             nodes: 1_000_000,
             instructions: 250_000,
-            linear_instructions: 1_000,
+            linear_instructions: 4_000,
             linear_steps: None,
             memory: Limits::default().memory,
         }

@@ -42,7 +42,8 @@ use Rattle.regress_found.specs.declared.outcome.Outcome.TheVariants as outcomes
 use Rattle.regress_match.specs.Compiled.{IsCodeOf, all_outcomes}
 use Rattle.regress_match.specs.Kept.{IfKept, IsBacktrackerOf, IsKept}
 use Rattle.regress_found.specs.Results.{IsSearchResult, IfMatched, IsMatchResult}
-use Rattle.regress_match.specs.Matcher.{factor, factor_in, factor_of, factor_with, linear_steps_of, nonlinear_by, nonlinear_with, outcome_if}
+use Rattle.regress_match.specs.Matcher.{before_tables, factor, factor_in, factor_of, factor_with, linear_steps_of, nonlinear_by, nonlinear_with, outcome_if}
+use Rattle.regress_match.specs.Memory.{instructions_of}
 use Rattle.regress_match.specs.Pattern.{matcher_outcomes, matcher_setting, matcher_tree}
 use Rattle.regress_found.specs.Repeated.{offset_after}
 use Rattle.regress_match.specs.declared.matcher.Matcher.{Matcher}
@@ -192,21 +193,21 @@ more_steps instructions b text from s t s' at (Some m) before more sum is inside
     (min (max end (start + 1)) (n + 1)) (end + 1 - from) before more sum (omega (arith, low, high, inside)) (omega (arith, low, high, inside))
 
 -- all steps of a repeated search
-pub all_steps : (instructions walks n limit remaining searched from steps : ℕ) → limit ≤ 64 * (n + 1) →
+pub all_steps : (instructions walks n limit remaining searched from steps : ℕ) → limit ≤ before_tables instructions * (n + 1) →
     searched ≤ 2 * instructions * (n + 1) + 2 * walks * min from (n + 1) → steps ≤ (limit - remaining) + searched →
-    steps ≤ (64 + 2 * instructions + 2 * walks) * (n + 1)
+    steps ≤ (before_tables instructions + 2 * instructions + 2 * walks) * (n + 1)
 all_steps instructions walks n limit remaining searched from steps budget kept sum =
     let most = mul-le-mul_left (2 * walks) (let h : min from (n + 1) ≤ n + 1 = omega arith in h) in
     omega (arith, most, budget, kept, sum)
 
--- A bound for the steps for each byte is that of some number of instructions.
-factor_form : (m : Matcher) (text : List ℕ) (n : ℕ) → factor_in m text ≡ Some n → (i : ℕ) × (n ≡ factor i (code_groups m.code))
+-- A bound for the steps for each byte is that of the instructions.
+factor_form : (m : Matcher) (text : List ℕ) (n : ℕ) → factor_in m text ≡ Some n → n ≡ factor (instructions_of m) (code_groups m.code)
 factor_form m text n is =
     by (m.within && is_linear (code_routines m.code)) (sym (some_fits (linear_steps_of m) (factor_of m) text (ap is_some is)).1 ∙ is)
   where
     by : (b : Bool) → (if b then Some (factor (total (code_routines m.code)) (code_groups m.code)) else None) ≡ Some n →
-        (j : ℕ) × (n ≡ factor j (code_groups m.code))
-    by true same = (total (code_routines m.code), let h : n ≡ factor (total (code_routines m.code)) (code_groups m.code) = cc in h)
+        n ≡ factor (instructions_of m) (code_groups m.code)
+    by true same = cc
     by false same = absurd (cc)
 
 -- a bound is that of a linear program
@@ -245,21 +246,22 @@ linear-unless groups routines within =
 
 -- the steps of a matcher
 module _ (m : Matcher) (text : List ℕ) (limit remaining from taken : ℕ) (search : Option TextSearch) (kept : IfKept m text from taken search) where
-  pub linear_steps : (steps : ℕ) → IfSome (factor_in m text) (λ _. limit ≤ 64 * (length text + 1)) → steps ≤ (limit - remaining) + taken →
+  pub linear_steps : (steps : ℕ) → IfSome (factor_in m text) (λ _. limit ≤ before_tables (instructions_of m) * (length text + 1)) → steps ≤ (limit - remaining) + taken →
       IfSome (factor_in m text) (λ n. steps ≤ n * (length text + 1))
   linear_steps steps short sum = by (factor_in m text) refl short
     where
-      in_tables : (n : ℕ) (s : Option TextSearch) → IfKept m text from taken s → factor_in m text ≡ Some n → limit ≤ 64 * (length text + 1) →
+      in_tables : (n : ℕ) (s : Option TextSearch) → IfKept m text from taken s → factor_in m text ≡ Some n → limit ≤ before_tables (instructions_of m) * (length text + 1) →
           steps ≤ n * (length text + 1)
       in_tables n None none is small =
           let form = factor_form m text n is in
-          subst (λ k. steps ≤ k * (length text + 1)) (sym form.1) (let h : steps ≤ factor form.0 (code_groups m.code) * (length text + 1) = omega (arith, none, small, sum) in h)
+          subst (λ k. steps ≤ k * (length text + 1)) (sym form) (let h : steps ≤ factor (instructions_of m) (code_groups m.code) * (length text + 1) = omega (arith, none, small, sum) in h)
       in_tables n (Some s) k is small =
           let same : factor (searched_size s) (searched_groups s) ≡ n = let e : Some (factor (searched_size s) (searched_groups s)) ≡ Some n = sym k.size ∙ is in cc in
-          let all = all_steps (searched_size s) (walk_weight (searched_groups s) * (2 * searched_size s + 1)) (length text) limit remaining taken from steps small k.steps sum in
+          let all = all_steps (searched_size s) (walk_weight (searched_groups s) * (2 * searched_size s + 1)) (length text) limit remaining taken from steps
+          (subst (λ i. limit ≤ before_tables i * (length text + 1)) (sym k.instructions) small) k.steps sum in
           subst (λ k. steps ≤ k * (length text + 1)) same all
 
-      by : (o : Option ℕ) → factor_in m text ≡ o → IfSome o (λ _. limit ≤ 64 * (length text + 1)) → IfSome o (λ n. steps ≤ n * (length text + 1))
+      by : (o : Option ℕ) → factor_in m text ≡ o → IfSome o (λ _. limit ≤ before_tables (instructions_of m) * (length text + 1)) → IfSome o (λ n. steps ≤ n * (length text + 1))
       by None is few = tt
       by (Some n) is few = in_tables n search kept is few
 
@@ -314,6 +316,7 @@ module _ (m : Matcher) (text : List ℕ) (from taken : ℕ) (s : TextSearch) (ke
     code = kept.code;
     linear = kept.linear;
     size = kept.size;
+    instructions = kept.instructions;
     captures = kept.captures;
     same_text = kept.same_text;
     steps = subst (λ k. taken' ≤ 2 * searched_size s * (length text + 1) + 2 * (walk_weight (searched_groups s) * (2 * searched_size s + 1)) * min k (length text + 1))
@@ -346,6 +349,7 @@ tables_kept m text from steps s is_fast compiled code tables same_text counted =
       code = code_of m (searched_tables s) (searched_code s) tables code compiled;
       linear = subst (λ (c : Code). is_linear (code_routines c) ≡ true) (sym code) bound.0;
       size = fits.1 ∙ bound.1 ∙ ap (λ (c : Code). Some (factor (total (code_routines c)) (code_groups c))) (sym code);
+      instructions = ap (λ (c : Code). total (code_routines c)) code;
       captures = ap captures_cost code;
       same_text = same_text;
       steps = let same = ap length same_text in

@@ -15,7 +15,7 @@ use Rattle.regress_code.specs.Code.{code_groups, code_routines, code_tidy, outco
 use Rattle.regress_code.specs.declared.code.Code.{Code}
 use Rattle.regress_match.specs.Compiled.{IsCodeOf}
 use Rattle.regress_found.specs.Results.{IsSearchResult, IfOutOfSteps}
-use Rattle.regress_match.specs.Matcher.{bound_in, factor, factor_in, factor_of, factor_with, find_factor, find_factor_in, find_factor_of, find_factor_with, linear_steps_of, outcome_if}
+use Rattle.regress_match.specs.Matcher.{before_tables, bound_in, factor, factor_in, factor_of, factor_with, find_factor, find_factor_in, find_factor_of, find_factor_with, linear_steps_of, outcome_if}
 use Rattle.regress_match.specs.Pattern.{matcher_outcomes, matcher_setting, matcher_tree}
 use Rattle.regress_match.specs.declared.matcher.Matcher.{Matcher}
 use Rattle.regress_match.proofs.MatcherLemmas.{bound_linear, code_of, table_finds}
@@ -57,7 +57,8 @@ none_by_one m text none = by (factor_in m text) (all_by_one m text (λ _. ⊥) (
 
 -- ---- the steps of a search for one match
 
-with_backtracking : (i walks c d steps : ℕ) → steps ≤ (2 * i + walks + c) * d → steps + 64 * d ≤ (64 + 2 * i + 2 * walks + c) * d
+with_backtracking : (i walks c d steps : ℕ) → steps ≤ (2 * i + walks + c) * d →
+    steps + before_tables i * d ≤ (before_tables i + 2 * i + 2 * walks + c) * d
 with_backtracking i walks c d steps few = omega (arith, few)
 
 never_ends_early : (found : Option Match) → IfOutOfSteps (outcome_if found) ⊥
@@ -67,7 +68,7 @@ never_ends_early (Some m) = tt
 -- A search by tables leaves the steps of backtracking.
 pub searched_bounded : (groups : ℕ) (tidy : Bool) (routines : List Routine) (within : Bool) (c : Code) (text : List ℕ) (found : Option Match) (steps : ℕ) →
     code_routines c ≡ routines → code_groups c ≡ groups → steps ≤ per_byte c * (length text + 1) →
-    IfSome (find_factor_with groups tidy routines within) (λ n. (steps + 64 * (length text + 1) ≤ n * (length text + 1)) × IfOutOfSteps (outcome_if found) ⊥)
+    IfSome (find_factor_with groups tidy routines within) (λ n. (steps + before_tables (total routines) * (length text + 1) ≤ n * (length text + 1)) × IfOutOfSteps (outcome_if found) ⊥)
 searched_bounded groups tidy routines false c text found steps same counted few = tt
 searched_bounded groups tidy routines true c text found steps same counted few = by (is_tabled tidy routines)
   where
@@ -75,7 +76,7 @@ searched_bounded groups tidy routines true c text found steps same counted few =
     per weight i inner = 2 * i + weight * (2 * i + 1) + capturing_steps i inner weight
 
     by : (b : Bool) → IfSome (option_map (find_factor (total routines) groups) (if b then Some (inner_groups routines) else None))
-        (λ n. (steps + 64 * (length text + 1) ≤ n * (length text + 1)) × IfOutOfSteps (outcome_if found) ⊥)
+        (λ n. (steps + before_tables (total routines) * (length text + 1) ≤ n * (length text + 1)) × IfOutOfSteps (outcome_if found) ⊥)
     by false = tt
     by true = (
       with_backtracking (total routines) (walk_weight groups * (2 * total routines + 1)) (capturing_steps (total routines) (inner_groups routines) (walk_weight groups))

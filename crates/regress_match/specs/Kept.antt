@@ -14,7 +14,7 @@ use Rattle.regress_tables.specs.TextSearch.{searched_code, searched_groups, sear
 use Rattle.regress_tables.specs.declared.text.TextSearch.{TextSearch}
 use Rattle.regress_match.specs.Compiled.{IsCodeOf, IsCodeOf-prop}
 use Rattle.regress_match.specs.Matcher.{factor, factor_in}
-use Rattle.regress_match.specs.Memory.{memory_of}
+use Rattle.regress_match.specs.Memory.{instructions_of, memory_of}
 use Rattle.regress_match.specs.Pattern.{matcher_setting, matcher_tree}
 use Rattle.regress_match.specs.declared.matcher.Matcher.{Matcher}
 
@@ -31,6 +31,7 @@ pub record IsKept (m : Matcher) (text : List ℕ) (from taken : ℕ) (s : TextSe
   pub code : IsCodeOf (matcher_setting m) (matcher_tree m) (searched_tables s) (searched_code s)
   pub linear : is_linear (code_routines (searched_code s)) ≡ true
   pub size : factor_in m text ≡ Some (factor (searched_size s) (searched_groups s))
+  pub instructions : searched_size s ≡ instructions_of m
   pub captures : captures_cost (searched_code s) ≡ captures_cost m.code
   pub same_text : searched_text s ≡ text
   pub steps : taken ≤ 2 * searched_size s * (length text + 1)

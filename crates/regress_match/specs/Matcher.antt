@@ -19,10 +19,15 @@ use Rattle.regress_match.specs.declared.matcher.Matcher.{Matcher}
 use Rattle.regress_match.specs.declared.nonlinear.Nonlinear.{Nonlinear}
 use Rattle.regress_match.specs.declared.nonlinear.Nonlinear.TheVariants.{BackReference, CapturingLookaround, TooManyInstructions}
 
+-- An upper bound for the steps of backtracking for each byte, and once more for the end of the text, until tables are made: a
+-- large program takes longer to fill them.
+abbrev pub before_tables : (instructions : ℕ) → ℕ
+before_tables instructions = 64 + 2 * instructions
+
 -- An upper bound for the steps for each byte, and once more for the end of the text: those of backtracking until the tables
 -- are made, of making them, and of all searches in them, whose walks count more with more groups.
 abbrev pub factor : (instructions groups : ℕ) → ℕ
-factor instructions groups = 64 + 2 * instructions + 2 * (walk_weight groups * (2 * instructions + 1))
+factor instructions groups = before_tables instructions + 2 * instructions + 2 * (walk_weight groups * (2 * instructions + 1))
 
 -- the bound for a program that is searched in linear time if it is linear and within the limit on tables; else none
 abbrev pub factor_with : (groups : ℕ) → List Routine → (within : Bool) → Option ℕ

@@ -167,6 +167,7 @@ fn factor(code: &Code) -> u64
     let bits = (code.instructions() as u64).saturating_mul(2);
     let walks = weight_of(code).saturating_mul(bits.saturating_add(1));
     bits.saturating_add(64)
+        .saturating_add(bits)
         .saturating_add(walks.saturating_mul(2))
 }
 

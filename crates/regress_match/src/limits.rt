@@ -9,8 +9,8 @@ pub struct Limits {
     /// 250,000 by default: up to some 100 MiB.
     pub instructions: usize,
     /// The number of instructions up to which a program is searched by tables, in linear time, where a body of one character
-    /// always counts about m / 64 times. The tables take up to two
-    /// bits for each instruction and byte of a text. A thousand by default, so at most 250 times the length of the text.
+    /// always counts about m / 64 times. The tables take up to two bits for each instruction and byte of a text. 4,000 by
+    /// default, so at most 1,000 times the length of the text.
     pub linear_instructions: usize,
     /// The number of steps that a search may take that takes linear time; `None` by default: no limit. Where the bound for
     /// a text exceeds it ([`Matcher::steps_per_byte`](crate::Matcher::steps_per_byte) for each byte and once more, for one
@@ -38,7 +38,7 @@ impl Default for Limits {
     fn default() -> Limits {
         Limits {
             instructions: 250_000,
-            linear_instructions: 1_000,
+            linear_instructions: 4_000,
             linear_steps: None,
             memory: 256 << 20,
         }

@@ -2,8 +2,8 @@
 ghost use Rattle.std.specs.Prelude.{◌≤◌, ◌<◌, ◌+◌, ◌*◌, IfSome, length};
 ghost use Rattle.std.proofs.Props.{props};
 ghost use Rattle.regress_match.specs.Kept.{IfKept, IfKept-prop, IsBacktrackerOf, IsBacktrackerOf-prop};
-ghost use Rattle.regress_match.specs.Matcher.{factor_in};
-ghost use Rattle.regress_match.specs.Memory.{AreStacksWithin, memory_of};
+ghost use Rattle.regress_match.specs.Matcher.{before_tables, factor_in};
+ghost use Rattle.regress_match.specs.Memory.{AreStacksWithin, instructions_of, memory_of};
 ghost use Rattle.regress_tables.specs.Memory.{table_bytes};
 ghost use Rattle.regress_tables.specs.TextSearch.{searched_bytes, searched_size};
 
@@ -32,7 +32,7 @@ pub struct MatcherMatches<'m> {
     pub(crate) search: Option<TextSearch<'m>>,
     ghost runs: { IsBacktrackerOf matcher.now text.now backtracker } by { IsBacktrackerOf-prop matcher.now text.now backtracker },
     ghost within: { remaining ≤ limit },
-    ghost short: { IfSome (factor_in matcher.now text.now) (λ _. limit ≤ 64 * (length text.now + 1)) } by { Prim.hlevel props },
+    ghost short: { IfSome (factor_in matcher.now text.now) (λ _. limit ≤ before_tables (instructions_of matcher.now) * (length text.now + 1)) } by { Prim.hlevel props },
     ghost fits: { IfSome search (λ s. memory_of matcher.now < table_bytes (searched_size s) text.now → searched_bytes s ≤ memory_of matcher.now) } by { Prim.hlevel props },
     ghost held: { IfSome cache (AreStacksWithin matcher.now) } by { Prim.hlevel props },
     ghost kept: { IfKept matcher.now text.now from searched search } by { IfKept-prop matcher.now text.now from searched search },

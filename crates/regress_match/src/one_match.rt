@@ -4,9 +4,9 @@ ghost use Rattle.regress_tree.specs.WellFormed.{IsWellFormed};
 ghost use Rattle.regress_found.specs.Results.{IsSearchResult, IfMatched, IfOutOfSteps};
 ghost use Rattle.regress_found.specs.Found.{IsInside};
 ghost use Rattle.regress_found.specs.declared.fault.MemoryFault.TheVariants.{TooMuchMemory};
-ghost use Rattle.regress_match.specs.Memory.{AreStacksWithin, MayFillStack, TablesNeedMore};
+ghost use Rattle.regress_match.specs.Memory.{AreStacksWithin, MayFillStack, TablesNeedMore, instructions_of};
 ghost use Rattle.regress_match.specs.Costs.{IsWithinFindCost};
-ghost use Rattle.regress_match.specs.Matcher.{IsLimited, IsLinear, find_factor_in};
+ghost use Rattle.regress_match.specs.Matcher.{IsLimited, IsLinear, before_tables, find_factor_in};
 ghost use Rattle.regress_match.specs.Pattern.{matcher_outcomes, matcher_tree};
 
 use crate::iteration::outcome_of;
@@ -63,7 +63,7 @@ impl Matcher {
     ) -> Result<Found, MemoryFault>
         ensures finds { IfOk result (λ found. IsSearchResult text.now (matcher_outcomes self.now text.now) from found.outcome) }
         ensures inside { IfOk result (λ found. IsWellFormed (matcher_tree self.now) → IfMatched found.outcome (IsInside text.now)) }
-        ensures few { IfOk result (λ found. found.steps ≤ 64 * (length text.now + 1)) }
+        ensures few { IfOk result (λ found. found.steps ≤ before_tables (instructions_of self.now) * (length text.now + 1)) }
         ensures within { AreStacksWithin self.now cache.old → AreStacksWithin self.now cache.new }
         ensures not_full { IfErr result (λ fault. fault ≡ TooMuchMemory → ⊥) }
     {
@@ -124,7 +124,7 @@ impl Matcher {
         ensures finds { IfOk result (λ found. IsSearchResult text.now (matcher_outcomes self.now text.now) from found.outcome) }
         ensures inside { IfOk result (λ found. IsWellFormed (matcher_tree self.now) → IfMatched found.outcome (IsInside text.now)) }
         ensures bounded { IfOk result (λ found. IfSome (find_factor_in self.now text.now) (λ n.
-            (found.steps + 64 * (length text.now + 1) ≤ n * (length text.now + 1)) × IfOutOfSteps found.outcome ⊥)) }
+            (found.steps + before_tables (instructions_of self.now) * (length text.now + 1) ≤ n * (length text.now + 1)) × IfOutOfSteps found.outcome ⊥)) }
         ensures too_much { IfErr result (λ fault. fault ≡ TooMuchMemory → TablesNeedMore self.now text.now) }
     {
         let Some(linear) = Linear::new(&self.code, self.known()) else {

@@ -8,8 +8,8 @@ ghost use Rattle.regress_match.specs.Iterated.{iterated_from, iterated_matcher, 
 ghost use Rattle.regress_found.specs.Results.{IsSearchResult, IfMatched, IsMatchResult};
 ghost use Rattle.regress_found.specs.Found.{IsInside};
 ghost use Rattle.regress_found.specs.declared.fault.MemoryFault.TheVariants.{TooMuchMemory};
-ghost use Rattle.regress_match.specs.Memory.{AllNeedMore, AreStacksWithin, MayFillStackAt, SearchNeedsMore, match_bytes, memory_of};
-ghost use Rattle.regress_match.specs.Matcher.{IsLimited, IsLinear, factor_in, find_factor_in, find_limit_in, limit_in};
+ghost use Rattle.regress_match.specs.Memory.{AllNeedMore, AreStacksWithin, MayFillStackAt, SearchNeedsMore, instructions_of, match_bytes, memory_of};
+ghost use Rattle.regress_match.specs.Matcher.{IsLimited, IsLinear, before_tables, factor_in, find_factor_in, find_limit_in, limit_in};
 ghost use Rattle.regress_match.specs.Pattern.{matcher_outcomes, matcher_tree};
 ghost use Rattle.regress_found.specs.Repeated.{AreAllMatches};
 
@@ -27,6 +27,12 @@ const MOST_STEPS: u64 = 64;
 
 /// How many more there are, so that a short text is searched without tables where a long one is not.
 const MORE_STEPS: u64 = 4096;
+
+/// The number of instructions above which a program is large: where rows of its tables differ, they are slow to fill.
+const SMALL_PROGRAM: usize = 1_000;
+
+/// The largest number of steps that a large program has on top.
+const MOST_STEPS_IF_LARGE: u64 = 1 << 22;
 
 impl Matcher {
     /// Returns the leftmost match in `text` that starts at the byte offset `from` or later, on a character boundary, and
@@ -271,7 +277,7 @@ impl Matcher {
     /// Returns the step limit of backtracking: that of the caller or of [`Limits`](crate::Limits), or where the search takes
     /// linear time some steps for each byte.
     fn backtracking_steps(&self, text: &str, steps: u64) -> u64
-        ensures linear { IfSome (factor_in self.now text.now) (λ _. result ≤ 64 * (length text.now + 1)) }
+        ensures linear { IfSome (factor_in self.now text.now) (λ _. result ≤ before_tables (instructions_of self.now) * (length text.now + 1)) }
         ensures limited { IfNone (factor_in self.now text.now) (result ≡ limit_in self.now steps) }
     {
         if self.is_linear_in(text) {
@@ -284,11 +290,27 @@ impl Matcher {
     /// Returns the number of steps of backtracking after which tables are made. It grows with the number of leaves, as the
     /// number of rows that differ does.
     pub(crate) fn steps_before_tables(&self, text: &str) -> u64
-        ensures { result ≤ 64 * (length text.now + 1) }
+        ensures { result ≤ before_tables (instructions_of self.now) * (length text.now + 1) }
     {
         let bytes = text.len() as u64 + 1;
         let each = LEAST_STEPS.max(self.code.program.leaves.len() as u64);
         let steps = bytes.saturating_mul(each).saturating_add(MORE_STEPS);
-        steps.min(bytes.saturating_mul(MOST_STEPS))
+        steps
+            .min(bytes.saturating_mul(MOST_STEPS))
+            .saturating_add(self.steps_if_large(bytes))
+    }
+
+    /// Returns how many more there are if the program is large: at most as many as it takes to fill rows that all differ.
+    fn steps_if_large(&self, bytes: u64) -> u64
+        ensures { result ≤ 2 * instructions_of self.now * bytes }
+    {
+        let instructions = self.code.instructions();
+        if instructions <= SMALL_PROGRAM {
+            return 0;
+        }
+        (instructions as u64)
+            .saturating_mul(2)
+            .saturating_mul(bytes)
+            .min(MOST_STEPS_IF_LARGE)
     }
 }

@@ -13,7 +13,7 @@ use std::sync::Arc;
 use test_notation::{Call, Fault, parse_decimal};
 
 /// The number of instructions up to which tables are made.
-const TABLES: usize = 1_000;
+const TABLES: usize = 4_000;
 
 /// Returns the result of a test case if it is not the expected one.
 pub(crate) fn replace_difference(

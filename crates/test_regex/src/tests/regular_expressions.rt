@@ -254,6 +254,54 @@ fn searches_that_are_not_linear_have_a_step_limit(rt: HostRuntime) -> Result<(),
     Ok(())
 }
 
+/// A pattern of more than 1,000 instructions, and a text of `start` and a number of times `part`.
+struct LargeCase {
+    pattern: &'static str,
+    start: &'static str,
+    part: &'static str,
+    times: usize,
+    wanted: Option<Range<usize>>,
+}
+
+/// The first pattern is one of ModSecurity. The digits of a range can be divided between two iterations in many ways: by
+/// backtracking alone the search is out of steps where there are too few ranges.
+#[test]
+fn searches_with_large_patterns_are_linear(rt: HostRuntime) -> Result<(), Fail> {
+    let alloc = rt.alloc();
+    for case in &[
+        LargeCase {
+            pattern: "^bytes=(?:(?:\\d+)?-(?:\\d+)?\\s*,?\\s*){63}",
+            start: "bytes=",
+            part: "1111111111-",
+            times: 62,
+            wanted: None,
+        },
+        LargeCase {
+            pattern: "^bytes=(?:(?:\\d+)?-(?:\\d+)?\\s*,?\\s*){63}",
+            start: "bytes=",
+            part: "1111111111-",
+            times: 63,
+            wanted: Some(0..699),
+        },
+        LargeCase {
+            pattern: "([a-z]){1}([a-z0-9_]){2,254}",
+            start: "1_a",
+            part: "_0",
+            times: 200,
+            wanted: Some(2..257),
+        },
+    ] {
+        let regex = Regex::new(alloc, case.pattern)?;
+        assert!(rt; regex.is_linear(), "{}", case.pattern);
+        let mut text = String::new(alloc);
+        text.push_str(case.start)?;
+        text.push_str(&case.part.repeat(alloc, case.times)?)?;
+        let found = regex.find(alloc, &text)?;
+        expect_eq!(rt; found.map(|found| found.range()), case.wanted.clone(), "{}", case.pattern);
+    }
+    Ok(())
+}
+
 fn are_as_stated(regex: &Regex, wanted: &Searches) -> bool {
     regex.nonlinear() == wanted.nonlinear
         && regex.is_linear() == wanted.are_all_linear
