@@ -19,8 +19,8 @@ use Rattle.regress_match.specs.declared.matcher.Matcher.{Matcher}
 use Rattle.regress_match.specs.declared.nonlinear.Nonlinear.{Nonlinear}
 use Rattle.regress_match.specs.declared.nonlinear.Nonlinear.TheVariants.{BackReference, CapturingLookaround, TooManyInstructions}
 
--- An upper bound for the steps of backtracking for each byte, and once more for the end of the text, until tables are made: a
--- large program takes longer to fill them.
+-- An upper bound for the steps of backtracking for each byte, and once more for the end of the text, until tables are made.
+-- The tables of a large program take longer to fill.
 abbrev pub before_tables : (instructions : ℕ) → ℕ
 before_tables instructions = 64 + 2 * instructions
 
