@@ -21,7 +21,7 @@ use std::alloc::Global;
 
 /// The least and the largest number of steps of backtracking for each byte of a text, and once more, after which tables are
 /// made.
-const LEAST_STEPS: u64 = 8;
+const LEAST_STEPS: u64 = 4;
 
 const MOST_STEPS: u64 = 64;
 
