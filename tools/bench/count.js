@@ -15,32 +15,27 @@ try {
 } catch {
   process.exit(1);
 }
+// Runs a search again and again, `times` times between two looks at the clock, prints the number of matches and the mean
+// time, and ends.
+function repeat(times, search) {
+  const before = process.cpuUsage();
+  let used = 0, runs = 0, found;
+  while (used < SPENT) {
+    for (let i = 0; i < times; i++) found = search(runs + i);
+    runs += times;
+    const { user, system } = process.cpuUsage(before);
+    used = user + system;
+  }
+  console.log(found ? 1 : 0, used / runs / 1e6, used / runs / 1e6);
+  process.exit();
+}
+
 if (mode === 'again') {
   const once = new RegExp(pattern, letters);
-  let used = 0, runs = 0, found;
-  const before = process.cpuUsage();
-  while (used < SPENT) {
-    for (let i = 0; i < REPEATED; i++) found = once.exec(text);
-    runs += REPEATED;
-    const { user, system } = process.cpuUsage(before);
-    used = user + system;
-  }
-  console.log(found ? 1 : 0, used / runs / 1e6, used / runs / 1e6);
-  process.exit();
+  repeat(REPEATED, () => once.exec(text));
 }
-if (mode === 'compile') {
-  const before = process.cpuUsage();
-  let used = 0, runs = 0, found;
-  while (used < SPENT) {
-    // V8 keeps what it has compiled for the same source, so another alternative, which never matches, is added.
-    found = new RegExp(`${pattern}|[]${runs}`, letters).exec(text);
-    runs += 1;
-    const { user, system } = process.cpuUsage(before);
-    used = user + system;
-  }
-  console.log(found ? 1 : 0, used / runs / 1e6, used / runs / 1e6);
-  process.exit();
-}
+// V8 keeps what it has compiled for the same source, so another alternative, which never matches, is added.
+if (mode === 'compile') repeat(1, run => new RegExp(`${pattern}|[]${run}`, letters).exec(text));
 const started = performance.now();
 const before = process.cpuUsage();
 let count = 0;

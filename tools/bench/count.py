@@ -1,6 +1,7 @@
 # count.py FILE PATTERN all|first|again|compile: prints the number of matches, and the CPU seconds and the seconds of
 # the search; with `again` of the first match, with `compile` of compiling and of the first match together, each the
 # mean of many runs.
+import functools
 import re
 import sys
 import time
@@ -17,26 +18,32 @@ try:
     regex = re.compile(pattern)
 except re.error:
     sys.exit(1)
+
+
+def compiled_anew():
+    re.purge()
+    return re.search(pattern, text)
+
+
+def repeat(times, search):
+    """Runs a search again and again, `times` times between two looks at the clock, and prints the number of matches and
+    the mean time."""
+    before, used, runs = time.process_time(), 0, 0
+    while used < SPENT:
+        for _ in range(times):
+            found = search()
+        runs += times
+        used = time.process_time() - before
+    print(int(found is not None), used / runs, used / runs)
+    sys.exit()
+
+
+if mode == "again":
+    repeat(REPEATED, functools.partial(regex.search, text))
+if mode == "compile":
+    repeat(1, compiled_anew)
 before, started = time.process_time(), time.perf_counter()
 count = 0
-if mode == "again":
-    used = runs = 0
-    while used < SPENT:
-        for _ in range(REPEATED):
-            found = regex.search(text)
-        runs += REPEATED
-        used = time.process_time() - before
-    print(int(found is not None), used / runs, used / runs)
-    sys.exit()
-if mode == "compile":
-    used = runs = 0
-    while used < SPENT:
-        re.purge()
-        found = re.search(pattern, text)
-        runs += 1
-        used = time.process_time() - before
-    print(int(found is not None), used / runs, used / runs)
-    sys.exit()
 for _ in regex.finditer(text):
     count += 1
     if mode == "first":

@@ -13,10 +13,7 @@
 
 #include <pcre2.h>
 
-// How long it is run again and again, in seconds.
-const double SPENT = 0.05;
-// How often a search is repeated between two looks at the clock.
-const size_t REPEATED = 100;
+#include "mean.h"
 
 // Returns the compiled pattern, or NULL if PCRE2 rejects it.
 static pcre2_code *compiled(const char *pattern, bool jit) {
@@ -29,38 +26,34 @@ static pcre2_code *compiled(const char *pattern, bool jit) {
     return NULL;
 }
 
+// The options of a search by the interpreter, or by what the compiler has made of the pattern.
+static uint32_t options_of(bool jit) { return jit ? 0 : PCRE2_NO_JIT; }
+
+// Returns the number of matches of a search for the first one, or -2 if a limit of PCRE2 is reached.
+static int count_of(int groups) { return groups < 0 && groups != PCRE2_ERROR_NOMATCH ? -2 : groups > 0; }
+
 // Compiles the pattern and searches for its first match, and prints the mean time.
 static int compile(const char *pattern, const std::string &text, bool jit) {
-    int groups = 0;
-    size_t runs = 0;
-    double used = 0;
-    for (clock_t before = clock(); used < SPENT; used = double(clock() - before) / CLOCKS_PER_SEC, runs++) {
+    return repeat(1, [&] {
         pcre2_code *code = compiled(pattern, jit);
-        if (!code) return 1;
+        if (!code) return -1;
         pcre2_match_data *data = pcre2_match_data_create_from_pattern(code, NULL);
-        groups = pcre2_match(code, (PCRE2_SPTR)text.data(), text.size(), 0, jit ? 0 : PCRE2_NO_JIT, data, NULL);
+        int groups = pcre2_match(code, (PCRE2_SPTR)text.data(), text.size(), 0, options_of(jit), data, NULL);
         pcre2_match_data_free(data);
         pcre2_code_free(code);
-        if (groups < 0 && groups != PCRE2_ERROR_NOMATCH) return 2;
-    }
-    printf("%d %.9f %.9f\n", groups > 0, used / runs, used / runs);
-    return 0;
+        return count_of(groups);
+    });
 }
 
 // Searches for the first match, and prints the mean time. That the text is UTF-8 is tested once.
 static int again(const pcre2_code *code, const std::string &text, bool jit) {
     pcre2_match_data *data = pcre2_match_data_create_from_pattern(code, NULL);
-    uint32_t unchecked = jit ? 0 : PCRE2_NO_JIT;
-    int groups = pcre2_match(code, (PCRE2_SPTR)text.data(), text.size(), 0, unchecked, data, NULL);
-    unchecked |= PCRE2_NO_UTF_CHECK;
-    size_t runs = 0;
-    double used = 0;
-    for (clock_t before = clock(); used < SPENT; used = double(clock() - before) / CLOCKS_PER_SEC, runs += REPEATED)
-        for (size_t i = 0; i < REPEATED; i++)
-            groups = pcre2_match(code, (PCRE2_SPTR)text.data(), text.size(), 0, unchecked, data, NULL);
-    if (groups < 0 && groups != PCRE2_ERROR_NOMATCH) return 2;
-    printf("%d %.9f %.9f\n", groups > 0, used / runs, used / runs);
-    return 0;
+    uint32_t options = options_of(jit);
+    return repeat(REPEATED, [&] {
+        int groups = pcre2_match(code, (PCRE2_SPTR)text.data(), text.size(), 0, options, data, NULL);
+        options |= PCRE2_NO_UTF_CHECK;
+        return count_of(groups);
+    });
 }
 
 int main(int, char **argv) {
@@ -75,16 +68,16 @@ int main(int, char **argv) {
     bool all = !strcmp(mode, "all");
     pcre2_match_data *data = pcre2_match_data_create_from_pattern(code, NULL);
     size_t count = 0, from = 0;
-    uint32_t unchecked = jit ? 0 : PCRE2_NO_JIT;
+    uint32_t options = options_of(jit);
     auto started = std::chrono::steady_clock::now();
     clock_t before = clock();
     while (from <= text.size()) {
-        int groups = pcre2_match(code, (PCRE2_SPTR)text.data(), text.size(), from, unchecked, data, NULL);
+        int groups = pcre2_match(code, (PCRE2_SPTR)text.data(), text.size(), from, options, data, NULL);
         if (groups == PCRE2_ERROR_NOMATCH) break;
         if (groups < 0) return 2;
         count++;
         if (!all) break;
-        unchecked |= PCRE2_NO_UTF_CHECK;
+        options |= PCRE2_NO_UTF_CHECK;
         PCRE2_SIZE *span = pcre2_get_ovector_pointer(data);
         from = span[1];
         // behind an empty match the next character is skipped

@@ -12,37 +12,23 @@
 
 #include <re2/re2.h>
 
-// How long it is run again and again, in seconds.
-const double SPENT = 0.05;
-// How often a search is repeated between two looks at the clock.
-const size_t REPEATED = 100;
+#include "mean.h"
 
 // Compiles the pattern and searches for its first match, and prints the mean time.
 static int compile(const char *pattern, const std::string &text, const RE2::Options &options) {
     re2::StringPiece found;
-    bool matches = false;
-    size_t runs = 0;
-    double used = 0;
-    for (clock_t before = clock(); used < SPENT; used = double(clock() - before) / CLOCKS_PER_SEC, runs++) {
+    return repeat(1, [&] {
         RE2 regex(pattern, options);
-        if (!regex.ok()) return 1;
-        matches = regex.Match(text, 0, text.size(), RE2::UNANCHORED, &found, 1);
-    }
-    printf("%d %.9f %.9f\n", matches, used / runs, used / runs);
-    return 0;
+        return regex.ok() ? int(regex.Match(text, 0, text.size(), RE2::UNANCHORED, &found, 1)) : -1;
+    });
 }
 
 // Searches for the first match and its groups, and prints the mean time.
 static int again(const RE2 &regex, const std::string &text) {
     std::vector<re2::StringPiece> groups(regex.NumberOfCapturingGroups() + 1);
-    bool matches = false;
-    size_t runs = 0;
-    double used = 0;
-    for (clock_t before = clock(); used < SPENT; used = double(clock() - before) / CLOCKS_PER_SEC, runs += REPEATED)
-        for (size_t i = 0; i < REPEATED; i++)
-            matches = regex.Match(text, 0, text.size(), RE2::UNANCHORED, groups.data(), groups.size());
-    printf("%d %.9f %.9f\n", matches, used / runs, used / runs);
-    return 0;
+    return repeat(REPEATED, [&] {
+        return int(regex.Match(text, 0, text.size(), RE2::UNANCHORED, groups.data(), groups.size()));
+    });
 }
 
 int main(int, char **argv) {

@@ -21,31 +21,21 @@ const SPENT: f64 = 0.05;
 /// How often a search is repeated between two looks at the clock.
 const REPEATED: u32 = 100;
 
-/// Compiles the pattern and searches for its first match. Returns whether there is one, and the mean time.
-fn compile(pattern: &str, text: &str) -> Result<(bool, f64), regex::Error> {
-    let (before, mut runs) = (used(), 0.0);
+/// Runs a search again and again, `times` times between two looks at the clock. Returns whether it finds a match, and the
+/// mean time.
+fn repeat(
+    times: u32,
+    mut search: impl FnMut() -> Result<bool, regex::Error>,
+) -> Result<(bool, f64), regex::Error> {
+    let (before, mut runs, mut found) = (used(), 0.0, false);
     loop {
-        let found = regex::Regex::new(pattern)?.find(text).is_some();
-        runs += 1.0;
+        for _ in 0..times {
+            found = search()?;
+        }
+        runs += f64::from(times);
         let spent = used() - before;
         if spent >= SPENT {
             return Ok((found, spent / runs));
-        }
-    }
-}
-
-/// Searches for the first match and its groups. Returns whether there is one, and the mean time.
-fn again(regex: &regex::Regex, text: &str) -> (bool, f64) {
-    let mut groups = regex.capture_locations();
-    let (before, mut runs, mut found) = (used(), 0.0, false);
-    loop {
-        for _ in 0..REPEATED {
-            found = regex.captures_read(&mut groups, text).is_some();
-        }
-        runs += f64::from(REPEATED);
-        let spent = used() - before;
-        if spent >= SPENT {
-            return (found, spent / runs);
         }
     }
 }
@@ -61,13 +51,20 @@ fn main() -> ExitCode {
     let Ok(regex) = regex::Regex::new(pattern) else {
         return ExitCode::from(1);
     };
-    if mode == "again" {
-        let (found, mean) = again(&regex, &text);
-        println!("{} {mean:.9} {mean:.9}", u8::from(found));
-        return ExitCode::SUCCESS;
-    }
-    if mode == "compile" {
-        let Ok((found, mean)) = compile(pattern, &text) else {
+    let mean = match mode.as_str() {
+        "again" => {
+            let mut groups = regex.capture_locations();
+            Some(repeat(REPEATED, || {
+                Ok(regex.captures_read(&mut groups, &text).is_some())
+            }))
+        }
+        "compile" => Some(repeat(1, || {
+            Ok(regex::Regex::new(pattern)?.find(&text).is_some())
+        })),
+        _ => None,
+    };
+    if let Some(mean) = mean {
+        let Ok((found, mean)) = mean else {
             return ExitCode::from(1);
         };
         println!("{} {mean:.9} {mean:.9}", u8::from(found));
@@ -79,6 +76,10 @@ fn main() -> ExitCode {
         "all" => regex.find_iter(&text).count(),
         _ => regex.find(&text).iter().count(),
     };
-    println!("{count} {} {}", used() - before, started.elapsed().as_secs_f64());
+    println!(
+        "{count} {} {}",
+        used() - before,
+        started.elapsed().as_secs_f64()
+    );
     ExitCode::SUCCESS
 }

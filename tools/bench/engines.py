@@ -180,13 +180,13 @@ def others(folder, kit, crates=None):
     else:
         skip("V8", "there is no node")
     engines["Python"] = Timed([sys.executable, str(HERE / "count.py")], inline)
-    program = compiled(folder, "count_pcre2", "pcre2-8", "libpcre2-dev")
-    if program:
-        engines["PCRE2 interpreter"] = Timed([program, "interpreter"], inline)
-        engines["PCRE2 JIT"] = Timed([program, "jit"], inline)
-    program = compiled(folder, "count_re2", "re2", "libre2-dev")
-    if program:
-        engines["RE2"] = Timed([program], inline)
+    for name, library, package, words in (
+        ("count_pcre2", "pcre2-8", "libpcre2-dev", {"PCRE2 interpreter": ["interpreter"], "PCRE2 JIT": ["jit"]}),
+        ("count_re2", "re2", "libre2-dev", {"RE2": []}),
+    ):
+        program = compiled(folder, name, library, package)
+        if program:
+            engines |= {label: Timed([program, *added], inline) for label, added in words.items()}
     program = built_crate(folder, crates)
     if program:
         engines[RUST] = Timed([program], for_crate)

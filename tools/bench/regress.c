@@ -94,67 +94,77 @@ static int result_of(uint32_t status) {
     }
 }
 
-/* Compiles the pattern and searches for its first match until SPENT seconds are used. Prints the number of matches
-   and the mean time. Returns the library's status, or REGRESS_SYNTAX if the pattern is rejected. */
-static uint32_t compile(const char *pattern, uint32_t flags, const struct text *text) {
-    size_t spans[256], needed, runs = 0;
+/* What is searched for, where, and with what. */
+struct request {
+    const char *pattern;
+    uint32_t flags;
+    const struct text *text;
+    regress_regex regex;
+    regress_searcher searcher;
+};
+
+/* Searches for the first match with a searcher. Returns the library's status. */
+static uint32_t search_first(struct request *request) {
+    size_t spans[256], needed;
+    return regress_searcher_find(&request->searcher, &request->regex, request->text->bytes, request->text->length, 0,
+                                 spans, 256, &needed);
+}
+
+/* Compiles the pattern and searches for its first match. Returns the library's status, or REGRESS_SYNTAX if the pattern
+   is rejected. */
+static uint32_t compile_and_search(struct request *request) {
+    size_t spans[256], needed;
+    regress_regex regex;
+    if (!is_compiled(request->pattern, request->flags, &regex)) {
+        return REGRESS_SYNTAX;
+    }
+    uint32_t status = regress_find(&regex, request->text->bytes, request->text->length, 0, spans, 256, &needed);
+    regress_free(&regex);
+    return status;
+}
+
+/* Runs a search again and again, `times` times between two looks at the clock, until SPENT seconds are used. Prints the
+   number of matches and the mean time. Returns the library's status. */
+static uint32_t repeat(uint32_t (*search)(struct request *), struct request *request, size_t times) {
+    size_t runs = 0;
     uint32_t status = REGRESS_OK;
     clock_t before = clock();
     double used = 0;
     while (used < SPENT) {
-        regress_regex regex;
-        if (!is_compiled(pattern, flags, &regex)) {
-            return REGRESS_SYNTAX;
+        for (size_t i = 0; i < times; i++) {
+            status = search(request);
+            if (status != REGRESS_OK && status != REGRESS_NO_MATCH) {
+                return status;
+            }
         }
-        status = regress_find(&regex, text->bytes, text->length, 0, spans, 256, &needed);
-        regress_free(&regex);
-        if (status != REGRESS_OK && status != REGRESS_NO_MATCH) {
-            return status;
-        }
-        runs += 1;
+        runs += times;
         used = (double)(clock() - before) / CLOCKS_PER_SEC;
     }
-    printf("%d %.9f %.9f\n", status == REGRESS_OK, used / (double)runs, used / (double)runs);
-    return status;
-}
-
-/* Searches for the first match with a searcher until SPENT seconds are used. Prints the number of matches and the mean
-   time. Returns the library's status. */
-static uint32_t again(const regress_regex *regex, const struct text *text) {
-    regress_searcher searcher;
-    size_t spans[256], needed, runs = 0;
-    uint32_t status = regress_searcher_new(&searcher);
-    if (status != REGRESS_OK) {
-        return status;
-    }
-    clock_t before = clock();
-    double used = 0;
-    while (used < SPENT && (status == REGRESS_OK || status == REGRESS_NO_MATCH)) {
-        for (int i = 0; i < REPEATED; i++) {
-            status = regress_searcher_find(&searcher, regex, text->bytes, text->length, 0, spans, 256, &needed);
-        }
-        runs += REPEATED;
-        used = (double)(clock() - before) / CLOCKS_PER_SEC;
-    }
-    regress_searcher_free(&searcher);
     printf("%d %.9f %.9f\n", status == REGRESS_OK, used / (double)runs, used / (double)runs);
     return status;
 }
 
 int main(int count, char **arguments) {
     struct text text;
-    regress_regex regex;
     if (count != 5 || !read_text(arguments[1], &text)) {
         return 3;
     }
-    if (!strcmp(arguments[4], "compile")) {
-        return result_of(compile(arguments[2], flags_of(arguments[3]), &text));
+    const char *mode = arguments[4];
+    struct request request = {.pattern = arguments[2], .flags = flags_of(arguments[3]), .text = &text};
+    if (!strcmp(mode, "compile")) {
+        return result_of(repeat(compile_and_search, &request, 1));
     }
-    if (!is_compiled(arguments[2], flags_of(arguments[3]), &regex)) {
+    if (!is_compiled(request.pattern, request.flags, &request.regex)) {
         return 1;
     }
-    if (!strcmp(arguments[4], "again")) {
-        return result_of(again(&regex, &text));
+    if (strcmp(mode, "again")) {
+        return result_of(search(&request.regex, &text, !strcmp(mode, "all")));
     }
-    return result_of(search(&regex, &text, !strcmp(arguments[4], "all")));
+    uint32_t status = regress_searcher_new(&request.searcher);
+    if (status != REGRESS_OK) {
+        return result_of(status);
+    }
+    status = repeat(search_first, &request, REPEATED);
+    regress_searcher_free(&request.searcher);
+    return result_of(status);
 }
