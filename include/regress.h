@@ -186,6 +186,8 @@ uint32_t regress_escape_raw(const uint8_t *text, size_t length, uint8_t *out, si
 size_t regress_group_count_raw(regress_regex *handle);
 uint32_t regress_group_name_raw(regress_regex *handle, size_t group, uint8_t *out, size_t room, size_t *needed);
 uint32_t regress_error_message_raw(uint32_t kind, uint8_t *out, size_t room, size_t *needed);
+uint32_t regress_error_sentence_raw(const uint8_t *pattern, size_t length, uint32_t kind, size_t position, uint8_t *out,
+                                    size_t room, size_t *needed);
 void regress_free_raw(regress_regex *handle);
 uint32_t regress_differences_raw(const uint8_t *pattern, size_t length, uint32_t flags,
                                  regress_difference *differences, size_t room, size_t *needed, uint32_t *kind,
@@ -676,6 +678,27 @@ REGRESS_INLINE uint32_t regress_error_message(uint32_t kind, uint8_t *out, size_
         return regress_bad_input(needed);
     }
     return regress_error_message_raw(kind, REGRESS_OR(out, no_out), room, REGRESS_OR(needed, no_needed));
+}
+
+/* Writes a sentence for a person about a syntax error, in UTF-8, to `out`, a buffer of `room` bytes: what is wrong, and
+   what to write if the pattern has the syntax of another engine there, as in
+
+       nothing to repeat (JavaScript has no possessive quantifiers)
+
+   without the position and a full stop. `kind` and `position` are the numbers that regress_compile writes for the
+   pattern. The sentences may change. A zero follows if there is room.
+
+   Returns OK, MEMORY, ROOM or BAD_INPUT: the last if there is no such kind, or if the pattern is not UTF-8. `needed` is the
+   length of the sentence in bytes with OK and ROOM, else 0. */
+REGRESS_INLINE uint32_t regress_error_sentence(const uint8_t *pattern, size_t length, uint32_t kind, size_t position,
+                                               uint8_t *out, size_t room, size_t *needed) {
+    size_t no_needed = 0;
+    uint8_t no_byte = 0, no_out = 0;
+    if (REGRESS_IS_MISSING(pattern, length) || REGRESS_IS_MISSING(out, room)) {
+        return regress_bad_input(needed);
+    }
+    return regress_error_sentence_raw(REGRESS_OR(pattern, no_byte), length, kind, position, REGRESS_OR(out, no_out), room,
+                                      REGRESS_OR(needed, no_needed));
 }
 
 /* Frees a handle, and makes it zero. It does nothing if the handle is zero, or if the pointer is NULL. */

@@ -49,10 +49,11 @@ int main(int count, char **arguments) {
     uint32_t status = regress_compile((const uint8_t *)pattern, strlen(pattern), REGRESS_UNICODE, &limits, &regex,
                                       &kind, &position);
     if (status == REGRESS_SYNTAX) {
-        uint8_t message[128];
-        size_t needed;
-        regress_error_message(kind, message, sizeof message, &needed);
-        fprintf(stderr, "at position %zu: %.*s\n", position, (int)needed, (const char *)message);
+        uint8_t sentence[200];
+        size_t needed = 0;
+        regress_error_sentence((const uint8_t *)pattern, strlen(pattern), kind, position, sentence, sizeof sentence,
+                               &needed);
+        fprintf(stderr, "at position %zu: %.*s\n", position, (int)needed, (const char *)sentence);
         return 1;
     }
     if (status == REGRESS_OK) {

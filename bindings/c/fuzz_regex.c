@@ -161,9 +161,13 @@ int LLVMFuzzerTestOneInput(const uint8_t *data, size_t size) {
     regress_limits limits = {100000, 10000, 0, 0, 0, 0};
     uint32_t status = regress_compile(pattern, length, flags, &limits, &regex, &kind, &position);
     if (status == REGRESS_SYNTAX) {
-        static uint8_t message[128];
+        static uint8_t message[512];
         uint32_t told = regress_error_message(kind, message, sizeof message, &needed);
         if (told != REGRESS_OK || needed == 0 || position > length) {
+            abort();
+        }
+        told = regress_error_sentence(pattern, length, kind, position, message, sizeof message, &needed);
+        if (told != REGRESS_OK || needed == 0) {
             abort();
         }
     }

@@ -283,6 +283,15 @@ static uint32_t message(uint32_t of, size_t room) {
     return regress_error_message(of, bytes, room, &needed);
 }
 
+/* Sentences are longer. */
+#define LINE 256
+static uint8_t line[LINE + 1];
+
+static uint32_t sentence(const char *pattern, uint32_t of, size_t position, size_t room) {
+    memset(line, 0xA5, sizeof line);
+    return regress_error_sentence((const uint8_t *)pattern, strlen(pattern), of, position, line, room, &needed);
+}
+
 static uint32_t next(regress_matches *matches, size_t room) {
     mark();
     return regress_matches_next(matches, spans, room, &needed);
@@ -398,6 +407,33 @@ static void names(void) {
     CHECK(name(&regex, 4, ROOM) == REGRESS_BAD_INPUT && are_bytes(""));
     CHECK(name(&regex, SIZE_MAX, ROOM) == REGRESS_BAD_INPUT && are_bytes(""));
     regress_free(&regex);
+}
+
+/* Checks the sentence for the syntax error of a pattern. */
+static int is_rejected_by(const char *pattern, uint32_t flags, const char *expected) {
+    regress_regex regex = {NULL};
+    uint32_t kind = 0;
+    size_t position = 0;
+    return regress_compile((const uint8_t *)pattern, strlen(pattern), flags, NULL, &regex, &kind, &position)
+               == REGRESS_SYNTAX
+           && sentence(pattern, kind, position, LINE) == REGRESS_OK && needed == strlen(expected)
+           && memcmp(line, expected, needed + 1) == 0 && line[needed + 1] == 0xA5;
+}
+
+static void sentences(void) {
+    CHECK(is_rejected_by("a**", 0, "nothing to repeat (write `\\*` for the character)"));
+    CHECK(is_rejected_by("\xC3\xA9(?P<n>b)", 0, "unknown kind of group (a named group is written `(?<name>..)`)"));
+    CHECK(is_rejected_by("(?<a>b)\\k<c>", 0, "no group has the name `c`"));
+    CHECK(is_rejected_by("a\\-", REGRESS_UNICODE,
+                         "unknown escape `\\-` (write `-`: with the flag u only syntax characters are escaped)"));
+    CHECK(sentence("a)", 1, 1, 4) == REGRESS_ROOM && needed == 44 && line[0] == 0xA5);
+    CHECK(sentence("a)", 0, 1, LINE) == REGRESS_BAD_INPUT && needed == 0);
+    CHECK(sentence("a)", 33, 1, LINE) == REGRESS_BAD_INPUT && needed == 0);
+    CHECK(sentence("\xFF", 1, 0, LINE) == REGRESS_BAD_INPUT && needed == 0);
+    /* Neither the kind nor the position need be those of the pattern. */
+    for (uint32_t each = 1; each <= 32; each++) {
+        CHECK(sentence("", each, SIZE_MAX, LINE) == REGRESS_OK && needed > 0);
+    }
 }
 
 static void messages(void) {
@@ -859,6 +895,9 @@ static void null_pointers(void) {
     CHECK(regress_group_name(&regex, 0, NULL, 0, NULL) == REGRESS_BAD_INPUT);
     CHECK(regress_error_message(1, NULL, 0, &needed) == REGRESS_ROOM && needed == 22);
     CHECK(regress_error_message(1, NULL, 1, &needed) == REGRESS_BAD_INPUT && needed == 0);
+    CHECK(regress_error_sentence(NULL, 0, 1, 0, NULL, 0, &needed) == REGRESS_ROOM && needed > 0);
+    CHECK(regress_error_sentence(NULL, 1, 1, 0, NULL, 0, &needed) == REGRESS_BAD_INPUT && needed == 0);
+    CHECK(regress_error_sentence(NULL, 0, 1, 0, NULL, 1, NULL) == REGRESS_BAD_INPUT);
     CHECK(regress_differences(NULL, 0, SMALL, NULL, 0, NULL, NULL, NULL) == REGRESS_OK);
     CHECK(regress_differences(NULL, 1, SMALL, NULL, 0, &needed, &kind, &position) == REGRESS_BAD_INPUT);
     CHECK(regress_difference_name(1, NULL, 0, NULL) == REGRESS_ROOM);
@@ -1156,6 +1195,7 @@ int main(void) {
     lists();
     names();
     messages();
+    sentences();
     replaces();
     replaces_some();
     keeps_replaced();

@@ -186,6 +186,16 @@ extern "C" {
         needed: *mut usize,
     ) -> u32;
 
+    fn regress_error_sentence_raw(
+        pattern: *const u8,
+        length: usize,
+        kind: u32,
+        position: usize,
+        out: *mut u8,
+        room: usize,
+        needed: *mut usize,
+    ) -> u32;
+
     fn regress_free_raw(handle: *mut RegressRegex);
 
     fn regress_differences_raw(
@@ -554,6 +564,24 @@ pub(crate) fn escape(text: &str) -> Output<u8> {
             regress_escape_raw(
                 start_of(text),
                 text.len(),
+                out.as_mut_ptr(),
+                out.len(),
+                needed,
+            )
+        }
+    })
+}
+
+/// Writes the sentence for a syntax error of a kind at a position of a pattern, in UTF-8.
+pub(crate) fn sentence(pattern: &str, kind: u32, position: usize) -> Output<u8> {
+    with_room(128, |out: &mut [u8], needed| {
+        // SAFETY: pointers and lengths are those of slices.
+        unsafe {
+            regress_error_sentence_raw(
+                start_of(pattern),
+                pattern.len(),
+                kind,
+                position,
                 out.as_mut_ptr(),
                 out.len(),
                 needed,

@@ -49,6 +49,7 @@ fn a_syntax_error_of_ecma_has_a_kind_a_text_and_a_position() {
             text,
             position,
             offset,
+            ..
         }) => (kind, text, position, offset),
         _ => panic!("{pattern} is accepted"),
     };

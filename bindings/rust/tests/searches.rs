@@ -248,12 +248,14 @@ fn texts_are_split_at_matches() {
 }
 
 #[test]
-fn a_syntax_error_has_a_kind_a_text_and_a_position() {
+fn a_syntax_error_has_a_kind_a_text_a_sentence_and_a_position() {
     let error = Regex::new("a[b").unwrap_err();
-    assert_eq!(error.to_string(), "Unbalanced bracket, at position 1");
+    let sentence = r"unterminated class (write `\[` for the character)";
+    assert_eq!(error.to_string(), format!("{sentence}, at position 1"));
     let Error::Syntax {
         kind,
         text,
+        message,
         position,
         offset,
     } = error
@@ -262,6 +264,7 @@ fn a_syntax_error_has_a_kind_a_text_and_a_position() {
     };
     assert_eq!(kind, FaultKind::UnbalancedBracket);
     assert_eq!(text, "Unbalanced bracket");
+    assert_eq!(message, sentence);
     assert_eq!((position, offset), (1, 1));
     let error = Regex::new("é[z-a]").unwrap_err();
     assert!(matches!(
@@ -272,10 +275,15 @@ fn a_syntax_error_has_a_kind_a_text_and_a_position() {
             ..
         }
     ));
-    // The text ends in a mark of its own.
     assert_eq!(
         error.to_string(),
-        "Range values reversed, start char code is greater than end char code, at position 2"
+        r"a range ends before it begins (write `\-` for the character `-`), at position 2"
+    );
+    // What another engine has.
+    let error = Regex::new("é(?P<a>b)").unwrap_err();
+    assert_eq!(
+        error.to_string(),
+        "unknown kind of group (a named group is written `(?<name>..)`), at position 3"
     );
     let error = Regex::new("é(").unwrap_err();
     assert!(matches!(

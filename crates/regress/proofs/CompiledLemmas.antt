@@ -104,6 +104,6 @@ too_long_is_due setting source options t is r compile_fault.TooLong (Err error) 
 pub due_with_letters : (letters : List ℕ) (source : Source) → AreFlags letters → (error : Error) →
     IsDue (unicode_setting (flags_of letters)) source default_options error → IsDueWithLetters letters source error
 due_with_letters letters source are (BadFlags e) due = absurd due
-due_with_letters letters source are (Syntax kind text position) due = (are, due)
+due_with_letters letters source are (Syntax kind text position message) due = (are, due)
 due_with_letters letters source are TooLarge due = (are, due)
 due_with_letters letters source are Memory due = (are, due)

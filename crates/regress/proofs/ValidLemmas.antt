@@ -51,7 +51,7 @@ HasTreePastLimits letters source = (p : Pattern) × IsDerivedIn Ecma (unicode_se
 pub rejected_past_limits : (letters : List ℕ) (source : Source) (error : Error) → IsDueWithLetters letters source error → IsRejection error →
     (d : Disjunction) → IsValidAs letters source d → HasTree letters source → HasTreePastLimits letters source
 rejected_past_limits letters source (Flags e) due is d valid has_tree = absurd (no_flags_with letters e due valid.parsed.flags)
-rejected_past_limits letters source (Syntax kind text position) due is d valid has_tree =
+rejected_past_limits letters source (Syntax kind text position message) due is d valid has_tree =
     (has_tree.0, has_tree.1, past_limits kind has_tree.0 has_tree.2 (due.1.reported.reported has_tree.0 has_tree.1))
 rejected_past_limits letters source TooLarge due is d valid has_tree = absurd is
 rejected_past_limits letters source Memory due is d valid has_tree = absurd is

@@ -3,8 +3,6 @@ use Rattle.std.specs.Prelude.{◌⊎◌, ℕ, ◌<◌, List, string_bytes}
 use Rattle.regress_front.specs.Bound.{node_bound}
 use Rattle.regress_front.specs.Steps.{Setting}
 use Rattle.regress_front.specs.Source.{Source}
-use Rattle.regress_front.specs.declared.parse.PlacedFault.{PlacedFault}
-use Rattle.regress_front.specs.declared.parse.PlacedFault.TheVariants as fault
 use Rattle.regress_found.specs.declared.fault.MemoryFault.{MemoryFault}
 use Rattle.regress_found.specs.declared.fault.MemoryFault.TheVariants as memory_fault
 use Rattle.regress_front.specs.Tree.{Tree}
@@ -21,11 +19,6 @@ use Rattle.regress.specs.declared.failure.Error.TheVariants.{Flags, Syntax, TooL
 use Rattle.regress.specs.declared.failure.SearchError.{SearchError}
 use Rattle.regress.specs.declared.failure.SearchError.TheVariants as search_error
 use Rattle.regress.specs.declared.limits.Options.{Options}
-
--- an error of the parser as an error of `Regex`
-abbrev pub error_of : PlacedFault → Error
-error_of (fault.Syntax kind e position) = Syntax kind e.text position
-error_of (fault.Memory e) = Memory
 
 -- an error of compiling as an error of `Regex`
 abbrev pub compile_error_of : CompileFault → Error
@@ -49,9 +42,9 @@ abbrev pub IsTooLarge : Setting → Source → Options → Type 0
 IsTooLarge setting source options =
     (options.nodes < node_bound setting.flags.unicode_sets source) ⊎ IsTooLong setting source options
 
--- An error is due in the dialect of the options: a syntax error, or the pattern is too large. It is not about flags. Out of memory it states nothing.
+-- An error is due in the dialect of the options: a syntax error, with any sentence, or the pattern is too large. It is not about flags. Out of memory it states nothing.
 abbrev pub IsDue : Setting → Source → Options → Error → Type 0
-IsDue setting source options (Syntax kind text position) =
+IsDue setting source options (Syntax kind text position message) =
     IsSyntaxErrorIn options.dialect setting source kind (string_bytes text) position
 IsDue setting source options (Flags e) = ⊥
 IsDue setting source options TooLarge = IsTooLarge setting source options

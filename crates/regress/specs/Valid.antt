@@ -27,7 +27,7 @@ IsPastLimits p =
 
 -- The error says that the flags or the pattern are rejected.
 abbrev pub IsRejection : Error → Type 0
-IsRejection (Syntax kind text position) = Unit {0}
+IsRejection (Syntax kind text position message) = Unit {0}
 IsRejection (Flags e) = Unit {0}
 IsRejection TooLarge = ⊥
 IsRejection Memory = ⊥

@@ -10,7 +10,7 @@ ghost use Rattle.regress.specs.Compiled.{IsTreeOfIn};
 ghost use Rattle.regress.specs.Failures.{IsDue};
 ghost use Rattle.regress.specs.declared.limits.Options.{Options};
 
-use crate::failure::Error;
+use crate::failure::{Error, syntax_error};
 use crate::outside_pairs::matches_outside_pairs;
 use regress_front::ir::Regex;
 use regress_front::optimizer::optimize;
@@ -36,7 +36,10 @@ pub(crate) fn optimized(
     ensures failed { let setting = setting_of (flags_in_force dialect flags) tables.now in
         (options : Options) → options.dialect ≡ dialect → IfErr result (IsDue setting points.now options) }
 {
-    let mut regex = try_parse_in(alloc, points, flags, tables, dialect)?;
+    let mut regex = match try_parse_in(alloc, points, flags, tables, dialect) {
+        Ok(regex) => regex,
+        Err(fault) => return Err(syntax_error(alloc, fault, points)),
+    };
     let outside = matches_outside_pairs(&regex.node);
     optimize(alloc, &mut regex)?;
     Ok((regex, outside))

@@ -1,26 +1,33 @@
 //! Errors of compiling and of searching.
 ghost use Rattle.std.specs.Prelude.{◌≡◌};
-ghost use Rattle.regress.specs.Failures.{compile_error_of, error_of, search_error_of};
+ghost use Rattle.regress_front.specs.Settled.{IsFaultIn};
+ghost use Rattle.regress_front.specs.Steps.{Setting};
+ghost use Rattle.regress.specs.Failures.{IsDue, compile_error_of, search_error_of};
 ghost use Rattle.regress.specs.declared.failure.Error.TheVariants.{Flags, Memory};
 ghost use Rattle.regress.specs.declared.failure.SearchError.TheVariants.{Memory as SearchMemory};
+ghost use Rattle.regress.specs.declared.limits.Options.{Options};
 
 use crate::letters::FlagsError;
 use regress_front::parse::{FaultKind, PlacedFault};
 use regress_match::{CompileFault, MemoryFault};
-use std::alloc::{AllocError, AllocFailed};
+use regress_messages::sentence;
+use std::alloc::{AllocError, AllocFailed, Global};
 
 /// Why a pattern was not compiled.
 #[derive(Debug, Drop, thiserror::Error)]
 pub enum Error {
     /// The pattern is rejected: the grammar does not derive it within the limits of the dialect.
-    #[error("{}, at position {position}", .text.trim_end_matches('.'))]
+    #[error("{message}, at position {position}")]
     Syntax {
         /// What is wrong, as a kind for a program.
         kind: FaultKind,
-        /// What is wrong, as a message for a person. `docs/errors.md` lists the texts.
+        /// What is wrong, as the text of the kind, which does not change. `docs/errors.md` lists the texts.
         text: String,
         /// The position of the error: a code-point index of the pattern, at most its length.
         position: usize,
+        /// What is wrong, as a sentence for a person, with what to write for the syntax of another engine. The sentences
+        /// are tested, and may change.
+        message: String,
     },
     /// The letters specify no flags. Only [`Regex::with_flags`](crate::Regex::with_flags) returns it.
     #[error("{0}")]
@@ -58,22 +65,25 @@ impl From<FlagsError> for Error {
     }
 }
 
-impl From<PlacedFault> for Error {
-    ghost from_gives = { λ fault error. error ≡ error_of fault };
-
-    fn from(fault: PlacedFault) -> Error {
-        match fault {
-            PlacedFault::Syntax {
-                kind,
-                error,
-                position,
-            } => Error::Syntax {
+/// Returns why a pattern is rejected, with its sentence, or `Memory` if that cannot be allocated.
+pub(crate) fn syntax_error(alloc: Global, fault: PlacedFault, pattern: &[u32]) -> Error
+    ensures { (setting : Setting) (options : Options) → IsFaultIn options.dialect setting pattern.now fault → IsDue setting pattern.now options result }
+{
+    match fault {
+        PlacedFault::Syntax {
+            kind,
+            error,
+            position,
+        } => match sentence(alloc, &kind, pattern, position) {
+            Ok(message) => Error::Syntax {
                 kind,
                 text: error.text,
                 position,
+                message,
             },
-            PlacedFault::Memory(_) => Error::Memory,
-        }
+            Err(_) => Error::Memory,
+        },
+        PlacedFault::Memory(_) => Error::Memory,
     }
 }
 

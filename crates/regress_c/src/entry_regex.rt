@@ -10,6 +10,7 @@ ghost use Rattle.regress_capi.specs.Fault.{HasKind, IsTextOf};
 ghost use Rattle.regress_capi.specs.Reasons.{reason_number};
 ghost use Rattle.regress_capi.specs.Request.{dialect_of, setting_in, IsCompileRequest};
 ghost use Rattle.regress_capi.specs.SearchResults.{SearchResult, TestResult};
+ghost use Rattle.regress_capi.specs.SentenceResults.{SentenceResult};
 ghost use Rattle.regress_capi.specs.Spans.{AreEndsOfAll, AreEndsOfFirst};
 ghost use Rattle.regress_capi.specs.TextResults.{HasGroup, IsNameOf, TextResult};
 ghost use Rattle.regress_found.specs.Found.{Finds};
@@ -19,6 +20,7 @@ use regress_capi::handle::Handle;
 use regress_capi::limits::Limits;
 use regress_capi::reasons::reason_number;
 use regress_capi::searches::{self, Searched};
+use regress_capi::sentences::{Located, write_sentence};
 use regress_capi::texts;
 use std::alloc::Global;
 
@@ -276,6 +278,26 @@ pub extern "C" fn regress_error_message_raw(kind: u32, out: &mut [u8], needed: &
     ensures status { TextResult (HasKind kind) (IsTextOf kind) out.old result needed.new out.new }
 {
     texts::write_message(kind, out, needed)
+}
+
+/// Writes the sentence for a syntax error of a pattern in UTF-8. A zero follows if there is room.
+///
+/// # Errors
+/// Returns a status: 0 for success, 2 if an allocation failed, 3 if `out` is too small, and 4 if there is no such kind or the
+/// pattern is not UTF-8. `out` is changed only with 0, and `needed` is 0 unless the status is 0 or 3.
+#[unsafe(no_mangle)]
+pub extern "C" fn regress_error_sentence_raw(
+    alloc: Global,
+    pattern: &[u8],
+    kind: u32,
+    position: usize,
+    out: &mut [u8],
+    needed: &mut usize,
+) -> u32
+    ensures status { SentenceResult (HasKind kind) (IsUtf8 pattern.now) out.old result needed.new out.new }
+{
+    let error = Located { kind, position };
+    write_sentence(alloc, pattern, error, out, needed)
 }
 
 /// Frees the regular expression of a handle.

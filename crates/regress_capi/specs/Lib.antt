@@ -10,6 +10,7 @@ pub mod Reasons
 pub mod ExactResults
 pub mod CompileResults
 pub mod TextResults
+pub mod SentenceResults
 pub mod ReplaceResults
 pub mod ReplacedResults
 pub mod ExpandResults

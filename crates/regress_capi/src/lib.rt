@@ -25,6 +25,7 @@ mod request;
 pub mod results;
 pub mod searcher_handle;
 pub mod searches;
+pub mod sentences;
 pub mod spanning;
 pub mod splitting;
 pub mod texts;

@@ -101,16 +101,14 @@ pub(crate) fn case_words(either_case: bool) -> &'static str {
     if either_case { ", in either case" } else { "" }
 }
 
-/// Returns a character as a list has it: itself, or its name if it is invisible.
+/// Returns a character as a list has it: itself in quotation marks, or its name if it is invisible or such a mark.
 pub(crate) fn listed(alloc: Global, c: u32, several: bool) -> Result<String, AllocError> {
-    if c != 0x20
-        && !is_seen(c)
-        && let Some(name) = name_of_character(c, several)
-    {
+    let is_quoted = is_seen(c) && c != 0x22;
+    if !is_quoted && let Some(name) = name_of_character(c, several) {
         return String::from_str(alloc, name);
     }
-    if c == 0x20 {
-        return String::from_str(alloc, if several { "spaces" } else { "a space" });
+    if is_quoted {
+        return quoted(alloc, &[c]);
     }
     let mut text = String::new(alloc);
     push_symbol(c, alloc, &mut text)?;

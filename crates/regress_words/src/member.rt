@@ -13,9 +13,9 @@ const LISTED: usize = 12;
 pub(crate) struct Member {
     /// On its own: `a hyphen (-)`.
     pub(crate) alone: String,
-    /// In a list: `-`.
+    /// In a list: `"-"`.
     listed: String,
-    /// As an exception: `-`, `digits`.
+    /// As an exception: `"-"`, `digits`.
     except: String,
     kind: Kind,
 }
@@ -52,15 +52,10 @@ impl Member {
             (0x41..=0x5A, 0x41..=0x5A) | (0x61..=0x7A, 0x61..=0x7A) => "a letter",
             _ => "a character",
         };
-        let dash = if is_seen(first) && is_seen(last) {
-            "-"
-        } else {
-            " to "
-        };
         Ok(Member {
             alone: format!(in alloc; "{what} from {from} to {to}")?,
-            listed: format!(in alloc; "{from}{dash}{to}")?,
-            except: format!(in alloc; "{from}{dash}{to}")?,
+            listed: format!(in alloc; "{from} to {to}")?,
+            except: format!(in alloc; "{from} to {to}")?,
             kind: Kind::Range,
         })
     }
@@ -104,8 +99,11 @@ impl Member {
     }
 }
 
-/// Returns the first or the last character of a range: itself, or its number if it is invisible.
+/// Returns the first or the last character of a range: itself in quotation marks, or its number if it is invisible.
 fn end_of_range(alloc: Global, c: u32) -> Result<String, AllocError> {
+    if is_seen(c) {
+        return listed(alloc, c, false);
+    }
     let mut text = String::new(alloc);
     if c == 0x20 {
         text.push_str("a space")?;
@@ -220,7 +218,7 @@ fn list(alloc: Global, members: &[Member], form: Form, last: &str) -> Result<Str
                 written = written.saturating_add(1);
                 let between = between(written, shown, count, last);
                 list.push_str(between)?;
-                list.push_str(in_list(member, form, count))?;
+                list.push_str(in_list(member, form))?;
             }
         }
     }
@@ -242,15 +240,10 @@ fn between(written: usize, shown: usize, count: usize, last: &str) -> &str {
     }
 }
 
-/// Returns a member as a list of that many has it. In a longer one a comma is a word.
-fn in_list(member: &Member, form: Form, count: usize) -> &str {
-    let text = match form {
+/// Returns a member as a list has it.
+fn in_list(member: &Member, form: Form) -> &str {
+    match form {
         Form::Listed => member.listed.as_str(),
         Form::Except => member.except.as_str(),
-    };
-    if text == "," && count > 2 {
-        "a comma"
-    } else {
-        text
     }
 }

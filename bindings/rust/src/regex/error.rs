@@ -15,8 +15,11 @@ pub enum Error {
     Syntax {
         /// What is wrong, as a kind for a program.
         kind: FaultKind,
-        /// What is wrong, as a message for a person. `docs/errors.md` lists the texts.
+        /// What is wrong, as the text of the kind, which does not change. `docs/errors.md` lists the texts.
         text: String,
+        /// What is wrong, as a sentence for a person, with what to write for the syntax of another engine. The sentences may
+        /// change.
+        message: String,
         /// The position of the error: a code-point index of the pattern, at most its length.
         position: usize,
         /// The same position as a byte offset of the pattern.
@@ -38,9 +41,9 @@ pub enum Error {
 impl fmt::Display for Error {
     fn fmt(&self, f: &mut fmt::Formatter<'_>) -> fmt::Result {
         match self {
-            Error::Syntax { text, position, .. } => {
-                write!(f, "{}, at position {position}", text.trim_end_matches('.'))
-            }
+            Error::Syntax {
+                message, position, ..
+            } => write!(f, "{message}, at position {position}"),
             Error::Flags(error) => error.fmt(f),
             Error::Nonlinear(reason) => write!(f, "searches are not linear: {reason}"),
             Error::TooLarge => f.write_str("the pattern is too large"),
@@ -115,14 +118,28 @@ pub(crate) fn syntax_error(pattern: &str, bits: u32) -> Error {
             text,
             position,
             offset,
-        } => Error::Syntax {
-            kind,
-            text,
-            position,
-            offset,
+        } => match sentence(pattern, kind, position) {
+            Ok(message) => Error::Syntax {
+                kind,
+                text,
+                message,
+                position,
+                offset,
+            },
+            Err(error) => error,
         },
         Fault::Memory => Error::Memory,
         Fault::NoCodePoint | Fault::Library => Error::Library,
+    }
+}
+
+/// Returns the sentence for a syntax error of a kind at a position of a pattern.
+fn sentence(pattern: &str, kind: FaultKind, position: usize) -> Result<String, Error> {
+    let output = ffi::sentence(pattern, kind as u32, position);
+    match output.status {
+        ffi::OK => String::from_utf8(output.items).map_err(|_| Error::Library),
+        ffi::MEMORY => Err(Error::Memory),
+        _ => Err(Error::Library),
     }
 }
 
