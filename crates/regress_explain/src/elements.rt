@@ -1,5 +1,6 @@
 //! What a pattern consists of, for its summary.
 
+use crate::conditions::boundary_words;
 use regress_base::types::AnchorType;
 use regress_labels::{Character, single_character};
 use regress_tree::ir::Node;
@@ -22,6 +23,8 @@ pub(crate) enum Element<'a> {
         end: AnchorType,
         multiline: bool,
     },
+    /// An assertion other than `^` and `$` that each match meets, in words.
+    Assertion(&'static str),
     /// What consumes nothing.
     Position,
     Other,
@@ -111,16 +114,22 @@ fn leaf_element<'a>(
     node: &'a Node,
     optional: bool,
 ) -> Result<Element<'a>, AllocError> {
+    if !optional && let Some(words) = boundary_words(node) {
+        return Ok(Element::Assertion(words));
+    }
     Ok(match node {
         Node::Anchor {
             anchor_type,
             multiline,
-        } => Element::Anchor {
+        } if !optional => Element::Anchor {
             end: *anchor_type,
             multiline: *multiline,
         },
-        Node::Empty | Node::Goal | Node::WordBoundary { .. } | Node::LookaroundAssertion { .. } =>
-            Element::Position,
+        Node::Empty
+        | Node::Goal
+        | Node::Anchor { .. }
+        | Node::WordBoundary { .. }
+        | Node::LookaroundAssertion { .. } => Element::Position,
         node => match single_character(alloc, node)? {
             Some(character) => Element::Character {
                 character,

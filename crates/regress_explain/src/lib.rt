@@ -1,6 +1,7 @@
 //! Explanations of patterns in words: as lines of text, and as a page with a railroad diagram.
 #![tactic(auto)]
 
+mod conditions;
 mod elements;
 mod gathering;
 mod html;

@@ -96,7 +96,7 @@ impl<'a> Named<'a> {
                 };
             }
             Element::Other => self.between = Between::More,
-            Element::Anchor { .. } | Element::Position => {}
+            Element::Anchor { .. } | Element::Assertion(_) | Element::Position => {}
         }
         Ok(())
     }

@@ -1,8 +1,10 @@
 //! One sentence about a pattern.
 
+use crate::conditions::{condition_words, is_zero_width, reason};
 use crate::elements::{Element, add_elements};
 use crate::lengths::{Length, matched_length};
 use crate::subjects::subject;
+use regress_assertions::impossible_assertion;
 use regress_base::types::AnchorType;
 use regress_labels::{Character, is_seen, quoted};
 use regress_tree::ir::Node;
@@ -11,18 +13,23 @@ use std::alloc::{AllocError, Global};
 use std::mem;
 
 /// Returns a sentence about what a tree matches: what the names of its groups tell, or else a text that each match has;
-/// how long a match is; and whether it is the whole text.
+/// how long a match is; whether it is the whole text; and which assertions have to hold. If an assertion that has to hold
+/// never does, the sentence says so.
 ///
 /// # Errors
 /// Returns [`AllocError`] if an allocation fails.
 pub(crate) fn summary(alloc: Global, root: &Node) -> Result<String, AllocError> {
+    if let Some(assertion) = impossible_assertion(root) {
+        return ["Never matches: ", reason(assertion), "."].concat(alloc);
+    }
     let Some(length) = matched_length(alloc, root)? else {
         return String::from_str(alloc, "Never matches.");
     };
     let mut elements = Vec::new(alloc);
     add_elements(alloc, root, false, &mut elements)?;
     let words = matched_words(alloc, &elements, length)?;
-    ["Matches ", &words, place_words(&elements), "."].concat(alloc)
+    let conditions = condition_words(alloc, root, &elements)?;
+    ["Matches ", &words, place_words(&elements), &conditions, "."].concat(alloc)
 }
 
 /// Returns the words of what these elements match.
@@ -108,7 +115,7 @@ fn whole_text(alloc: Global, elements: &[Element<'_>]) -> Result<Option<Text>, A
                 character,
                 optional: false,
             } if text.joins(*character) => text.push(*character)?,
-            Element::Anchor { .. } | Element::Position => {}
+            Element::Anchor { .. } | Element::Assertion(_) | Element::Position => {}
             _ => return Ok(None),
         }
     }
@@ -199,13 +206,8 @@ enum Extent {
 
 /// Returns where a match is, if the pattern begins or ends with an anchor.
 fn place_words(elements: &[Element<'_>]) -> &'static str {
-    let first = elements
-        .iter()
-        .find(|one| !matches!(one, Element::Position));
-    let last = elements
-        .iter()
-        .rev()
-        .find(|one| !matches!(one, Element::Position));
+    let first = elements.iter().find(|one| !is_zero_width(*one));
+    let last = elements.iter().rev().find(|one| !is_zero_width(*one));
     let start = anchored(first, AnchorType::StartOfLine);
     match (start, anchored(last, AnchorType::EndOfLine)) {
         (Some(Extent::Text), Some(Extent::Text)) => ", the whole text",

@@ -2,3 +2,4 @@ mod StepLemmas
 mod MarkLemmas
 mod BelowLemmas
 mod WithinLemmas
+mod MemberLemmas

@@ -3,6 +3,7 @@ pub mod Alternatives
 pub mod Empty
 pub mod Digits
 pub mod Classes
+pub mod Written
 pub mod Warned
 pub mod Walked
 -- re-exports what the public contract cites from other crates, so that a caller names one library

@@ -2,8 +2,7 @@
 ghost use Rattle.std.specs.Prelude.{◌≡◌, ◌||◌, ◌&&◌, ◌==◌, ℕ, [], false, not, zip, IfOk, OnOk};
 ghost use Rattle.regress_tree.specs.Tree.{tree, alt};
 ghost use Rattle.regress_spans.specs.Children.{trees_at};
-ghost use Rattle.regress_warnings.specs.Classes.{has_letter_range, writes_letter_range};
-ghost use Rattle.regress_warnings.specs.Warned.{is_same_span, warn_if, warned_at, warned};
+ghost use Rattle.regress_warnings.specs.Warned.{is_same_span, warn_if, warned_at, warned, warned_of_members, warned_of_written, warned_of_set};
 ghost use Rattle.regress_warnings.specs.Walked.{Adds, Closes, is_recorded, is_span};
 
 use crate::alternatives::{has_empty_alternative, hides_next, splits_anchors};
@@ -12,7 +11,11 @@ use crate::classes::has_letter_range;
 use crate::digits::has_dot_between_digits;
 use crate::empty::can_be_empty;
 use crate::kind::{Warning, WarningKind};
-use crate::repeated::{repeats_member, writes_letter_range};
+use crate::members::members;
+use crate::repeated::{inside, is_class, repeats_some, some_letter_range};
+use crate::written::{
+    divides, has_above, has_class_in_range, has_name, has_surrogates, is_identity_escape,
+};
 use regress_base::codepointset::Interval;
 use regress_parse::Span;
 use regress_tree::ir::Node;
@@ -32,6 +35,7 @@ pub(crate) fn find_warnings(
     ensures { IfOk result (λ found. found.items ≡ warned sets pattern.now [] (zip (trees_at nodes.now) spans.now)) }
 {
     let mut finder = Finder {
+        alloc,
         sets,
         pattern,
         closed: Vec::new(alloc),
@@ -71,6 +75,7 @@ fn is_same_span(span: Span, other: Span) -> bool
 /// The state of a walk in postorder.
 #[derive(Drop)]
 struct Finder<'a> {
+    alloc: Global,
     /// Whether the pattern has the flag v.
     sets: bool,
     pattern: &'a [u32],
@@ -90,12 +95,11 @@ impl Finder<'_> {
                 self.add_if(unset, WarningKind::UnsetReference, span)?;
                 self.add_if(is_first, WarningKind::BackReference, span)
             }
-            Node::Bracket(contents) => {
-                let range = self.has_letter_range(contents.cps.intervals(), span);
-                let repeats = !self.sets && repeats_member(self.pattern, span);
-                self.add_if(range, WarningKind::LetterRange, span)?;
-                self.add_if(repeats, WarningKind::RepeatedMember, span)
+            Node::Char { .. } | Node::CharSet(_) => {
+                let holds = is_identity_escape(self.pattern, span);
+                self.add_if(holds, WarningKind::IdentityEscape, span)
             }
+            Node::Bracket(contents) => self.warn_of_set(contents.cps.intervals(), span),
             Node::Cat(parts) => {
                 let holds = has_dot_between_digits(parts);
                 self.add_if(holds, WarningKind::DotBetweenDigits, span)
@@ -144,11 +148,53 @@ impl Finder<'_> {
         Ok(())
     }
 
-    /// Returns whether a class has all characters from an upper-case to a lower-case letter.
-    fn has_letter_range(&self, intervals: &[Interval], span: Span) -> bool
-        ensures { result ≡ (has_letter_range intervals.now || not self.now.sets && writes_letter_range self.now.pattern.now span) }
+    /// Lists what is warned of in a set, which may be written as a class.
+    fn warn_of_set(&mut self, intervals: &[Interval], span: Span) -> Result<(), AllocError>
+        ensures adds { OnOk result (Adds self.old self.new (warned_of_set self.old.sets self.old.pattern.now intervals.now span)) }
     {
-        has_letter_range(intervals) || !self.sets && writes_letter_range(self.pattern, span)
+        if !self.sets && is_class(self.pattern, span) {
+            let written = inside(self.pattern, span);
+            self.warn_of_members(intervals, written, span)?;
+            self.warn_of_written(intervals, written, span)
+        } else {
+            let holds = has_letter_range(intervals);
+            self.add_if(holds, WarningKind::LetterRange, span)
+        }
+    }
+
+    /// Lists what is warned of in the members of a class.
+    fn warn_of_members(
+        &mut self,
+        intervals: &[Interval],
+        written: &[u32],
+        span: Span,
+    ) -> Result<(), AllocError>
+        ensures adds { OnOk result (Adds self.old self.new (warned_of_members intervals.now written.now span)) }
+    {
+        let members = members(self.alloc, written)?;
+        let letters = has_letter_range(intervals) || some_letter_range(&members);
+        let repeats = !(letters || has_name(written)) && repeats_some(&members);
+        let ranges = has_class_in_range(&members);
+        self.add_if(letters, WarningKind::LetterRange, span)?;
+        self.add_if(repeats, WarningKind::RepeatedMember, span)?;
+        self.add_if(ranges, WarningKind::ClassInRange, span)
+    }
+
+    /// Lists what is warned of in what is written in a class.
+    fn warn_of_written(
+        &mut self,
+        intervals: &[Interval],
+        written: &[u32],
+        span: Span,
+    ) -> Result<(), AllocError>
+        ensures adds { OnOk result (Adds self.old self.new (warned_of_written intervals.now written.now span)) }
+    {
+        let divides = divides(written);
+        let splits = has_surrogates(intervals) && has_above(written);
+        let names = has_name(written);
+        self.add_if(divides, WarningKind::BarInClass, span)?;
+        self.add_if(splits, WarningKind::SplitCharacter, span)?;
+        self.add_if(names, WarningKind::PosixClass, span)
     }
 
     fn is_closed(&self, number: usize) -> bool

@@ -27,6 +27,18 @@ pub enum WarningKind {
     BackReference,
     /// A lookaround that is not negated and contains a capture group.
     CapturingLookaround,
+    /// An assertion that can never hold between what is directly before and after it.
+    ImpossibleAssertion,
+    /// A class with a `|` between letters, digits or escapes.
+    BarInClass,
+    /// A class with a hyphen between a class escape and another member.
+    ClassInRange,
+    /// A class without the flag u in which a character above U+FFFF is its two surrogates.
+    SplitCharacter,
+    /// An escape of a letter that is that letter.
+    IdentityEscape,
+    /// A class that contains `[:` and ends with `:]`.
+    PosixClass,
 }
 
 impl WarningKind {
@@ -45,10 +57,16 @@ impl WarningKind {
             WarningKind::RepeatedMember => "repeated-member",
             WarningKind::BackReference => "back-reference",
             WarningKind::CapturingLookaround => "capturing-lookaround",
+            WarningKind::ImpossibleAssertion => "impossible-assertion",
+            WarningKind::BarInClass => "bar-in-class",
+            WarningKind::ClassInRange => "class-in-range",
+            WarningKind::SplitCharacter => "split-character",
+            WarningKind::IdentityEscape => "identity-escape",
+            WarningKind::PosixClass => "posix-class",
         }
     }
 
-    /// Returns the number of the kind, which never changes: from 1 to 10, in the order of the variants.
+    /// Returns the number of the kind, which never changes: from 1 to 16, in the order of the variants.
     pub fn number(&self) -> u32
         ensures { result ≡ number_of self.now }
     {
@@ -63,6 +81,12 @@ impl WarningKind {
             WarningKind::RepeatedMember => 8,
             WarningKind::BackReference => 9,
             WarningKind::CapturingLookaround => 10,
+            WarningKind::ImpossibleAssertion => 11,
+            WarningKind::BarInClass => 12,
+            WarningKind::ClassInRange => 13,
+            WarningKind::SplitCharacter => 14,
+            WarningKind::IdentityEscape => 15,
+            WarningKind::PosixClass => 16,
         }
     }
 
@@ -99,6 +123,24 @@ impl WarningKind {
             WarningKind::CapturingLookaround =>
                 "with a group in a lookaround a search for all matches may take more than linear time: (?=(a*b)?)a in a \
                  long text of a",
+            WarningKind::ImpossibleAssertion =>
+                "a ^, $, \\b, \\B or lookaround that can never hold between what is before and after it, so what \
+                 needs it never matches: a$b",
+            WarningKind::BarInClass =>
+                "| in a class is that character, and does not separate alternatives: [a|b] matches |, (?:a|b) \
+                 does not",
+            WarningKind::ClassInRange =>
+                "- beside a class escape is that character, and no range; with the flag u it is an error: [\\w-.] \
+                 matches -",
+            WarningKind::SplitCharacter =>
+                "without the flag u a class has the two halves of a character above U+FFFF in place of it, which \
+                 no text here contains",
+            WarningKind::IdentityEscape =>
+                "without the flag u this escape is the letter itself, and with it an error; other engines may \
+                 have a meaning for it: \\A matches A",
+            WarningKind::PosixClass =>
+                "[: and :] name no class here, but are characters of one: [[:alpha:]] matches a], \\p{Alphabetic} \
+                 with the flag u is a letter",
         }
     }
 }

@@ -7,9 +7,12 @@ mod classes;
 mod digits;
 mod empty;
 mod finder;
+mod impossible;
 mod kind;
+mod members;
 mod pattern;
 mod repeated;
+mod written;
 
 pub use kind::{Warning, WarningKind};
 pub use pattern::{remarks_of, warnings, warnings_of};

@@ -9,9 +9,10 @@ ghost use Rattle.regress_parse.specs.Settled.{IsFaultOf};
 ghost use Rattle.regress_tree.specs.Tree.{tree};
 ghost use Rattle.regress_spans.specs.Paired.{postorder, spanned_of};
 ghost use Rattle.regress_spans.specs.Remarks.{said_by};
-ghost use Rattle.regress_warnings.specs.Warned.{all_said, said_of, warned};
+ghost use Rattle.regress_warnings.specs.Warned.{all_said, all_warned, said_of};
 
 use crate::finder::find_warnings;
+use crate::impossible::add_impossible;
 use crate::kind::Warning;
 use regress_base::types::Flags;
 use regress_parse::PlacedFault;
@@ -33,11 +34,13 @@ pub fn warnings_of(
 ) -> Result<Vec<Warning>, AllocError>
     // What is warned of in the nodes, each with its span.
     ensures { IfOk result (λ found. found.items
-        ≡ warned parsed.now.regex.flags.unicode_sets pattern.now [] (zip (postorder (tree parsed.now.regex.node)) parsed.now.spans.items)) }
+        ≡ all_warned parsed.now.regex.flags.unicode_sets pattern.now (zip (postorder (tree parsed.now.regex.node)) parsed.now.spans.items)) }
 {
     let nodes = nodes_in_postorder(alloc, &parsed.regex.node)?;
     let sets = parsed.regex.flags.unicode_sets;
-    find_warnings(alloc, pattern, sets, &nodes, &parsed.spans)
+    let mut found = find_warnings(alloc, pattern, sets, &nodes, &parsed.spans)?;
+    add_impossible(alloc, &nodes, &parsed.spans, &mut found)?;
+    Ok(found)
 }
 
 /// Returns a sentence about each part of a parsed pattern that [`warnings_of`] returns, in the same order.
@@ -76,7 +79,7 @@ fn remarks(alloc: Global, found: &[Warning]) -> Result<Vec<Remark>, AllocError>
 }
 
 /// Returns the parts of a pattern that may not be what its author meant, in the order of the spans of
-/// [`try_parse_with_spans`].
+/// [`try_parse_with_spans`], and then in this order the assertions that can never hold.
 ///
 /// - Each alternative is compared with the next one only.
 /// - A back reference is listed if its group, or the first one of its name, ends after it, or contains it; in a
@@ -84,8 +87,11 @@ fn remarks(alloc: Global, found: &[Warning]) -> Result<Vec<Remark>, AllocError>
 ///   not listed. Each back reference is listed once more, as a search with it may not be linear; so is each lookaround
 ///   that captures, other than in a lookaround or in a loop without iterations inside it.
 /// - A class is listed if an interval of its set runs from an upper-case to a lower-case letter, also where it has a
-///   range such as `[-\x60` beside `A-Z` and `a-z`; without v and escapes also if such a range is written in it.
-/// - A class with the flag v, or with an escape, is not searched for repeated members.
+///   range such as `[-\x60` beside `A-Z` and `a-z`; without v also if such a range is written in it.
+/// - A class with the flag v is not searched for repeated members, and class escapes and properties are none.
+/// - An assertion is compared with the characters that can be directly before or after it, if what is there has to match
+///   at least one: `$` before a letter, `^` after one, `\b` between two, and a lookaround whose first character, or if it
+///   is negated whose only one, is a set.
 /// - A `.` between digits has the span of the sequence that has it and the digits before it, and one warning for each
 ///   sequence.
 ///
@@ -120,7 +126,7 @@ pub fn warnings(
     // What is warned of in the nodes, each with its span.
     ensures listed { let setting = setting_of flags tables.now in
         IfOk result (λ found. (p : Pattern) × (accepted : IsAccepted setting pattern.now p)
-        × (found.items ≡ warned flags.unicode_sets pattern.now [] (spanned_of setting pattern.now p accepted.derived))) }
+        × (found.items ≡ all_warned flags.unicode_sets pattern.now (spanned_of setting pattern.now p accepted.derived))) }
     ensures within { IfOk result (λ found.
         All (λ w. IsWithin (record { start = 0; end = length pattern.now }) w.span) found.items) }
 

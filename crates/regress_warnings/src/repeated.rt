@@ -2,39 +2,25 @@
 ghost use Rattle.std.specs.Prelude.{◌≡◌, ◌≤◌, ◌==◌, take, drop, length};
 ghost use Rattle.std.specs.List.{list_any};
 ghost use Rattle.regress_lexer.specs.Source.{char, is_at};
-ghost use Rattle.regress_warnings.specs.Classes.{is_letter_range, IsPartEnd, after_caret, inside, parts, have_twice, some_below, is_plain_class, repeats_member, writes_letter_range};
+ghost use Rattle.regress_warnings.specs.Classes.{is_letter_range, IsPartEnd, after_caret, inside, parts, have_twice, some_below, is_class, repeats_some, writes_letter_range};
 
 use crate::classes::is_letter_range;
+use regress_base::codepointset::CODE_POINT_MAX;
 use regress_parse::Span;
 
-/// Returns whether the source of a node with this span is a class in brackets, without an escape, of which two parts
-/// have the same ASCII character.
+/// Returns whether two parts of a class have the same ASCII character, given its members.
 ///
 /// # Complexity
-/// Linear in the length of the span, 128 times at most.
-pub(crate) fn repeats_member(pattern: &[u32], span: Span) -> bool
-    ensures { result ≡ repeats_member pattern.now span }
+/// Linear in the number of members, 128 times at most.
+pub(crate) fn repeats_some(members: &[u32]) -> bool
+    ensures { result ≡ repeats_some members.now }
 {
-    is_plain_class(pattern, span) && some_twice(128, inside(pattern, span))
+    some_twice(128, members)
 }
 
-/// Returns whether it is such a class, of which a part is a range from an upper-case to a lower-case letter.
-pub(crate) fn writes_letter_range(pattern: &[u32], span: Span) -> bool
-    ensures { result ≡ writes_letter_range pattern.now span }
-{
-    is_plain_class(pattern, span) && some_letter_range(inside(pattern, span))
-}
-
-/// Returns whether the source of a node with this span is a class in brackets, without an escape.
-fn is_plain_class(pattern: &[u32], span: Span) -> bool
-    ensures { result ≡ is_plain_class pattern.now span }
-{
-    is_bracket_at(pattern, span.start) && !has_escape(inside(pattern, span))
-}
-
-/// Returns whether a part is a range from an upper-case to a lower-case letter.
-fn some_letter_range(inside: &[u32]) -> bool
-    ensures { result ≡ list_any is_letter_range (parts inside.now) }
+/// Returns whether a part is a range from an upper-case to a lower-case letter, given the members of a class.
+pub(crate) fn some_letter_range(inside: &[u32]) -> bool
+    ensures { result ≡ writes_letter_range inside.now }
 {
     let mut rest = inside;
     while let [first, after @ ..] = rest {
@@ -47,17 +33,18 @@ fn some_letter_range(inside: &[u32]) -> bool
     false
 }
 
-fn is_bracket_at(pattern: &[u32], index: usize) -> bool
-    ensures { result ≡ is_at (char "[") (drop index pattern.now) }
+/// Returns whether the source of a node with this span is a class in brackets.
+pub(crate) fn is_class(pattern: &[u32], span: Span) -> bool
+    ensures { result ≡ is_class pattern.now span }
 {
-    match pattern.get(index..) {
+    match pattern.get(span.start..) {
         Some([c, ..]) => *c == u32::from('['),
         _ => false,
     }
 }
 
 /// Returns what is between the brackets of a class with this span.
-fn inside(pattern: &[u32], span: Span) -> &[u32]
+pub(crate) fn inside(pattern: &[u32], span: Span) -> &[u32]
     ensures { result.now ≡ inside pattern.now span }
 {
     let length = span.end.saturating_sub(span.start).saturating_sub(2);
@@ -94,19 +81,6 @@ fn after_caret(source: &[u32]) -> &[u32]
     }
 }
 
-fn has_escape(inside: &[u32]) -> bool
-    ensures { result ≡ list_any (λ c. c == char "\\") inside.now }
-{
-    let mut rest = inside;
-    while let [c, others @ ..] = rest {
-        if *c == u32::from('\\') {
-            return true;
-        }
-        rest = others;
-    }
-    false
-}
-
 /// Returns whether two parts have the same character less than `limit`.
 fn some_twice(limit: u32, inside: &[u32]) -> bool
     ensures { result ≡ some_below limit (λ c. have_twice c (parts inside.now)) }
@@ -127,7 +101,7 @@ fn have_twice(c: u32, inside: &[u32]) -> bool
     let mut rest = inside;
     while let [first, after @ ..] = rest {
         let (last, others) = part_end(*first, after);
-        let has = *first <= c && c <= last;
+        let has = *first <= c && c <= last && last <= CODE_POINT_MAX;
         if has && found {
             return true;
         }

@@ -6,8 +6,8 @@ use Rattle.regress_parse.specs.declared.span.Span.{Span}
 use Rattle.regress_parse.specs.Spans.{IsWithin}
 use Rattle.regress_spans.specs.Paired.{postorder}
 use Rattle.regress_warnings.specs.declared.kind.Warning.{Warning}
-use Rattle.regress_warnings.specs.Warned.{warned}
-use Rattle.regress_warnings.proofs.WithinLemmas.{warned-spans}
+use Rattle.regress_warnings.specs.Warned.{all_warned}
+use Rattle.regress_warnings.proofs.WithinLemmas.{all-spans}
 use Rattle.regress_warnings.proofs.pattern.warnings.Goals as goal
 
 pub returns-clause-listed : goal.returns-clause-listed
@@ -16,7 +16,7 @@ returns-clause-listed c =
       paired.0,
       paired.1,
       c.in_ok-warnings_of.ensures
-          ∙ ap₂ (λ (sets : Bool) (nodes : List (Tree × Span)). warned sets c.args.pattern.now [] nodes)
+          ∙ ap₂ (λ (sets : Bool) (nodes : List (Tree × Span)). all_warned sets c.args.pattern.now nodes)
           (ap (λ (f : Flags). f.unicode_sets) c.in_ok-parsed.ensures.flags) paired.2,
     )
 
@@ -25,5 +25,5 @@ returns-clause-within c =
     let whole : Span = record { start = 0; end = length c.args.pattern.now } in
     let parsed = c.in_ok-parsed.parsed in
     subst (λ (ws : List Warning). All (λ w. IsWithin whole w.span) ws) (sym c.in_ok-warnings_of.ensures)
-    (warned-spans (IsWithin whole) parsed.regex.flags.unicode_sets c.args.pattern.now [] (postorder (tree parsed.regex.node)) parsed.spans.items
+    (all-spans (IsWithin whole) parsed.regex.flags.unicode_sets c.args.pattern.now (postorder (tree parsed.regex.node)) parsed.spans.items
     c.in_ok-parsed.ensures.within)

@@ -1,0 +1,13 @@
+-- Each character so far is.
+use Rattle.std.proofs.Common.{◌≡◌, length}
+use Rattle.std.specs.List.{list_all, list_any}
+use Rattle.regress_assertions.specs.Characters.{one, is_inside}
+use Rattle.regress_assertions.proofs.set.are_points_inside.Given as goal
+
+abbrev pub invariant-loop-rest : goal.invariant-loop-rest
+invariant-loop-rest l =
+    list_all (λ c. list_any (is_inside (one c)) l.fn.intervals) l.fn.points
+    ≡ list_all (λ c. list_any (is_inside (one c)) l.fn.intervals) l.rest
+
+abbrev pub decreases-loop-rest : goal.decreases-loop-rest
+decreases-loop-rest l = length l.rest
