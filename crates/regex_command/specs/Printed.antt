@@ -52,14 +52,14 @@ IsUnread (in_file name) failure = MayFailToRead failure
 abbrev pub AreUnread : List Source → Failure → Type 0
 AreUnread sources failure = Any (λ source. IsUnread source failure) sources
 
--- No pattern is accepted, or one is that is too large for a search, or memory is short.
+-- No pattern is accepted, or it is too large for a search, or memory is short.
 abbrev pub IsRejected : Dialect → Setting → (text : List ℕ) → Failure → Type 0
 IsRejected dialect setting text Argument = ⊥
 IsRejected dialect setting text Memory = ⊤
 IsRejected dialect setting text Output = ⊥
 IsRejected dialect setting text Closed = ⊥
 IsRejected dialect setting text (Syntax pattern message position) = NoneIsAcceptedIn dialect setting (chars text)
-IsRejected dialect setting text TooLarge = IsAcceptedPattern dialect setting (chars text) × IsTooLarge setting (chars text) (options_in dialect)
+IsRejected dialect setting text TooLarge = IsTooLarge setting (chars text) (options_in dialect)
 IsRejected dialect setting text OutOfSteps = ⊥
 IsRejected dialect setting text (Unreadable unread) = ⊥
 IsRejected dialect setting text Incomplete = ⊥

@@ -43,7 +43,7 @@ pub(crate) fn print_explanation<'f, W: Write, E: Write>(
             print(text.as_bytes(), out)?;
             Ok(true)
         }
-        Err(fault) => reject(fault, pattern.text, err),
+        Err(fault) => reject(alloc, fault, pattern.text, err),
     }
 }
 

@@ -23,6 +23,7 @@ use regress::Dialect;
 use regress_arguments::write_with_carets;
 use regress_base::util::code_points;
 use regress_differences::remarks_of as differences;
+use regress_messages::sentence;
 use regress_parse::PlacedFault;
 use regress_spans::{Remark, Span, SpannedRegex, try_parse_with_spans_in};
 use regress_ucd::unicode_tables;
@@ -54,27 +55,28 @@ pub(crate) fn print_lint<'f, W: Write>(
             add_size_remark(alloc, pattern, points.len(), &mut remarks)?;
             print_remarks(alloc, &points, &remarks, out)
         }
-        Err(fault) => Err(rejection(alloc, fault, pattern.text)),
+        Err(fault) => Err(rejection(alloc, fault, pattern.text, &points)),
     }
 }
 
-/// Returns why a pattern is rejected.
-fn rejection<'f>(alloc: Global, fault: PlacedFault, pattern: &str) -> Failure<'f>
+/// Returns why a pattern with these code points is rejected.
+fn rejection<'f>(alloc: Global, fault: PlacedFault, pattern: &str, points: &[u32]) -> Failure<'f>
     ensures { (dialect : Dialect) (setting : Setting) (source : List ℕ) → IsFaultIn dialect setting source fault → MayFailToLint dialect setting source result }
 {
     match fault {
-        PlacedFault::Syntax {
-            error,
-            position,
-            ..
-        } => match String::from_str(alloc, pattern) {
-            Ok(pattern) => Failure::Syntax {
-                pattern,
-                text: error.text,
-                position,
-            },
-            Err(_) => Failure::Memory,
-        },
+        PlacedFault::Syntax { kind, position, .. } => {
+            match (
+                String::from_str(alloc, pattern),
+                sentence(alloc, &kind, points, position),
+            ) {
+                (Ok(pattern), Ok(text)) => Failure::Syntax {
+                    pattern,
+                    text,
+                    position,
+                },
+                _ => Failure::Memory,
+            }
+        }
         PlacedFault::Memory(_) => Failure::Memory,
     }
 }

@@ -9,7 +9,7 @@ ghost use Rattle.regex_command.specs.Patterns.{HasFaultOutput, IsTreeOutput, IsF
 ghost use Rattle.regex_lines.specs.declared.failure.Failure.TheVariants.{Output};
 ghost use Rattle.regress_parse.specs.Settled.{IsSyntaxErrorIn};
 
-use regex_lines::{Failure, write_syntax_error};
+use regex_lines::{Failure, Rejection, write_rejection};
 use regress_display::{Format, Request, ShowError, show, write_json_fault};
 use regress_parse::{Error, FaultKind};
 use std::alloc::Global;
@@ -21,6 +21,16 @@ struct Fault<'a> {
     kind: &'a FaultKind,
     error: &'a Error,
     position: usize,
+}
+
+impl<'a> Fault<'a> {
+    fn rejection(self) -> Rejection<'a> {
+        Rejection {
+            kind: self.kind,
+            text: &self.error.text,
+            position: self.position,
+        }
+    }
 }
 
 /// Writes the tree of a pattern, or why it is rejected, and returns whether it is accepted.
@@ -54,7 +64,7 @@ pub(crate) fn print_tree<'f, W: Write, E: Write>(
                 error: &error,
                 position,
             };
-            print_fault(fault, request, out, err)
+            print_fault(alloc, fault, request, out, err)
         }
         Err(ShowError::Memory) => Err(Failure::Memory),
         Err(ShowError::Output) => Err(Failure::Output),
@@ -63,6 +73,7 @@ pub(crate) fn print_tree<'f, W: Write, E: Write>(
 
 /// Writes why a pattern is rejected, and returns that it is not accepted.
 fn print_fault<'f, W: Write, E: Write>(
+    alloc: Global,
     fault: Fault<'_>,
     request: Request<'_>,
     out: &mut W,
@@ -79,12 +90,12 @@ fn print_fault<'f, W: Write, E: Write>(
 {
     match request.format {
         Format::Text => {
-            let _ = write_syntax_error(&fault.error.text, request.pattern, fault.position, err);
+            let _ = write_rejection(alloc, fault.rejection(), request.pattern, err);
             Ok(false)
         }
         Format::Json => print_json_fault(fault, request, out),
         Format::Svg => {
-            let _ = write_syntax_error(&fault.error.text, request.pattern, fault.position, err);
+            let _ = write_rejection(alloc, fault.rejection(), request.pattern, err);
             Ok(false)
         }
     }

@@ -3,11 +3,12 @@ ghost use Rattle.std.specs.Prelude.{◌≡◌, ⊤, []};
 ghost use Rattle.regex_lines.specs.Ending.{IsLate, IsOutputFailure, IsInputFailure, IsSearchFailure, MayFailToRead, unaccepted};
 ghost use Rattle.regex_lines.specs.declared.failure.Failure.TheVariants.{Output};
 
-use crate::unread::{Unread, UnreadPath, reason_of, write_reason};
+use crate::unread::{Unread, UnreadPath, reason_for, write_reason};
 use regress::{Error, SearchError};
 use regress_arguments::{write_visible, write_with_caret};
-use regress_parse::PlacedFault;
-use std::alloc::{AllocError, AllocFailed};
+use regress_messages::sentence_of_text;
+use regress_parse::{FaultKind, PlacedFault};
+use std::alloc::{AllocError, AllocFailed, Global};
 use std::io::{self, ErrorKind, Write};
 
 /// Why a run ends with status 2.
@@ -44,6 +45,17 @@ pub enum Failure<'a> {
     },
     /// The input with this name has 2^64 lines, or matches to count.
     TooLong(String),
+}
+
+/// A syntax error of a pattern.
+#[derive(Clone, Copy)]
+pub struct Rejection<'a> {
+    /// What is wrong, as a kind.
+    pub kind: &'a FaultKind,
+    /// The text of the kind.
+    pub text: &'a str,
+    /// A code-point index of the pattern, or its length.
+    pub position: usize,
 }
 
 impl<'a> From<AllocError> for Failure<'a> {
@@ -177,6 +189,7 @@ pub fn detached<'a>(failure: Failure<'_>) -> Failure<'a>
 /// # Errors
 /// Returns `Memory` if that is why.
 pub fn reject<'f, E: Write>(
+    alloc: Global,
     fault: PlacedFault,
     pattern: &str,
     err: &mut E,
@@ -185,14 +198,37 @@ pub fn reject<'f, E: Write>(
 {
     match fault {
         PlacedFault::Syntax {
+            kind,
             error,
             position,
-            ..
         } => {
-            let _ = write_syntax_error(&error.text, pattern, position, err);
+            let rejection = Rejection {
+                kind: &kind,
+                text: &error.text,
+                position,
+            };
+            let _ = write_rejection(alloc, rejection, pattern, err);
             Ok(false)
         }
         PlacedFault::Memory(_) => Err(Failure::Memory),
+    }
+}
+
+/// Writes a syntax error as a sentence, with its position, and the pattern with a caret. If there is no memory for the
+/// sentence, the text of the kind is written.
+///
+/// # Errors
+/// Returns an error of `err`.
+pub fn write_rejection<E: Write>(
+    alloc: Global,
+    rejection: Rejection<'_>,
+    pattern: &str,
+    err: &mut E,
+) -> io::Result<()> {
+    let position = rejection.position;
+    match sentence_of_text(alloc, rejection.kind, pattern, position) {
+        Ok(text) => write_syntax_error(&text, pattern, position, err),
+        Err(_) => write_syntax_error(rejection.text.trim_end_matches('.'), pattern, position, err),
     }
 }
 
@@ -214,25 +250,21 @@ pub fn read_failure(error: io::Error, name: &str) -> Failure<'_>
 {
     match error.kind() {
         ErrorKind::OutOfMemory => Failure::Memory,
-        kind => Failure::Unreadable(Unread {
+        _ => Failure::Unreadable(Unread {
             name,
-            reason: reason_of(kind),
+            reason: reason_for(&error),
         }),
     }
 }
 
-/// Writes a syntax error, without a full stop at its end, with its position, a code-point index of the pattern or its
-/// length, and the pattern with a caret.
-///
-/// # Errors
-/// Returns an error of `err`.
-pub fn write_syntax_error<E: Write>(
+/// Writes what is wrong with a pattern, with its position, a code-point index of the pattern or its length, and the pattern
+/// with a caret.
+fn write_syntax_error<E: Write>(
     text: &str,
     pattern: &str,
     position: usize,
     err: &mut E,
 ) -> io::Result<()> {
-    let text = text.trim_end_matches('.');
     writeln!(err, "regex: {text}, at position {position}")?;
     write_with_caret(pattern, position, err)
 }

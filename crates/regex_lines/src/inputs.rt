@@ -8,6 +8,7 @@ ghost use Rattle.regex_options.specs.Plain.{job};
 
 use crate::failure::{Failure, read_failure};
 use crate::place::{Place, is_standard};
+use crate::reading::BUFFER;
 use crate::rewriting::{rewrite_file, unwritten};
 use crate::searcher::Searcher;
 use crate::searching::{InputSearch, reaches, search_lines, write_end};
@@ -335,7 +336,7 @@ fn read_input<'a, I: Read + Drop, W: Write>(
         (PrintsPart search.entry.searcher.now.regex.now (job search.entry.task) (named search.entry.place) (I.remaining input) (W.contents out.old) (W.contents out.new))) }
     ensures failed { IfErr result (IsInputFailure (IsCostly search.entry.searcher.now.regex.now)) }
 {
-    match BufReader::new(search.searcher.alloc, input) {
+    match BufReader::with_capacity(search.searcher.alloc, BUFFER, input) {
         Ok(mut reader) => search_reader(search, &mut reader, out),
         Err(_) => Err(Failure::Memory),
     }

@@ -17,13 +17,15 @@ mod runs;
 mod searcher;
 mod searching;
 mod spans;
+mod successor;
 mod unread;
 mod walk;
 mod window;
+mod words;
 
 pub use failure::{
-    Failure, detached, read_failure, reject, report, report_paths, report_unread,
-    write_syntax_error,
+    Failure, Rejection, detached, read_failure, reject, report, report_paths, report_unread,
+    write_rejection,
 };
 pub use inputs::{FileSearch, Searched, search_all};
 pub use printing::{flush, print};

@@ -8,6 +8,9 @@ ghost use Rattle.regex_lines.specs.declared.reading.Next.TheVariants.{Line};
 use memchr::memchr;
 use std::io::{self, BufRead, Read};
 
+/// How many bytes of a file are read or written at once.
+pub(crate) const BUFFER: usize = 256 * 1024;
+
 /// What a reader had next.
 #[derive(Clone, Copy)]
 pub(crate) enum Next {

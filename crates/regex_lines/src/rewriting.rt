@@ -5,32 +5,14 @@ ghost use Rattle.regex_lines.specs.Searched.{PrintsLines, SearchesAll, SearchesL
 ghost use Rattle.regex_options.specs.Plain.{job};
 
 use crate::failure::Failure;
+use crate::reading::BUFFER;
 use crate::searching::{InputSearch, search_lines, write_end};
+use crate::successor::{Original, Successor, create_beside, succeed};
 use crate::unread::{Reason, Unread, reason_of};
+use crate::words::system_words;
 use std::alloc::Global;
-use std::fs::{File, Files, Metadata, OpenFile, OpenOptions};
+use std::fs::{File, Files, Metadata};
 use std::io::{self, BufRead, BufReader, BufWriter, ErrorKind, Read, Write};
-use std::os::unix::fs::{MetadataExt, OpenOptionsExt};
-
-/// How many names are tried for a new file.
-const NAMES: u32 = 1000;
-
-/// A file to rewrite: its path, without symbolic links, and who may read and write it.
-#[derive(Drop)]
-struct Original {
-    path: String,
-    metadata: Metadata,
-}
-
-/// The file that gets the name of the original.
-#[derive(Clone, Copy)]
-struct Successor<'p> {
-    original: &'p Original,
-    /// Its name until then.
-    name: &'p str,
-    /// What is after the name of the original then, which is not kept if this is empty.
-    suffix: &'p str,
-}
 
 /// Rewrites a file, and prints how many matches are replaced if they are counted.
 ///
@@ -119,25 +101,6 @@ fn rewrite_regular<'a, R: Files>(
     result
 }
 
-/// Creates a file beside the one with this path, which only its owner may read and write, and returns its name.
-fn create_beside<R: Files>(rt: &R, alloc: Global, path: &str) -> io::Result<(String, R::File)> {
-    let mut how = OpenOptions::new();
-    how.write(true);
-    how.create_new(true);
-    how.mode(0o600);
-    for number in 0..NAMES {
-        let name = format!(in alloc; "{path}.regex-{number}")?;
-        match how.open(rt, name.as_str()) {
-            Ok(file) => return Ok((name, file)),
-            Err(error) => match error.kind() {
-                ErrorKind::AlreadyExists => {}
-                _ => return Err(error),
-            },
-        }
-    }
-    Err(io::Error::from(ErrorKind::AlreadyExists))
-}
-
 /// Writes what the task writes for the lines of a file to a new one, which then gets its name.
 fn replace<'a, R: Files>(
     rt: &R,
@@ -169,7 +132,7 @@ fn write_lines<'a, I: Read + Drop, T: Write + Drop>(
         (T.contents file) (T.contents written.1) written.0) }
     ensures failed { IfErr result (IsInputFailure (IsCostly search.entry.searcher.now.regex.now)) }
 {
-    match BufReader::new(search.searcher.alloc, input) {
+    match BufReader::with_capacity(search.searcher.alloc, BUFFER, input) {
         Ok(mut reader) => write_from(search, &mut reader, file),
         Err(_) => Err(Failure::Memory),
     }
@@ -185,7 +148,7 @@ fn write_from<'a, B: BufRead, T: Write + Drop>(
         (T.contents file) (T.contents written.1) written.0) }
     ensures failed { IfErr result (IsInputFailure (IsCostly search.entry.searcher.now.regex.now)) }
 {
-    let Ok(mut writer) = BufWriter::new(search.searcher.alloc, file) else {
+    let Ok(mut writer) = BufWriter::with_capacity(search.searcher.alloc, BUFFER, file) else {
         return Err(Failure::Memory);
     };
     let selected = search_lines(search, reader, &mut writer)?;
@@ -193,29 +156,6 @@ fn write_from<'a, B: BufRead, T: Write + Drop>(
         Ok(file) => Ok((selected, file)),
         Err(_) => Err(Failure::Output),
     }
-}
-
-/// Gives a new file the permissions and the name of the original, and its owner if that is allowed.
-fn succeed<R: Files>(
-    rt: &R,
-    alloc: Global,
-    successor: Successor<'_>,
-    new: &R::File,
-) -> io::Result<()> {
-    let Original { path, metadata } = successor.original;
-    let _ = rt.chown(successor.name, Some(metadata.uid()), Some(metadata.gid()));
-    new.set_permissions(metadata.permissions())?;
-    new.sync_all()?;
-    if successor.suffix.is_empty() {
-        return rt.rename(successor.name, path.as_str());
-    }
-    let kept = format!(in alloc; "{path}{}", successor.suffix)?;
-    rt.rename(path.as_str(), kept.as_str())?;
-    let renamed = rt.rename(successor.name, path.as_str());
-    if renamed.is_err() {
-        let _ = rt.rename(kept.as_str(), path.as_str());
-    }
-    renamed
 }
 
 /// Returns the failure of an input that cannot be rewritten.
@@ -240,9 +180,10 @@ fn rewrite_failure<'a>(search: InputSearch<'_, 'a>, error: io::Error) -> Failure
 {
     match error.kind() {
         ErrorKind::OutOfMemory => Failure::Memory,
-        kind => match reason_of(kind) {
-            Reason::Other => unwritten(search),
-            reason => unread_for(search, reason),
+        kind => match (reason_of(kind), system_words(&error)) {
+            (Reason::Other, Some(words)) => unread_for(search, Reason::UnwrittenSince(words)),
+            (Reason::Other, None) => unwritten(search),
+            (reason, _) => unread_for(search, reason),
         },
     }
 }

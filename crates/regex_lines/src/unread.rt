@@ -1,5 +1,6 @@
 //! Inputs that are not read.
 
+use crate::words::system_words;
 use std::io::{self, ErrorKind, Write};
 
 /// An input that is not read, or not to its end.
@@ -57,6 +58,10 @@ pub enum Reason {
     NotRegular,
     /// It can't be rewritten.
     Unwritten,
+    /// It can't be rewritten, for which the system has these words.
+    UnwrittenSince(&'static str),
+    /// It can't be read, for which the system has these words.
+    UnreadSince(&'static str),
     /// Another error.
     Other,
 }
@@ -68,6 +73,14 @@ pub(crate) fn reason_of(kind: ErrorKind) -> Reason {
         ErrorKind::PermissionDenied => Reason::Denied,
         ErrorKind::IsADirectory => Reason::Directory,
         _ => Reason::Other,
+    }
+}
+
+/// Returns the reason for an error, in the system's words if it is none of the common ones.
+pub(crate) fn reason_for(error: &io::Error) -> Reason {
+    match (reason_of(error.kind()), system_words(error)) {
+        (Reason::Other, Some(words)) => Reason::UnreadSince(words),
+        (reason, _) => reason,
     }
 }
 
@@ -83,6 +96,8 @@ pub(crate) fn write_reason<E: Write>(reason: Reason, to: &mut E) -> io::Result<(
         }
         Reason::NotRegular => to.write_all(b"not a regular file"),
         Reason::Unwritten => to.write_all(b"can't be rewritten"),
+        Reason::UnwrittenSince(words) => write!(to, "can't be rewritten: {words}"),
+        Reason::UnreadSince(words) => write!(to, "can't be read: {words}"),
         Reason::Other => to.write_all(b"can't be read"),
     }
 }

@@ -5,14 +5,17 @@ ghost use Rattle.regex_lines.specs.Searched.{is_standard};
 ghost use Rattle.regex_lines.specs.Walk.{AreDefault, IfEntry, IsEntry, IsFound, IsNamed, IsSelectedBelow, decided, filter, filter_of, found_of, joined, selects, selects_by_default, separator};
 
 use crate::place::{STANDARD_INPUT, is_standard};
-use crate::unread::{Reason, UnreadPath, reason_of};
+use crate::unread::{Reason, UnreadPath, reason_for};
 use memchr::memchr;
 use regex_glob::Glob;
 use regex_options::{FileList, NameGlob};
 use regress_base::util::code_points;
 use std::alloc::{AllocError, Global};
 use std::fs::{Files, Metadata, metadata, symlink_metadata};
-use std::io::Read;
+use std::io::{self, ErrorKind, Read};
+
+/// The bytes of names that are read at once from a directory. A name has at most 255.
+const NAMES_AT_ONCE: usize = 65536;
 
 /// The files that are found for a list of names.
 #[derive(Drop)]
@@ -254,16 +257,35 @@ fn names_in<R: Files + AllocGlobal>(
     // With a slash a symbolic link is followed, which is only named, and not found.
     let with_slash = joined(rt.alloc(), path, "")?;
     let read = match rt.open_dir(with_slash.as_str()) {
-        Ok(mut opened) => opened.read_to_end(&mut bytes),
+        Ok(mut opened) => read_names(rt.alloc(), &mut opened, &mut bytes)?,
         Err(error) => Err(error),
     };
     if let Err(error) = read {
         unread.push(UnreadPath {
             name: String::from_str(rt.alloc(), path)?,
-            reason: reason_of(error.kind()),
+            reason: reason_for(&error),
         })?;
     }
     Ok(bytes)
+}
+
+/// Adds the names in an open directory, each with a zero byte after it. Each read has room for many names, since one that
+/// has no room for the next name fails.
+fn read_names<D: Read>(
+    alloc: Global,
+    directory: &mut D,
+    names: &mut Vec<u8>,
+) -> Result<io::Result<()>, AllocError> {
+    let mut buffer = vec![in alloc; 0u8; NAMES_AT_ONCE]?;
+    for _ in 0..u64::MAX {
+        match directory.read(buffer.as_mut_slice()) {
+            Ok(0) => return Ok(Ok(())),
+            Ok(count) => names.extend_from_slice(&buffer[..count])?,
+            Err(error) if error.kind() == ErrorKind::Interrupted => {}
+            Err(error) => return Ok(Err(error)),
+        }
+    }
+    Ok(Ok(()))
 }
 
 /// Returns names, each with a zero byte after it, in the order of their bytes, but not `.` and `..`.
@@ -335,7 +357,7 @@ fn kind_of<R: Files>(rt: &R, path: &str, is_utf8: bool) -> Kind {
         Ok(found) if found.is_dir() => Kind::Directory,
         Ok(found) if found.is_file() => Kind::File,
         Ok(_) => Kind::Other,
-        Err(error) => Kind::Unknown(reason_of(error.kind())),
+        Err(error) => Kind::Unknown(reason_for(&error)),
     }
 }
 

@@ -213,7 +213,7 @@ exit status: 0 if nothing is reported, 1 if something is, or 2 if PATTERN is
 rejected or after another error
 
 examples:
-  regex lint -i '[k]'
+  regex lint 'foo$bar'
   regex lint 'a|ab'
 ",
     },
