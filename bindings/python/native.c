@@ -19,6 +19,9 @@
 /* The numbers for which no memory is allocated, and which are counted one by one. */
 #define FEW 16
 
+/* The most groups of a pattern. */
+#define MOST_GROUPS 65535
+
 /* What the module has given to `setup`: the function that returns a text for a pattern in the pattern's own type, the one
    that returns a text in UTF-8, both of which raise exceptions, and the type of matches. */
 static PyObject *same_type, *utf8;
@@ -153,34 +156,9 @@ static void match_dealloc(PyObject *self) {
     Py_DECREF(type);
 }
 
-/* Returns the number of the group that is set of those with a name, of the first if none is; -1 with an exception. */
-static Py_ssize_t named(const match_object *match, PyObject *name) {
-    Py_ssize_t number = -1;
-    PyObject *numbers = PyObject_GetAttrString(match->re, "groupindex");
-    PyObject *names = numbers ? PyObject_GetAttrString(match->re, "_names") : NULL;
-    PyObject *first = names ? PyDict_GetItemWithError(numbers, name) : NULL;
-    if (first) {
-        number = PyLong_AsSsize_t(first);
-        for (Py_ssize_t other = number; match->spans[2 * number] < 0 && other <= PyList_Size(names); other++) {
-            int is_same = PyObject_RichCompareBool(PyList_GetItem(names, other - 1), name, Py_EQ);
-            if (is_same && match->spans[2 * other] >= 0) {
-                number = other;
-            }
-        }
-    } else if (!PyErr_Occurred()) {
-        PyErr_SetString(PyExc_IndexError, "no such group");
-    }
-    Py_XDECREF(numbers);
-    Py_XDECREF(names);
-    return number;
-}
-
-/* Returns the number of a group; -1 with an exception. */
-static Py_ssize_t number_of(const match_object *match, PyObject *group) {
-    if (PyUnicode_Check(group)) {
-        return named(match, group);
-    }
-    Py_ssize_t number = PyNumber_AsSsize_t(group, NULL);
+/* Returns the number that an object denotes, if it is that of a group; -1 with an exception. */
+static Py_ssize_t checked(const match_object *match, PyObject *object) {
+    Py_ssize_t number = object ? PyNumber_AsSsize_t(object, NULL) : -1;
     if (number == -1 && PyErr_Occurred()) {
         return -1;
     }
@@ -189,6 +167,39 @@ static Py_ssize_t number_of(const match_object *match, PyObject *group) {
         return -1;
     }
     return number;
+}
+
+/* Returns the tuple of the numbers of the groups with a name; NULL with an exception. */
+static PyObject *numbers_of(const match_object *match, PyObject *name) {
+    PyObject *numbers = PyObject_GetAttrString(match->re, "_numbers");
+    PyObject *same = numbers ? PyObject_GetItem(numbers, name) : NULL;
+    Py_XDECREF(numbers);
+    if (numbers && !same && PyErr_ExceptionMatches(PyExc_KeyError)) {
+        PyErr_SetString(PyExc_IndexError, "no such group");
+    }
+    return same;
+}
+
+/* Returns the number of the group that is set of those with a name, of the first if none is; -1 with an exception. What
+   is read here other code may have replaced: so each number is checked. */
+static Py_ssize_t named(const match_object *match, PyObject *name) {
+    PyObject *same = numbers_of(match, name);
+    Py_ssize_t count = same ? PyTuple_Size(same) : -1;
+    Py_ssize_t first = count < 0 ? -1 : checked(match, PyTuple_GetItem(same, 0)), number = first;
+    for (Py_ssize_t i = 1; number >= 0 && match->spans[2 * number] < 0; i++) {
+        if (i == count) {
+            number = first;
+            break;
+        }
+        number = checked(match, PyTuple_GetItem(same, i));
+    }
+    Py_XDECREF(same);
+    return number;
+}
+
+/* Returns the number of a group; -1 with an exception. */
+static Py_ssize_t number_of(const match_object *match, PyObject *group) {
+    return PyUnicode_Check(group) ? named(match, group) : checked(match, group);
 }
 
 /* Returns the text of a group, and `unset` if it is unset. */
@@ -312,10 +323,26 @@ static PyType_Spec match_spec = {
 
 /* -- Searches */
 
-/* A pattern that is searched for: the one of `pattern`, whose program is `program`. */
+/* The name of a capsule that owns a pattern of the library. */
+#define OWNER "regress._regress.owner"
+
+static void free_owned(PyObject *capsule) {
+    regress_regex regex = {PyCapsule_GetPointer(capsule, OWNER)};
+    regress_free(&regex);
+}
+
+/* owner(address): a capsule that owns the pattern there, which is freed with the last reference to it. It is none of the
+   objects that the garbage collector finalizes, so that the finalizers of objects in a cycle may still search. */
+static PyObject *owner_of(PyObject *module, PyObject *address) {
+    (void)module;
+    void *inside = PyLong_AsVoidPtr(address);
+    return PyErr_Occurred() ? NULL : PyCapsule_New(inside, OWNER, free_owned);
+}
+
+/* A pattern that is searched for: the one of `pattern`, whose program is `program`, which `owner` owns. */
 typedef struct {
     PyObject_HEAD
-    PyObject *pattern, *program;
+    PyObject *pattern, *program, *owner;
     regress_regex regex;
     Py_ssize_t count; /* the number of numbers of a match */
     int is_bytes;
@@ -338,17 +365,26 @@ static void searcher_dealloc(PyObject *self) {
     PyTypeObject *type = Py_TYPE(self);
     PyObject_GC_UnTrack(self);
     searcher_clear(self);
+    Py_XDECREF(((searcher_object *)self)->owner);
     ((freefunc)PyType_GetSlot(type, Py_tp_free))(self);
     Py_DECREF(type);
 }
 
-/* Searcher(pattern, program, address, groups, is_bytes) */
+/* Searcher(pattern, program, owner, groups, is_bytes) */
 static PyObject *searcher_new(PyTypeObject *type, PyObject *arguments, PyObject *keywords) {
-    PyObject *pattern, *program;
-    Py_ssize_t address, groups;
+    PyObject *pattern, *program, *owner;
+    Py_ssize_t groups;
     int is_bytes;
     (void)keywords;
-    if (!PyArg_ParseTuple(arguments, "OOnnp", &pattern, &program, &address, &groups, &is_bytes)) {
+    if (!PyArg_ParseTuple(arguments, "OOOnp", &pattern, &program, &owner, &groups, &is_bytes)) {
+        return NULL;
+    }
+    void *inside = PyCapsule_GetPointer(owner, OWNER);
+    if (!inside) {
+        return NULL;
+    }
+    if (groups < 0 || groups > MOST_GROUPS) {
+        PyErr_SetString(PyExc_ValueError, "no pattern has so many groups");
         return NULL;
     }
     searcher_object *searcher = (searcher_object *)PyType_GenericAlloc(type, 0);
@@ -356,8 +392,10 @@ static PyObject *searcher_new(PyTypeObject *type, PyObject *arguments, PyObject 
         Py_INCREF(pattern);
         Py_INCREF(program);
         searcher->pattern = pattern;
+        Py_INCREF(owner);
         searcher->program = program;
-        searcher->regex.inside = (void *)address;
+        searcher->owner = owner;
+        searcher->regex.inside = inside;
         searcher->count = 2 * (groups + 1);
         searcher->is_bytes = is_bytes;
     }
@@ -385,13 +423,29 @@ static void take_gil(PyThreadState *state) {
     }
 }
 
+/* Returns whether an object is of the type of the texts of a pattern. */
+static int is_text(const searcher_object *searcher, PyObject *object) {
+    return searcher->is_bytes ? PyBytes_CheckExact(object) : PyUnicode_CheckExact(object);
+}
+
+/* Returns an object; NULL with an exception if it is not of the type that it has to be. */
+static PyObject *expected(PyObject *object, int has_type) {
+    if (object && !has_type) {
+        Py_DECREF(object);
+        PyErr_SetString(PyExc_TypeError, "a text is of another type than the pattern");
+        return NULL;
+    }
+    return object;
+}
+
 /* Returns a text of the type that the pattern has, which may be another object; NULL with an exception. */
 static PyObject *typed(const searcher_object *searcher, PyObject *string) {
-    if (searcher->is_bytes ? PyBytes_CheckExact(string) : PyUnicode_CheckExact(string)) {
+    if (is_text(searcher, string)) {
         Py_INCREF(string);
         return string;
     }
-    return PyObject_CallFunctionObjArgs(same_type, searcher->pattern, string, NULL);
+    PyObject *text = PyObject_CallFunctionObjArgs(same_type, searcher->pattern, string, NULL);
+    return expected(text, text && is_text(searcher, text));
 }
 
 /* Returns a str or bytes in UTF-8; NULL with an exception. */
@@ -404,7 +458,8 @@ static PyObject *in_utf8(PyObject *string) {
         PyErr_Clear();
     }
     /* The function raises the exception of this module. */
-    return PyObject_CallFunctionObjArgs(utf8, string, NULL);
+    PyObject *data = PyObject_CallFunctionObjArgs(utf8, string, NULL);
+    return expected(data, data && PyBytes_Check(data));
 }
 
 /* Sets the bytes of a str. */
@@ -871,6 +926,7 @@ static PyObject *setup(PyObject *module, PyObject *arguments) {
 
 static PyMethodDef methods[] = {
     {"setup", setup, METH_VARARGS, NULL},
+    {"owner", owner_of, METH_O, NULL},
     {NULL, NULL, 0, NULL},
 };
 

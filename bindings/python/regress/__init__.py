@@ -52,6 +52,7 @@ import itertools
 import operator
 import os
 import sys
+import types
 
 __all__ = ['compile', 'search', 'match', 'fullmatch', 'finditer', 'findall', 'sub', 'subn', 'split', 'escape', 'purge',
            'differences', 'node_bound', 'error', 'Difference', 'Pattern', 'Match', 'Flag', 'I', 'IGNORECASE', 'M',
@@ -108,7 +109,7 @@ class error(Exception):
     not Unicode.
 
     Attributes:
-        msg: what is wrong
+        msg: what is wrong, as a sentence for a person, with what to write for the syntax of another engine; it may change
         pattern: the pattern
         pos: the position of a syntax error in the pattern, else None
         kind: the kind of the syntax error, such as 'UnbalancedParenthesis' (docs/errors.md lists them); or 'Flags',
@@ -117,7 +118,7 @@ class error(Exception):
     """
 
     def __init__(self, msg, pattern=None, pos=None, kind=None):
-        super().__init__(msg if pos is None else '%s at position %d' % (msg.rstrip('.'), pos))
+        super().__init__(msg if pos is None else '%s at position %d' % (msg, pos))
         self.msg = msg
         self.pattern = pattern
         self.pos = pos
@@ -306,7 +307,8 @@ class Pattern:
             bytes of UTF-8; None if searches are not linear
         is_find_linear: whether a search for one match takes linear time: also where a lookaround has a group
         groups: the number of its groups
-        groupindex: a dict from the names of groups to their numbers; if groups share a name, that of the first
+        groupindex: a read-only mapping from the names of groups to their numbers; if groups share a name, that of the
+            first
     """
 
     def __init__(self, pattern, flags='', steps=None, nodes=None, instructions=None, linear_instructions=None,
@@ -321,16 +323,14 @@ class Pattern:
         # The call of fullmatch, after the first.
         self._full = None
         self._type = type(self.pattern)
-        self._names = program.names()
+        # The numbers of the groups with each name.
+        self._numbers = _numbers(program.names())
         self.steps_per_byte = program.steps_per_byte or None
         self.nonlinear = program.nonlinear
         self.is_linear = self.nonlinear is None
         self.is_find_linear = program.find_steps_per_byte > 0
         self.groups = program.groups
-        self.groupindex = {}
-        for number, name in enumerate(self._names, 1):
-            if name:
-                self.groupindex.setdefault(name, number)
+        self.groupindex = types.MappingProxyType({name: same[0] for name, same in self._numbers.items()})
         if _native:
             # The calls of the extension module do what the methods with these names do.
             native = self._searcher(program)
@@ -443,7 +443,7 @@ class Pattern:
 
     def _searcher(self, program):
         """Returns what searches for a program of this pattern, in the extension module."""
-        return _native.Searcher(self, program, program.address, program.groups, self._type is bytes)
+        return _native.Searcher(self, program, program.owner, program.groups, self._type is bytes)
 
     def _first(self, program, string, pos, endpos, is_at_pos):
         """Returns the leftmost match, if it starts at pos where it has to."""
@@ -568,10 +568,9 @@ class Match:
         return _expanded(self, _same_type(self.re, template))
 
     def _named(self, name):
-        if name not in self.re.groupindex:
+        if name not in self.re._numbers:
             raise IndexError('no such group')
-        numbers = (number for number, other in enumerate(self.re._names, 1) if other == name)
-        spans = (self._spans[2 * number:2 * number + 2] for number in numbers)
+        spans = (self._spans[2 * number:2 * number + 2] for number in self.re._numbers[name])
         return next((span for span in spans if span[0] >= 0), (-1, -1))
 
     def __repr__(self):
@@ -644,7 +643,7 @@ class _Program:
     """A pattern as the library has it. Any number of calls may use it at the same time."""
 
     def __init__(self, pattern, letters, dialect, limits, source, offset=0):
-        self._regex = _Regex()
+        self._regex, self.owner = _Regex(), None
         # The pattern of the caller.
         self._source = source
         for limit in limits:
@@ -657,11 +656,12 @@ class _Program:
             pattern, len(pattern), flags | _DIALECTS[dialect], ctypes.byref(limits), ctypes.byref(self._regex),
             ctypes.byref(kind), ctypes.byref(position))
         if status == _SYNTAX:
-            # The call that parses also returns the text. `offset` code points are not the caller's.
+            # `offset` code points are not the caller's.
             raise _syntax_error(pattern, flags | _PARSED[dialect], source, offset)
         if status != _OK:
             raise self.failure(status)
-        self.address = self._regex.inside
+        # The searches of the extension module share what owns it.
+        self.owner = _native and _native.owner(self.address)
         self.groups = _library.regress_group_count_raw(self._copy())
         self.width = 2 * (self.groups + 1)
         self.steps_per_byte = _library.regress_steps_per_byte_raw(self._copy())
@@ -670,8 +670,19 @@ class _Program:
         self.nonlinear = _NONLINEAR[number] if number < len(_NONLINEAR) else 'other'
 
     def __del__(self):
-        if self._regex.inside:
+        if self.owner is None and self._regex.inside:
             _library.regress_free_raw(ctypes.byref(self._regex))
+            self._regex.inside = None
+
+    @property
+    def address(self):
+        """Where it is.
+
+        Raises RuntimeError after __del__, which is called before the finalizers of other objects in a cycle may search.
+        """
+        if not self._regex.inside:
+            raise RuntimeError('the pattern is freed')
+        return self._regex.inside
 
     def _copy(self):
         """Returns the handle for a call, which changes it."""
@@ -703,6 +714,15 @@ class _Program:
         if status == _BAD_INPUT and isinstance(self._source, bytes):
             return error('the text is not UTF-8', self._source, kind='Unicode')
         return _failure(status)
+
+
+def _numbers(names):
+    """Returns the dict from the names of groups to the tuples of their numbers."""
+    numbers = {}
+    for number, name in enumerate(names, 1):
+        if name:
+            numbers[name] = numbers.get(name, ()) + (number,)
+    return numbers
 
 
 def _find(address, width, data, start):
@@ -791,12 +811,16 @@ def _failure(status):
 def _syntax_error(data, bits, source, offset=0):
     """Returns the exception of a pattern that is rejected: the source, after a number of other code points."""
     kind, position = ctypes.c_uint32(), ctypes.c_size_t()
-    status, text = _call(ctypes.c_char, 128, _SYNTAX, lambda *buffer: _library.regress_front_tell_fault_of_text(
+    status, _ = _call(ctypes.c_char, 128, _SYNTAX, lambda *buffer: _library.regress_front_tell_fault_of_text(
         data, len(data), bits, *buffer, ctypes.byref(kind), ctypes.byref(position)))
     if status != _SYNTAX:
         return _failure(status)
+    status, sentence = _call(ctypes.c_char, 128, _OK, lambda *buffer: _library.regress_error_sentence_raw(
+        data, len(data), kind, position, *buffer))
+    if status != _OK:
+        return _failure(status)
     name = _KINDS[kind.value - 1] if kind.value <= len(_KINDS) else None
-    return error(text.decode(), source, _position(source, position.value - offset), name)
+    return error(sentence.decode(), source, _position(source, position.value - offset), name)
 
 
 def _position(source, index):
@@ -977,6 +1001,7 @@ def _load():
         'regress_nonlinear_raw': (number, handle),
         'regress_is_exact_for_raw': (number, handle, data, size),
         'regress_escape_raw': (number, data, size, octets, size, sizes),
+        'regress_error_sentence_raw': (number, data, size, number, size, octets, size, sizes),
         'regress_free_raw': (None, handle),
         'regress_differences_raw': (number, data, size, number, listed, size, sizes, numbers, sizes),
         'regress_difference_name_raw': (number, number, octets, size, sizes),

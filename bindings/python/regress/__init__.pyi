@@ -1,5 +1,5 @@
 import enum
-from typing import Any, AnyStr, Callable, Dict, Generic, Iterator, List, NamedTuple, Optional, Tuple, Union, overload
+from typing import Any, AnyStr, Callable, Dict, Generic, Iterator, List, Mapping, NamedTuple, Optional, Tuple, Union, overload
 
 __version__: str
 
@@ -74,7 +74,7 @@ class Pattern(Generic[AnyStr]):
     steps_per_byte: Optional[int]
     is_find_linear: bool
     groups: int
-    groupindex: Dict[str, int]
+    groupindex: Mapping[str, int]
     def __init__(
         self, pattern: AnyStr, flags: _Flags = ..., steps: Optional[int] = ..., nodes: Optional[int] = ...,
         instructions: Optional[int] = ..., linear_instructions: Optional[int] = ..., memory: Optional[int] = ...,
