@@ -97,6 +97,7 @@ def search_for_a_user(pattern, text):
     try:
         found = regress.compile(pattern, 'u', steps=1000000, nodes=10000, instructions=10000).search(text)
     except regress.error as error:
+        # No answer: reject the text, whether a match would allow it or forbid it.
         return '%s: %s' % (error.kind, error.msg)
     return found.group() if found else 'no match'
 
@@ -141,7 +142,7 @@ check([with_commas(number) for number in ('1234567', '999', '1000')], ['1,234,56
 check(snake_case('parseHttpUrl2Go'), 'parse_http_url2_go')
 check(highlighted('Is 1+1 = 2?', '1+1'), 'Is <b>1+1</b> = 2?')
 check(search_for_a_user('\\d+', 'on 17'), '17')
-check(search_for_a_user('a)', ''), 'UnbalancedParenthesis: Unbalanced parenthesis')
+check(search_for_a_user('a)', ''), 'UnbalancedParenthesis: unmatched `)` (write `\\)` for the character)')
 check(search_for_a_user('(?:(?:ab){9999999999}){9999999999}', ''), 'TooLarge: the pattern is too large')
 check(search_for_a_user(r'(a|a)*\1b', 'a' * 40), 'OutOfSteps: the search takes too many steps')
 schema = json.loads('{"properties": {"zip": {"pattern": "^\\\\d{5}$"}, "name": {"pattern": "^\\\\p{Lu}"}}}')

@@ -16,13 +16,14 @@ static regress_regex compiled(const char *pattern, const regress_limits *limits)
     regress_regex regex = {NULL};
     uint32_t kind;
     size_t position, length = strlen(pattern), needed;
-    uint8_t message[128];
+    uint8_t sentence[200];
     switch (regress_compile(bytes(pattern), length, REGRESS_UNICODE, limits, &regex, &kind, &position)) {
     case REGRESS_OK:
         break;
     case REGRESS_SYNTAX:
-        if (regress_error_message(kind, message, sizeof message, &needed) == REGRESS_OK) {
-            printf("at byte %zu: %s\n", regress_byte_offset(bytes(pattern), length, position), (const char *)message);
+        if (regress_error_sentence(bytes(pattern), length, kind, position, sentence, sizeof sentence, &needed)
+            == REGRESS_OK) {
+            printf("at byte %zu: %s\n", regress_byte_offset(bytes(pattern), length, position), (const char *)sentence);
         }
         break;
     case REGRESS_TOO_LARGE:
@@ -100,7 +101,7 @@ static void search_for_user(const char *pattern, const char *searched) {
         printf("not found\n");
         break;
     case REGRESS_OUT_OF_STEPS:
-        printf("this text takes too long with this pattern\n");
+        printf("no answer, so the text is rejected\n");
         break;
     default:
         printf("the text is not UTF-8, or memory is short\n");

@@ -26,6 +26,7 @@ def search_for_user(pattern, text):
     try:
         found = regress.compile(pattern, 'u', nodes=10_000, instructions=10_000, steps=1_000_000).search(text)
     except regress.error as error:
+        # No answer: reject the text, whether a match would allow it or forbid it.
         return '%s: %s' % (error.kind, error)
     return 'found' if found else 'not found'
 

@@ -147,10 +147,13 @@ fn search_for_a_user(pattern: &str, text: &str) -> Result<bool, String> {
     };
     let regex = match Regex::with_options(pattern, flags, options) {
         Ok(regex) => regex,
-        Err(Error::Syntax { text, position, .. }) => return Err(format!("{text} at {position}")),
+        Err(Error::Syntax {
+            message, position, ..
+        }) => return Err(format!("{message} at {position}")),
         Err(Error::TooLarge) => return Err("use a shorter pattern".to_string()),
         Err(error) => return Err(error.to_string()),
     };
+    // An error is no answer: reject the text, whether a match would allow it or forbid it.
     regex.is_match(text).map_err(|error| error.to_string())
 }
 
@@ -225,7 +228,7 @@ fn main() -> Result<(), Failure> {
     assert_eq!(search_for_a_user(r"\d+", "on 17"), Ok(true));
     assert_eq!(
         search_for_a_user("a)", ""),
-        Err("Unbalanced parenthesis at 1".to_string())
+        Err(r"unmatched `)` (write `\)` for the character) at 1".to_string())
     );
     assert_eq!(
         search_for_a_user("(?:(?:ab){9999999999}){9999999999}", ""),

@@ -58,7 +58,7 @@ fn search_for_user(pattern: &str, text: &str) -> Result<bool, String> {
         .map_err(|error| error.to_string())?;
     match regex.is_match(text) {
         Ok(is_match) => Ok(is_match),
-        Err(SearchError::OutOfSteps) => Err("this text takes too long with this pattern".into()),
+        Err(SearchError::OutOfSteps) => Err("no answer, so the text is rejected".into()),
         Err(error) => Err(error.to_string()),
     }
 }
